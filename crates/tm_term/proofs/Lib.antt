@@ -1,0 +1,5 @@
+pub mod Growth
+pub mod Kept
+pub mod Operands
+pub mod Powers
+pub mod Valued
