@@ -1,0 +1,9 @@
+pub mod CallerLaws
+pub mod Canonical
+pub mod Extended
+pub mod Kept
+pub mod Made
+pub mod Meaning
+pub mod NodeIdLemmas
+pub mod Nodes
+pub mod Values

@@ -1,0 +1,5 @@
+pub mod Layout
+pub mod NodeId
+pub mod Reduced
+pub mod Table
+pub mod Unique

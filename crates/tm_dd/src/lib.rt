@@ -1,0 +1,10 @@
+//! The store of decision diagrams: the unique table of a reduced ordered binary decision diagram with complement marks.
+#![tactic(auto)]
+
+mod node;
+mod store;
+#[cfg(test)]
+mod tests;
+
+pub use node::{FALSE, Node, NodeId, TRUE};
+pub use store::Store;
