@@ -1,0 +1,3 @@
+pub mod TokenSpans
+pub mod Tokens
+pub mod Views

@@ -1,0 +1,35 @@
+-- Where the names of a specification lead: to templates, enums, constants, instances, tasks and members.
+use Rattle.std.specs.Prelude.{ℕ, Bool, Option, List, ◌++◌, nat_eq, position, find, unwrap_or, slice_get}
+use Rattle.std.specs.Option.{option_and_then}
+use Rattle.std.specs.Bool.{then_some}
+use Rattle.std.specs.List.{filter_map}
+use Rattle.std.specs.Cmp.Lexicographic.{pointwise}
+use Rattle.tm_syntax.specs.declared.tree.Ident.{Ident}
+use Rattle.tm_syntax.specs.declared.tree.Num.{Num}
+use Rattle.tm_syntax.specs.Tree.{TemplateTree, SpecTree}
+
+-- whether a name as it stands in the text is spelled so
+abbrev pub is_spelled : List ℕ → Ident → Bool
+is_spelled bytes name = pointwise nat_eq bytes name.text
+
+-- a number's value, 0 where it is too large for one
+abbrev pub number_of : Num → ℕ
+number_of n = unwrap_or n.value 0
+
+-- the number of the template of this name
+abbrev pub template_number : SpecTree → List ℕ → Option ℕ
+template_number spec name = position (λ t. is_spelled name t.name) spec.templates
+
+-- the template of this name
+abbrev pub template_named : SpecTree → List ℕ → Option TemplateTree
+template_named spec name = find (λ t. is_spelled name t.name) spec.templates
+
+-- the place of a constant in its enum, from 0
+abbrev pub constant_value : SpecTree → List ℕ → Option ℕ
+constant_value spec name = slice_get (filter_map (λ e. position (is_spelled name) e.constants) spec.enums) 0
+
+-- the template of the instance or port of this name
+abbrev pub neighbor_template : SpecTree → TemplateTree → List ℕ → Option TemplateTree
+neighbor_template spec t name =
+    option_and_then (λ known. template_named spec known.text)
+    (slice_get (filter_map (λ i. then_some (is_spelled name i.name) i.template) t.instances ++ filter_map (λ p. then_some (is_spelled name p.name) p.template) t.ports) 0)
