@@ -1,0 +1,11 @@
+use Rattle.std.proofs.Common.{◌≡◌, ◌+◌, ◌≤◌, length, drop}
+use Rattle.tm_syntax.specs.View.{stmt_trees}
+use Rattle.tm_sem.specs.Scope.{Scope}
+use Rattle.tm_sem.specs.Flat.{magic_blocks}
+use Rattle.tm_sem.proofs.flat.magic_count.Given as goal
+
+abbrev pub invariant-loop-stmt : goal.invariant-loop-stmt
+invariant-loop-stmt l = record {
+  counted : (scope : Scope) → l.count + length (magic_blocks scope (stmt_trees (drop l.stmt-index l.stmts))) ≡ length (magic_blocks scope (stmt_trees l.stmts));
+  few : l.count ≤ l.stmt-index;
+}
