@@ -1,0 +1,3 @@
+pub mod Grammar
+pub mod Main
+pub mod SmallText

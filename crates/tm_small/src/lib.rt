@@ -1,0 +1,100 @@
+//! A temporary reader of small specifications, until the whole language is read.
+#![tactic(auto)]
+
+ghost use Rattle.std.specs.Prelude.{◌≡◌, ◌<◌, ◌≤◌, length, map, count_by, AllPairs, IfOk, IfSome};
+ghost use Rattle.tm_syntax.specs.Tokens.{AreTokens};
+ghost use Rattle.tm_syntax.specs.View.{template_tree};
+ghost use Rattle.tm_syntax.specs.DesignView.{design_tree};
+ghost use Rattle.tm_syntax.specs.Small.{IsSmall};
+ghost use Rattle.tm_small.specs.SmallText.{IsSmallText, is_star, declared_names};
+
+mod main_design;
+mod names;
+mod read;
+mod stop;
+#[cfg(test)]
+mod tests;
+
+use main_design::main_design;
+use names::{are_distinct, names_of, push_names};
+use read::template;
+use std::alloc::{AllocError, Global};
+use stop::Stop;
+use tm_base::Name;
+use tm_lex::lex;
+use tm_syntax::design::Design;
+use tm_syntax::fault::FrontError;
+use tm_syntax::token::{Sign, Token, TokenKind};
+use tm_syntax::tree::Template;
+
+/// The most bytes of a text.
+const BYTES: usize = 1_048_576;
+/// The most tokens `*`.
+const STARS: usize = 64;
+
+/// Whether a token is a `*`.
+fn is_star(token: &Token) -> bool
+    ensures { result ≡ is_star token.now }
+{
+    match token.kind {
+        TokenKind::Sign(Sign::Star) => true,
+        _ => false,
+    }
+}
+
+/// How many tokens are a `*`.
+fn star_count(tokens: &[Token]) -> usize
+    ensures { result ≡ count_by is_star tokens.now }
+{
+    tokens.iter().filter(|token| is_star(token)).count()
+}
+
+/// The names that a template declares.
+fn declared_names(alloc: Global, template: &Template) -> Result<Vec<Name>, AllocError>
+    ensures { IfOk result (λ names. names.items ≡ declared_names (template_tree template.now)) }
+{
+    let mut names = names_of(alloc, &template.vars)?;
+    push_names(&mut names, &template.tasks)?;
+    push_names(&mut names, &template.processes)?;
+    push_names(&mut names, &template.goals)?;
+    Ok(names)
+}
+
+/// The design that the tokens of a text spell.
+fn design(alloc: Global, text: &[u8], tokens: &[Token]) -> Result<Design, Stop>
+    requires size { length text.now ≤ 1048576 }
+    requires tokens { AreTokens text.now tokens.now }
+    ensures spelled { IfOk result (λ d. IsSmallText text.now (design_tree d)) }
+    ensures small { IfOk result (λ d. IsSmall (design_tree d)) }
+{
+    let template = template(alloc, text, tokens)?;
+    let names = declared_names(alloc, &template)?;
+    if !are_distinct(&names) || star_count(tokens) > STARS {
+        return Err(Stop::Form);
+    }
+    Ok(main_design(alloc, template)?)
+}
+
+/// The design of a text of the small form: one template `main` of bools, controllable tasks without parameters, one
+/// process and at most one goal. `None` is for every other text, as one that is too long, that has a byte that begins no
+/// token, or that is above a limit. No contract rules it out for a text of the form: tests alone show what is read. The
+/// error is want of memory.
+pub fn read_small(alloc: Global, text: &[u8]) -> Result<Option<Design>, AllocError>
+    ensures spelled { IfOk result (λ found. IfSome found (λ d. IsSmallText text.now (design_tree d))) }
+    ensures small { IfOk result (λ found. IfSome found (λ d. IsSmall (design_tree d))) }
+    ensures long { 1048576 < length text.now → result ≡ Ok None }
+{
+    if text.len() > BYTES {
+        return Ok(None);
+    }
+    let tokens = match lex(alloc, text) {
+        Ok(tokens) => tokens,
+        Err(FrontError::Faulty(_)) => return Ok(None),
+        Err(FrontError::Memory) => return Err(AllocError),
+    };
+    match design(alloc, text, &tokens) {
+        Ok(design) => Ok(Some(design)),
+        Err(Stop::Form) => Ok(None),
+        Err(Stop::Memory) => Err(AllocError),
+    }
+}
