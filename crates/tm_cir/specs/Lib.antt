@@ -1,0 +1,6 @@
+pub mod Answer
+pub mod Fit
+pub mod Meaning
+pub mod SmallText
+pub mod Tree
+pub mod View

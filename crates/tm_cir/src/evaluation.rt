@@ -1,0 +1,81 @@
+//! The value of an expression.
+ghost use Rattle.std.specs.Prelude.{◌≡◌, ◌<◌, length};
+ghost use Rattle.tm_cir.specs.View.{num_tree, truth_tree};
+ghost use Rattle.tm_cir.specs.Meaning.{num_value, result_of, shifted, compares, holds};
+ghost use Rattle.tm_cir.specs.Fit.{FitsNum, FitsTruth};
+
+use crate::block::{Comparison, Junction, Num64, NumOperator, ShiftOperator, Truth};
+use tm_sem::state::State;
+
+#[cycle(valuing)]
+pub fn value(num: &Num64, state: &State, goal: u32) -> u64
+    requires { FitsNum (length state.now.values) (length state.now.places) (num_tree num.now) }
+    ensures { result ≡ num_value state.now goal (num_tree num.now) }
+{
+    match num {
+        Num64::Const(number) => *number,
+        Num64::Var(var) => state.values[*var as usize],
+        Num64::Location(process) => u64::from(state.places[*process as usize]),
+        Num64::Goal => u64::from(goal),
+        Num64::Last => u64::from(state.last),
+        Num64::Not(a) => !value(a, state, goal),
+        Num64::Binary(op, a, b) => operated(*op, value(a, state, goal), value(b, state, goal)),
+        Num64::Shift(op, a, by) => shifted(*op, value(a, state, goal), *by),
+        Num64::Cond(truth, a, b) => {
+            if is_so(truth, state, goal) {
+                value(a, state, goal)
+            } else {
+                value(b, state, goal)
+            }
+        }
+    }
+}
+
+#[cycle(valuing)]
+pub fn is_so(truth: &Truth, state: &State, goal: u32) -> bool
+    requires { FitsTruth (length state.now.values) (length state.now.places) (truth_tree truth.now) }
+    ensures { result ≡ holds state.now goal (truth_tree truth.now) }
+{
+    match truth {
+        Truth::Num(a) => value(a, state, goal) != 0,
+        Truth::Not(a) => !is_so(a, state, goal),
+        Truth::Compare(op, a, b) => compared(*op, value(a, state, goal), value(b, state, goal)),
+        Truth::Join(Junction::And, a, b) => is_so(a, state, goal) && is_so(b, state, goal),
+        Truth::Join(Junction::Or, a, b) => is_so(a, state, goal) || is_so(b, state, goal),
+    }
+}
+
+fn operated(op: NumOperator, a: u64, b: u64) -> u64
+    ensures { result ≡ result_of op a b }
+{
+    match op {
+        NumOperator::Add => a.wrapping_add(b),
+        NumOperator::Subtract => a.wrapping_sub(b),
+        NumOperator::And => a & b,
+        NumOperator::Or => a | b,
+        NumOperator::Xor => a ^ b,
+    }
+}
+
+fn shifted(op: ShiftOperator, a: u64, by: u8) -> u64
+    requires { by < 64 }
+    ensures { result ≡ shifted op a by }
+{
+    match op {
+        ShiftOperator::Left => a << by,
+        ShiftOperator::Right => a >> by,
+    }
+}
+
+fn compared(op: Comparison, a: u64, b: u64) -> bool
+    ensures { result ≡ compares op a b }
+{
+    match op {
+        Comparison::Equal => a == b,
+        Comparison::NotEqual => a != b,
+        Comparison::Less => a < b,
+        Comparison::LessEqual => a <= b,
+        Comparison::Greater => a > b,
+        Comparison::GreaterEqual => a >= b,
+    }
+}
