@@ -1,0 +1,14 @@
+pub mod CacheLemmas
+pub mod Choices
+pub mod Connectives
+pub mod Counts
+pub mod Exists
+pub mod Facts
+pub mod Fill
+pub mod FoundLemmas
+pub mod Pairs
+pub mod Reach
+pub mod Replaced
+pub mod Results
+pub mod Sound
+pub mod Walks

@@ -1,0 +1,12 @@
+pub mod Choice
+pub mod Composed
+pub mod Connective
+pub mod Found
+pub mod Layout
+pub mod Least
+pub mod Manager
+pub mod Memo
+pub mod Operation
+pub mod Parts
+pub mod Quantified
+pub mod Reached

@@ -1,0 +1,45 @@
+-- The parts of a substitution.
+use Rattle.std.specs.Prelude.{◌≡◌, ℕ, ◌==◌, Bool, true, false, ◌&&◌, ◌++◌, List, IsTrue}
+use Rattle.std.specs.Cmp.{IsEquivalence, decided}
+use Rattle.std.specs.Cmp.Lexicographic.{pointwise, pointwise_decides, lists_equiv}
+use Rattle.std.specs.Hash as fed
+use Rattle.std.specs.Bool.{Decides}
+use Rattle.std.proofs.Common.{refl, ap, sym, ◌∙◌}
+use Rattle.std.proofs.lemmas.Bool.{eqb-true, eq-eqb}
+use Rattle.tm_dd.specs.declared.node.NodeId.{NodeId}
+use Rattle.tm_dd.specs.NodeId.{number_of}
+
+-- whether two parts are one
+abbrev pub part_eq : ℕ × NodeId → ℕ × NodeId → Bool
+part_eq p q = (p.0 == q.0) && (number_of p.1 == number_of q.1)
+
+-- the writes of a part's hash
+abbrev pub part_hash : ℕ × NodeId → fed.HashWrites
+part_hash p = fed.u32 p.0 ++ fed.u64 (number_of p.1)
+
+both_true : (a b : Bool) → a && b ≡ true → (a ≡ true) × (b ≡ true)
+both_true true b h = (refl, h)
+both_true false b h = cc
+
+same_part : (p q : ℕ × NodeId) → part_eq p q ≡ true → p ≡ q
+same_part p q h =
+    let parts = both_true _ _ h in
+    let level = eqb-true p.0 q.0 parts.0 in
+    let number = eqb-true (number_of p.1) (number_of q.1) parts.1 in
+    λ i. (level i, record { 0 = number i })
+
+part_eq-same : (p q : ℕ × NodeId) → p ≡ q → part_eq p q ≡ true
+part_eq-same p q e =
+    ap (λ (r : ℕ × NodeId). part_eq p r) (sym e) ∙ (λ i. eq-eqb p.0 p.0 refl i && eq-eqb (number_of p.1) (number_of p.1) refl i)
+
+part_Decides : (p q : ℕ × NodeId) → Decides (part_eq p q) (p ≡ q)
+part_Decides p q = (same_part p q, part_eq-same p q)
+
+pub parts_equiv : IsEquivalence (pointwise part_eq)
+parts_equiv = lists_equiv (decided part_eq part_Decides)
+
+pub same_parts : (xs ys : List (ℕ × NodeId)) → pointwise part_eq xs ys ≡ true → xs ≡ ys
+same_parts xs ys h = (pointwise_decides part_Decides xs ys).0 h
+
+pub same_hash : (xs ys : List (ℕ × NodeId)) → IsTrue (pointwise part_eq xs ys) → fed.slice part_hash xs ≡ fed.slice part_hash ys
+same_hash xs ys h = ap (fed.slice part_hash) (same_parts xs ys h)

@@ -1,0 +1,128 @@
+//! The binary operations.
+ghost use Rattle.std.specs.Prelude.{◌≡◌, ◌&&◌, ◌||◌, ℕ, Bool, IfOk, Ok};
+ghost use Rattle.tm_dd.specs.Table.{Knows, kept, means};
+ghost use Rattle.tm_dd.specs.declared.node.NodeId.{NodeId as Id};
+ghost use Rattle.tm_ddops.specs.Connective.{AreTwoNodes, connective_operation, connective_value, larger, smaller, xor};
+ghost use Rattle.tm_ddops.specs.Manager.{Grows, IsFunction, IsManager, Remembers};
+ghost use Rattle.tm_ddops.specs.Reached.{RisesByPairs};
+ghost use Rattle.tm_ddops.specs.declared.operation.Operation.TheVariants as operation;
+
+use crate::connective::Connective;
+use crate::manager::{Manager, ROOM};
+use std::alloc::AllocError;
+use tm_base::Steps;
+use tm_dd::NodeId;
+
+impl Manager {
+    /// Both of two functions.
+    ///
+    /// It makes at most one request and one node for each pair of an inner node of `f` and one of `g`.
+    pub fn and<L>(
+        &mut self,
+        f: NodeId,
+        g: NodeId,
+        steps: &mut Steps<L>,
+    ) -> Result<NodeId, AllocError>
+        requires f { Knows self.old.table f }
+        requires g { Knows self.old.table g }
+
+        ensures manager { IsManager self.new }
+        ensures grows { Grows self.old self.new }
+        ensures answer { IfOk result (λ id. IsFunction self.new.table id (λ v. means self.new.table f v && means self.new.table g v)) }
+        ensures requests { RisesByPairs self.old.table f g steps.old steps.new }
+        ensures nodes { RisesByPairs self.old.table f g (kept self.old.table) (kept self.new.table) }
+        ensures remembered { AreTwoNodes f g → IfOk result (Remembers self.new (operation.And (smaller f g) (larger f g))) }
+
+        // A remembered result is answered again. That takes no memory and makes no request.
+        ensures again { (id : Id) → Remembers self.old (operation.And (smaller f g) (larger f g)) id → result ≡ Ok id }
+        ensures again_same { (id : Id) → Remembers self.old (operation.And (smaller f g) (larger f g)) id → self.new.table ≡ self.old.table }
+        ensures again_free { (id : Id) → Remembers self.old (operation.And (smaller f g) (larger f g)) id → steps.new ≡ steps.old }
+    {
+        self.binary(Connective::And, f, g, steps)
+    }
+
+    /// At least one of two functions.
+    ///
+    /// It makes at most one request and one node for each pair of an inner node of `f` and one of `g`.
+    pub fn or<L>(
+        &mut self,
+        f: NodeId,
+        g: NodeId,
+        steps: &mut Steps<L>,
+    ) -> Result<NodeId, AllocError>
+        requires f { Knows self.old.table f }
+        requires g { Knows self.old.table g }
+
+        ensures manager { IsManager self.new }
+        ensures grows { Grows self.old self.new }
+        ensures answer { IfOk result (λ id. IsFunction self.new.table id (λ v. means self.new.table f v || means self.new.table g v)) }
+        ensures requests { RisesByPairs self.old.table f g steps.old steps.new }
+        ensures nodes { RisesByPairs self.old.table f g (kept self.old.table) (kept self.new.table) }
+        ensures remembered { AreTwoNodes f g → IfOk result (Remembers self.new (operation.Or (smaller f g) (larger f g))) }
+
+        // A remembered result is answered again. That takes no memory and makes no request.
+        ensures again { (id : Id) → Remembers self.old (operation.Or (smaller f g) (larger f g)) id → result ≡ Ok id }
+        ensures again_same { (id : Id) → Remembers self.old (operation.Or (smaller f g) (larger f g)) id → self.new.table ≡ self.old.table }
+        ensures again_free { (id : Id) → Remembers self.old (operation.Or (smaller f g) (larger f g)) id → steps.new ≡ steps.old }
+    {
+        self.binary(Connective::Or, f, g, steps)
+    }
+
+    /// Exactly one of two functions.
+    ///
+    /// It makes at most one request and one node for each pair of an inner node of `f` and one of `g`.
+    pub fn xor<L>(
+        &mut self,
+        f: NodeId,
+        g: NodeId,
+        steps: &mut Steps<L>,
+    ) -> Result<NodeId, AllocError>
+        requires f { Knows self.old.table f }
+        requires g { Knows self.old.table g }
+
+        ensures manager { IsManager self.new }
+        ensures grows { Grows self.old self.new }
+        ensures answer { IfOk result (λ id. IsFunction self.new.table id (λ v. xor (means self.new.table f v) (means self.new.table g v))) }
+        ensures requests { RisesByPairs self.old.table f g steps.old steps.new }
+        ensures nodes { RisesByPairs self.old.table f g (kept self.old.table) (kept self.new.table) }
+        ensures remembered { AreTwoNodes f g → IfOk result (Remembers self.new (operation.Xor (smaller f g) (larger f g))) }
+
+        // A remembered result is answered again. That takes no memory and makes no request.
+        ensures again { (id : Id) → Remembers self.old (operation.Xor (smaller f g) (larger f g)) id → result ≡ Ok id }
+        ensures again_same { (id : Id) → Remembers self.old (operation.Xor (smaller f g) (larger f g)) id → self.new.table ≡ self.old.table }
+        ensures again_free { (id : Id) → Remembers self.old (operation.Xor (smaller f g) (larger f g)) id → steps.new ≡ steps.old }
+    {
+        self.binary(Connective::Xor, f, g, steps)
+    }
+
+    // A binary operation.
+    fn binary<L>(
+        &mut self,
+        connective: Connective,
+        f: NodeId,
+        g: NodeId,
+        steps: &mut Steps<L>,
+    ) -> Result<NodeId, AllocError>
+        requires f { Knows self.old.table f }
+        requires g { Knows self.old.table g }
+
+        ensures manager { IsManager self.new }
+        ensures grows { Grows self.old self.new }
+        ensures answer { IfOk result (λ id. IsFunction self.new.table id (λ v. connective_value connective (means self.new.table f v) (means self.new.table g v))) }
+        ensures requests { RisesByPairs self.old.table f g steps.old steps.new }
+        ensures nodes { RisesByPairs self.old.table f g (kept self.old.table) (kept self.new.table) }
+        ensures remembered { AreTwoNodes f g → IfOk result (Remembers self.new (connective_operation connective f g)) }
+        ensures again { (id : Id) → Remembers self.old (connective_operation connective f g) id → result ≡ Ok id }
+        ensures again_same { (id : Id) → Remembers self.old (connective_operation connective f g) id → self.new.table ≡ self.old.table }
+        ensures again_free { (id : Id) → Remembers self.old (connective_operation connective f g) id → steps.new ≡ steps.old }
+    {
+        prove!(self.cache.len() <= ROOM);
+        let choice = connective.choice(f, g);
+        if f.is_constant() || g.is_constant() || f == g {
+            if let Some(known) = choice.shortcut() {
+                return Ok(known);
+            }
+        }
+        self.answered(connective.operation(f, g), choice, steps)
+    }
+}

@@ -1,0 +1,21 @@
+//! Operations on decision diagrams, and the one cache of results that they share.
+#![tactic(auto)]
+
+mod binary;
+mod cache;
+mod choice;
+mod compose;
+mod connective;
+mod descent;
+mod ite;
+mod least;
+mod manager;
+mod operation;
+mod quantify;
+mod reached;
+#[cfg(test)]
+mod tests;
+mod walk;
+
+pub use manager::Manager;
+pub use operation::{Operation, Parts};

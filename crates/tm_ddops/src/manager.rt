@@ -1,0 +1,190 @@
+//! The manager: a store of diagrams, and operations on them that remember their results.
+ghost use Rattle.std.specs.Prelude.{◌≡◌, ◌+◌, ◌≤◌, ◌<◌, ◌&&◌, ◌||◌, ◌⊎◌, ℕ, Bool, min, not, [], List, length, Contains, None, Some, IfSome, IfOk, OnOk, OnErr, IsOkAnd, Ok, if◌then◌else◌};
+ghost use Rattle.tm_dd.specs.NodeId.{complement};
+ghost use Rattle.tm_dd.specs.Reduced.{Extends};
+ghost use Rattle.tm_dd.specs.Table.{Table, Knows, kept, level_of, means};
+ghost use Rattle.tm_ddops.specs.Choice.{choice_value, KnowsChoice};
+ghost use Rattle.tm_ddops.specs.Manager.{Grows, IsFunction, IsManager, IsResult, Remembers};
+ghost use Rattle.tm_ddops.specs.Memo.{HasOpen};
+ghost use Rattle.tm_ddops.specs.Operation.{operands, operation_value};
+ghost use Rattle.tm_dd.specs.declared.node.NodeId.{NodeId as Id};
+ghost use Rattle.tm_ddops.specs.declared.choice.Choice.{Choice as Met};
+
+use crate::cache::{Cache, recall, remember};
+use crate::choice::Choice;
+use crate::operation::Operation;
+use crate::walk::walk;
+use lru::LruCache;
+use std::alloc::{AllocError, Global};
+use std::marker::Model;
+use std::num::NonZeroUsize;
+use tm_base::Steps;
+use tm_dd::{NodeId, Store};
+
+/// How many results a manager remembers at most.
+pub(crate) const ROOM: usize = 65536;
+
+/// Boolean functions as decision diagrams, with operations on them (Bryant 1986; Brace, Rudell and Bryant 1990).
+///
+/// A contract sees the nodes of its store, and the results of operations that it remembers, the one that was used last first.
+/// An id means the same until `copy_roots`.
+#[derive(Drop)]
+pub struct Manager {
+    pub(crate) alloc: Global,
+    pub(crate) store: Store,
+    pub(crate) cache: Cache,
+}
+
+impl Model for Manager {
+    ghost use Rattle.tm_ddops.specs.Manager.{Diagrams};
+
+    ghost Value = { Diagrams };
+
+    ghost use Rattle.tm_ddops.specs.Layout.{diagrams_of, IsSound};
+
+    ghost view = { diagrams_of };
+
+    ghost invariant = { IsSound };
+}
+
+impl Manager {
+    /// A manager of functions of `levels` levels, which keeps the constant alone and remembers no result.
+    pub fn new(alloc: Global, levels: u32) -> Result<Manager, AllocError>
+        ensures levels { IfOk result (λ m. m.table.levels ≡ levels) }
+        ensures kept { IfOk result (λ m. kept m.table ≡ 0) }
+        ensures results { IfOk result (λ m. m.results ≡ []) }
+        ensures manager { IfOk result IsManager }
+    {
+        let store = Store::new(alloc, levels)?;
+        let cache = LruCache::sparse(alloc, NonZeroUsize::MIN.saturating_add(ROOM - 1))?;
+        prove!(cache.len() <= ROOM);
+        Ok(Manager {
+            alloc,
+            store,
+            cache,
+        })
+    }
+
+    /// The store of the nodes. It takes no memory.
+    pub fn store(&self) -> &Store
+        ensures value { result.now ≡ self.now.table }
+        ensures manager { IsManager self.now }
+    {
+        &self.store
+    }
+
+    /// The function that is `hi` where the level's value is true, and `lo` where it is false, as `Store::make` gives it.
+    pub fn make<L>(
+        &mut self,
+        level: u32,
+        lo: NodeId,
+        hi: NodeId,
+        steps: &mut Steps<L>,
+    ) -> Result<NodeId, AllocError>
+        requires level { level < self.old.table.levels }
+        requires lo_known { Knows self.old.table lo }
+        requires hi_known { Knows self.old.table hi }
+        requires lo_deeper { level < level_of self.old.table lo }
+        requires hi_deeper { level < level_of self.old.table hi }
+
+        ensures manager { IsManager self.new }
+        ensures grows { Grows self.old self.new }
+        ensures answer { IfOk result (λ id. IsFunction self.new.table id (λ v. if v level then means self.new.table hi v else means self.new.table lo v)) }
+        ensures deep { IfOk result (λ id. level ≤ level_of self.new.table id) }
+        ensures counted { steps.new ≡ min (steps.old + 1) u64.MAX }
+        ensures adds { kept self.new.table ≤ kept self.old.table + 1 }
+        ensures results { self.new.results ≡ self.old.results }
+        ensures refused { OnErr result (self.new ≡ self.old) }
+    {
+        self.store.make(level, lo, hi, steps)
+    }
+
+    /// The complement of `f`. It takes no memory and adds no node.
+    pub fn not(&mut self, f: NodeId) -> Result<NodeId, AllocError>
+        requires { Knows self.old.table f }
+        ensures value { result ≡ Ok (complement f) }
+        ensures answer { IsOkAnd result (λ id. IsFunction self.new.table id (λ v. not (means self.new.table f v))) }
+        ensures unchanged { self.new ≡ self.old }
+    {
+        Ok(f.complement())
+    }
+
+    // The remembered result of an operation.
+    pub(crate) fn known(&mut self, operation: &Operation) -> Option<NodeId>
+        ensures found { (id : Id) → Remembers self.old operation.now id → result ≡ Some id }
+        ensures answer { IfSome result (IsResult self.new.table operation.now) }
+        ensures remembered { IfSome result (Remembers self.new operation.now) }
+        ensures missed { result ≡ None → self.new ≡ self.old }
+        ensures manager { IsManager self.new }
+        ensures grows { Grows self.old self.new }
+        ensures table { self.new.table ≡ self.old.table }
+    {
+        recall(&mut self.cache, operation)
+    }
+
+    // Remembers a result.
+    pub(crate) fn remembered(&mut self, operation: Operation, id: NodeId) -> Result<(), AllocError>
+        requires absent { (other : Id) → ¬ Remembers self.old operation other }
+        requires result { IsResult self.old.table operation id }
+
+        ensures manager { IsManager self.new }
+        ensures grows { Grows self.old self.new }
+        ensures table { self.new.table ≡ self.old.table }
+        ensures there { OnOk result (Remembers self.new operation id) }
+    {
+        remember(&mut self.cache, operation, id)
+    }
+
+    // The result of an operation that is a choice, by a walk. It then is remembered.
+    fn walked<L>(
+        &mut self,
+        operation: Operation,
+        choice: Choice,
+        steps: &mut Steps<L>,
+    ) -> Result<NodeId, AllocError>
+        requires absent { (other : Id) → ¬ Remembers self.old operation other }
+        requires operands { (f : Id) → Contains (operands operation) f → Knows self.old.table f }
+        requires choice { KnowsChoice self.old.table choice }
+        requires same { (s : Table) (v : ℕ → Bool) → choice_value s choice v ≡ operation_value s operation v }
+
+        ensures manager { IsManager self.new }
+        ensures grows { Grows self.old self.new }
+        ensures answer { IfOk result (IsResult self.new.table operation) }
+        ensures remembered { IfOk result (Remembers self.new operation) }
+        ensures requests { (choices : List Met) → HasOpen self.new.table choice choices → steps.new ≤ steps.old + length choices }
+        ensures nodes { (choices : List Met) → HasOpen self.new.table choice choices → kept self.new.table ≤ kept self.old.table + length choices }
+    {
+        let answer = walk(self.alloc, &mut self.store, choice, steps)?;
+        remember(&mut self.cache, operation, answer)?;
+        Ok(answer)
+    }
+
+    // The result of an operation that is a choice: the remembered one, or that of a walk, which then is remembered.
+    pub(crate) fn answered<L>(
+        &mut self,
+        operation: Operation,
+        choice: Choice,
+        steps: &mut Steps<L>,
+    ) -> Result<NodeId, AllocError>
+        requires operands { (f : Id) → Contains (operands operation) f → Knows self.old.table f }
+        requires choice { KnowsChoice self.old.table choice }
+        requires same { (s : Table) (v : ℕ → Bool) → choice_value s choice v ≡ operation_value s operation v }
+
+        ensures manager { IsManager self.new }
+        ensures grows { Grows self.old self.new }
+        ensures answer { IfOk result (IsResult self.new.table operation) }
+        ensures remembered { IfOk result (Remembers self.new operation) }
+        ensures requests { (choices : List Met) → HasOpen self.new.table choice choices → steps.new ≤ steps.old + length choices }
+        ensures nodes { (choices : List Met) → HasOpen self.new.table choice choices → kept self.new.table ≤ kept self.old.table + length choices }
+
+        // A remembered result is answered again, and that makes no request.
+        ensures again { (id : Id) → Remembers self.old operation id → result ≡ Ok id }
+        ensures again_same { (id : Id) → Remembers self.old operation id → self.new.table ≡ self.old.table }
+        ensures again_free { (id : Id) → Remembers self.old operation id → steps.new ≡ steps.old }
+    {
+        if let Some(known) = self.known(&operation) {
+            return Ok(known);
+        }
+        self.walked(operation, choice, steps)
+    }
+}

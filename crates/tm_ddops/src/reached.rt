@@ -1,0 +1,47 @@
+//! What is reached from a diagram: its size.
+ghost use Rattle.std.specs.Prelude.{IfOk, OnOk};
+ghost use Rattle.tm_dd.specs.Table.{Knows};
+ghost use Rattle.tm_ddops.specs.Reached.{HasSize, IsClosed, IsGathered, IsInnerNodes};
+
+use crate::manager::Manager;
+use std::alloc::{AllocError, Global};
+use std::collections::HashSet;
+use tm_dd::{NodeId, Store};
+
+impl Manager {
+    /// How many ids of inner nodes are reached from `f`.
+    pub fn size(&self, f: NodeId) -> Result<u64, AllocError>
+        requires { Knows self.now.table f }
+        ensures { IfOk result (HasSize self.now.table f) }
+    {
+        let inner = inner_nodes(self.alloc, &self.store, f)?;
+        Ok(inner.len() as u64)
+    }
+}
+
+/// The ids of inner nodes that are reached from `f`.
+fn inner_nodes(alloc: Global, store: &Store, f: NodeId) -> Result<HashSet<NodeId>, AllocError>
+    requires { Knows store.now f }
+    ensures { IfOk result (λ inner. IsInnerNodes store.now f inner.keys) }
+{
+    let mut inner = HashSet::new(alloc);
+    gather(store, f, &mut inner)?;
+    prove!(inner.len() < usize::MAX);
+    Ok(inner)
+}
+
+/// Adds the ids of inner nodes that are reached from `f`.
+fn gather(store: &Store, f: NodeId, inner: &mut HashSet<NodeId>) -> Result<(), AllocError>
+    requires known { Knows store.now f }
+    requires closed { IsClosed store.now inner.old.keys }
+    ensures { OnOk result (IsGathered store.now f inner.old.keys inner.new.keys) }
+{
+    if f.is_constant() || inner.contains(&f) {
+        return Ok(());
+    }
+    let node = store.node(f);
+    gather(store, node.lo, inner)?;
+    gather(store, node.hi, inner)?;
+    inner.insert(f)?;
+    Ok(())
+}

@@ -1,0 +1,208 @@
+//! What no clause says: that the calls succeed, and values that were worked out by hand.
+ghost use Rattle.tm_dd.specs.Table.{Knows};
+
+use crate::Manager;
+use std::process::Abort;
+use tm_base::Steps;
+use tm_dd::{FALSE, NodeId, TRUE};
+
+/// Fails where the manager does not know the id.
+fn check(rt: &impl Abort, dd: &Manager, id: NodeId)
+    ensures { Knows dd.now.table id }
+{
+    assert!(rt; dd.store().knows(id), "an unknown id");
+}
+
+/// The function that is the value of a level.
+fn variable(rt: &impl Abort, dd: &mut Manager, level: u32, steps: &mut Steps<()>) -> NodeId {
+    check(rt, dd, FALSE);
+    check(rt, dd, TRUE);
+    assert!(rt; level < dd.store().levels(), "no such level");
+    assert!(rt; level < dd.store().level(FALSE), "a constant on a level");
+    assert!(rt; level < dd.store().level(TRUE), "a constant on a level");
+    dd.make(level, FALSE, TRUE, steps).expect(rt, "memory")
+}
+
+/// The value of a function.
+fn eval(rt: &impl Abort, dd: &Manager, id: NodeId, values: &[bool]) -> bool {
+    check(rt, dd, id);
+    assert!(rt;
+        values.len() == dd.store().levels() as usize,
+        "one value a level"
+    );
+    dd.store().eval(id, values)
+}
+
+/// The function of three variables whose values are the bits of a table, that of `true, true, true` highest.
+fn from_table(rt: &impl Abort, dd: &mut Manager, variables: &[NodeId], table: u8) -> NodeId {
+    let mut functions = [FALSE; 8];
+    for i in 0..8 {
+        functions[i] = if table >> i & 1 == 1 { TRUE } else { FALSE };
+    }
+    let mut count = 8;
+    for variable in variables {
+        count /= 2;
+        for i in 0..count {
+            if i < 4 {
+                let lo = functions[2 * i];
+                let hi = functions[2 * i + 1];
+                check(rt, dd, *variable);
+                check(rt, dd, hi);
+                check(rt, dd, lo);
+                functions[i] = dd.ite(*variable, hi, lo).expect(rt, "memory");
+            }
+        }
+    }
+    functions[0]
+}
+
+#[test]
+fn binary_operations_are_those_of_the_truth_tables(rt: HostRuntime) {
+    let mut dd = Manager::new(rt.alloc(), 3).expect(&rt, "memory");
+    let mut steps = Steps::new(());
+    let mut variables = [FALSE; 3];
+    for level in 0..3u32 {
+        variables[2 - level as usize] = variable(&rt, &mut dd, level, &mut steps);
+    }
+    let mut functions = [FALSE; 256];
+    for table in 0..=255u8 {
+        functions[table as usize] = from_table(&rt, &mut dd, &variables, table);
+    }
+    for a in 0..256usize {
+        for b in 0..256usize {
+            let f = functions[a];
+            let g = functions[b];
+            check(&rt, &dd, f);
+            check(&rt, &dd, g);
+            let both = dd.and(f, g, &mut steps).expect(&rt, "memory");
+            assert!(rt; both == functions[a & b], "and at {a} and {b}");
+            check(&rt, &dd, f);
+            check(&rt, &dd, g);
+            let some = dd.or(f, g, &mut steps).expect(&rt, "memory");
+            assert!(rt; some == functions[a | b], "or at {a} and {b}");
+            check(&rt, &dd, f);
+            check(&rt, &dd, g);
+            let one = dd.xor(f, g, &mut steps).expect(&rt, "memory");
+            assert!(rt; one == functions[a ^ b], "xor at {a} and {b}");
+        }
+    }
+}
+
+#[test]
+fn functions_have_their_values(rt: HostRuntime) {
+    let mut dd = Manager::new(rt.alloc(), 3).expect(&rt, "memory");
+    let mut steps = Steps::new(());
+    let mut variables = [FALSE; 3];
+    for level in 0..3u32 {
+        variables[2 - level as usize] = variable(&rt, &mut dd, level, &mut steps);
+    }
+    for table in 0..=255u8 {
+        let function = from_table(&rt, &mut dd, &variables, table);
+        for row in 0..8u8 {
+            let values = [row & 4 != 0, row & 2 != 0, row & 1 != 0];
+            let value = eval(&rt, &dd, function, &values);
+            assert!(rt;
+                value == (table >> row & 1 == 1),
+                "table {table} at row {row}"
+            );
+        }
+    }
+}
+
+#[test]
+fn two_variables(rt: HostRuntime) {
+    let mut dd = Manager::new(rt.alloc(), 2).expect(&rt, "memory");
+    let mut steps = Steps::new(());
+    let x = variable(&rt, &mut dd, 0, &mut steps);
+    let y = variable(&rt, &mut dd, 1, &mut steps);
+    check(&rt, &dd, x);
+    check(&rt, &dd, y);
+    let before = steps.count();
+    let both = dd.and(x, y, &mut steps).expect(&rt, "memory");
+    assert!(rt;
+        steps.count() <= before.saturating_add(1),
+        "more than one request"
+    );
+    assert_eq!(rt; dd.store().kept(), 3);
+    check(&rt, &dd, both);
+    assert!(rt; !both.is_constant(), "a constant");
+    let node = dd.store().node(both);
+    assert!(rt;
+        node.level == 0 && node.lo == FALSE && node.hi == y,
+        "another node"
+    );
+
+    let least = dd.least(both).expect(&rt, "memory");
+    assert!(rt;
+        matches!(&least, Some(values) if values.len() == 2 && values[0] && values[1]),
+        "another least"
+    );
+    check(&rt, &dd, FALSE);
+    assert!(rt;
+        dd.least(FALSE).expect(&rt, "memory").is_none(),
+        "FALSE has a least"
+    );
+    assert_eq!(rt; dd.size(both).expect(&rt, "memory"), 2);
+
+    assert!(rt; dd.exists(both, &[0]).expect(&rt, "memory") == y, "exists");
+    check(&rt, &dd, both);
+    assert!(rt;
+        dd.forall(both, &[0]).expect(&rt, "memory") == FALSE,
+        "forall"
+    );
+    check(&rt, &dd, x);
+    check(&rt, &dd, y);
+    assert!(rt;
+        dd.compose(x, &[(0, y)]).expect(&rt, "memory") == y,
+        "compose"
+    );
+    check(&rt, &dd, x);
+    check(&rt, &dd, y);
+    assert!(rt; dd.ite(x, y, y).expect(&rt, "memory") == y, "ite");
+    check(&rt, &dd, x);
+    assert!(rt;
+        dd.xor(x, x, &mut steps).expect(&rt, "memory") == FALSE,
+        "xor"
+    );
+    check(&rt, &dd, x);
+    check(&rt, &dd, TRUE);
+    let before = steps.count();
+    assert!(rt;
+        dd.or(x, TRUE, &mut steps).expect(&rt, "memory") == TRUE,
+        "or"
+    );
+    assert_eq!(rt; steps.count(), before);
+}
+
+#[test]
+fn complements_and_remembered_results_are_free(rt: HostRuntime) {
+    let mut dd = Manager::new(rt.alloc(), 2).expect(&rt, "memory");
+    let mut steps = Steps::new(());
+    let x = variable(&rt, &mut dd, 0, &mut steps);
+    let y = variable(&rt, &mut dd, 1, &mut steps);
+    check(&rt, &dd, x);
+    check(&rt, &dd, y);
+    let both = dd.and(x, y, &mut steps).expect(&rt, "memory");
+    for id in [x, y, both] {
+        check(&rt, &dd, id);
+        let opposite = dd.not(id).expect(&rt, "memory");
+        check(&rt, &dd, opposite);
+        assert!(rt; dd.not(opposite).expect(&rt, "memory") == id, "not of not");
+    }
+    assert_eq!(rt; dd.store().kept(), 3);
+    check(&rt, &dd, x);
+    let opposite = dd.not(x).expect(&rt, "memory");
+    check(&rt, &dd, opposite);
+    assert!(rt; !opposite.is_constant(), "a constant");
+    let node = dd.store().node(opposite);
+    assert!(rt; node.lo == TRUE && node.hi == FALSE, "another node");
+
+    check(&rt, &dd, x);
+    check(&rt, &dd, y);
+    let before = steps.count();
+    assert!(rt;
+        dd.and(x, y, &mut steps).expect(&rt, "memory") == both,
+        "another result"
+    );
+    assert_eq!(rt; steps.count(), before);
+}
