@@ -1,0 +1,10 @@
+mod Appending
+mod Loading
+mod Numbering
+mod Playing
+mod Reaching
+mod Running
+mod ReadNumbers
+mod ReadTurns
+mod SplitLines
+mod Stopping

@@ -1,0 +1,10 @@
+pub mod Advance
+pub mod Answer
+pub mod Choices
+pub mod Inputs
+pub mod Played
+pub mod Report
+pub mod Script
+pub mod Sinking
+pub mod Status
+pub mod Words

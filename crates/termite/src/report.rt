@@ -1,0 +1,161 @@
+//! The last line of a report, which tells a status.
+ghost use Rattle.std.specs.Prelude.{◌≡◌, ◌≤◌, ◌++◌, ℕ, codes, IsTrue, OnOk, OnErr, IfOk, IfErr};
+ghost use Rattle.std.specs.Fmt.{decimal};
+ghost use Rattle.std.specs.List.{flat_map};
+ghost use Rattle.tm_base.specs.Sink.{AppendsPrefix};
+ghost use Rattle.termite.specs.Report.{bad_text, why_text, line_text, status_text, usage_text};
+ghost use Rattle.termite.specs.Sinking.{IsRefusal};
+
+use crate::line_text::{push, push_number};
+use crate::put::put_line;
+use crate::status::{Bad, Status, StopWhy};
+use std::alloc::{AllocError, Global};
+use tm_base::{Name, Sink};
+
+/// The usage text, line by line.
+const USAGE: [&str; 6] = [
+    "usage: termite synth SPEC OUT [--budget N]\n",
+    "       termite check SPEC DRIVER CERT\n",
+    "       termite check SPEC CERT\n",
+    "       termite run SPEC DRIVER CHOICES\n",
+    "       termite gen N OUT\n",
+    "       termite migrate SPEC CERT OUT\n",
+];
+
+/// A line of a word and a number.
+#[tactic(auto, using(crate::proofs::Appending::append_assoc))]
+fn counted_line(alloc: Global, word: &[u8], n: u64) -> Result<Vec<u8>, AllocError>
+    ensures { IfOk result (λ line. line.items ≡ word.now ++ decimal n ++ codes "\n") }
+{
+    let mut line = Vec::from_slice(alloc, word)?;
+    push_number(&mut line, n)?;
+    push(&mut line, b"\n")?;
+    Ok(line)
+}
+
+/// A line of a word and a file's name.
+#[tactic(auto, using(crate::proofs::Appending::append_assoc))]
+fn named_line(alloc: Global, word: &[u8], name: &Name) -> Result<Vec<u8>, AllocError>
+    ensures { IfOk result (λ line. line.items ≡ word.now ++ name.now ++ codes "\n") }
+{
+    let mut line = Vec::from_slice(alloc, word)?;
+    push(&mut line, name.as_bytes())?;
+    push(&mut line, b"\n")?;
+    Ok(line)
+}
+
+fn push_bad(line: &mut Vec<u8>, why: Bad) -> Result<(), AllocError>
+    ensures { OnOk result (line.new.items ≡ line.old.items ++ bad_text why) }
+{
+    match why {
+        Bad::TooLong => push(line, b"too long"),
+        Bad::Choices(number) => {
+            push(line, b"line ")?;
+            push_number(line, number)?;
+            Ok(())
+        }
+    }
+}
+
+#[tactic(auto, using(crate::proofs::Appending::append_assoc))]
+fn bad_line(alloc: Global, file: &Name, why: Bad) -> Result<Vec<u8>, AllocError>
+    ensures { IfOk result (λ line. line.items ≡ codes "bad " ++ file.now ++ codes " " ++ bad_text why ++ codes "\n") }
+{
+    let mut line = Vec::from_slice(alloc, b"bad ")?;
+    push(&mut line, file.as_bytes())?;
+    push(&mut line, b" ")?;
+    push_bad(&mut line, why)?;
+    push(&mut line, b"\n")?;
+    Ok(line)
+}
+
+fn push_why(line: &mut Vec<u8>, why: StopWhy) -> Result<(), AllocError>
+    ensures { OnOk result (line.new.items ≡ line.old.items ++ why_text why) }
+{
+    match why {
+        StopWhy::Error => push(line, b"error"),
+        StopWhy::Forbidden => push(line, b"forbidden"),
+        StopWhy::Illegal => push(line, b"illegal"),
+    }
+}
+
+#[tactic(auto, using(crate::proofs::Appending::append_assoc))]
+fn stopped_line(alloc: Global, step: u64, why: StopWhy) -> Result<Vec<u8>, AllocError>
+    ensures { IfOk result (λ line. line.items ≡ codes "stopped " ++ decimal step ++ codes " " ++ why_text why ++ codes "\n") }
+{
+    let mut line = Vec::from_slice(alloc, b"stopped ")?;
+    push_number(&mut line, step)?;
+    push(&mut line, b" ")?;
+    push_why(&mut line, why)?;
+    push(&mut line, b"\n")?;
+    Ok(line)
+}
+
+/// The line of a status; empty where it has none, or more than one.
+fn status_line(alloc: Global, status: &Status) -> Result<Vec<u8>, AllocError>
+    ensures { IfOk result (λ line. line.items ≡ line_text status.now) }
+{
+    match status {
+        Status::Played(steps) => counted_line(alloc, b"played ", *steps),
+        Status::ReadFault(name) => named_line(alloc, b"read fault ", name),
+        Status::WriteFault(name) => {
+            if name.as_bytes().is_empty() {
+                Ok(Vec::new(alloc))
+            } else {
+                named_line(alloc, b"write fault ", name)
+            }
+        }
+        Status::BadText { file, why } => bad_line(alloc, file, *why),
+        Status::Stopped { step, why } => stopped_line(alloc, *step, *why),
+        Status::Unbuilt(name) => named_line(alloc, b"unbuilt ", name),
+        Status::Usage | Status::Memory => Ok(Vec::new(alloc)),
+    }
+}
+
+/// Puts lines, one after another.
+fn put_lines<O: Sink>(alloc: Global, out: &mut O, lines: &[&str]) -> Result<(), Status>
+    ensures ok { OnOk result (IsTrue O.tells → O.written out.new ≡ O.written out.old ++ flat_map (λ l. l.now) lines.now) }
+    ensures err { OnErr result (IsTrue O.tells → AppendsPrefix (flat_map (λ l. l.now) lines.now) (O.written out.old) (O.written out.new)) }
+    ensures refusal { IfErr result (IsRefusal O.last_count (O.faults out.old) (O.faults out.new)) }
+    ensures no_fewer_faults { O.faults out.old ≤ O.faults out.new }
+{
+    for line in lines {
+        put_line(alloc, out, line.as_bytes())?;
+    }
+    Ok(())
+}
+
+fn put_usage<O: Sink>(alloc: Global, out: &mut O) -> Result<(), Status>
+    ensures ok { OnOk result (IsTrue O.tells → O.written out.new ≡ O.written out.old ++ usage_text) }
+    ensures err { OnErr result (IsTrue O.tells → AppendsPrefix usage_text (O.written out.old) (O.written out.new)) }
+    ensures refusal { IfErr result (IsRefusal O.last_count (O.faults out.old) (O.faults out.new)) }
+    ensures no_fewer_faults { O.faults out.old ≤ O.faults out.new }
+{
+    put_lines(alloc, out, &USAGE)
+}
+
+fn put_status_line<O: Sink>(alloc: Global, status: &Status, out: &mut O) -> Result<(), Status>
+    ensures ok { OnOk result (IsTrue O.tells → O.written out.new ≡ O.written out.old ++ line_text status.now) }
+    ensures err { OnErr result (IsTrue O.tells → AppendsPrefix (line_text status.now) (O.written out.old) (O.written out.new)) }
+    ensures refusal { IfErr result (IsRefusal O.last_count (O.faults out.old) (O.faults out.new)) }
+    ensures no_fewer_faults { O.faults out.old ≤ O.faults out.new }
+{
+    let line = status_line(alloc, status)?;
+    if line.is_empty() {
+        return Ok(());
+    }
+    put_line(alloc, out, &line)
+}
+
+/// Puts the lines that tell a status, one put a line: none where the output failed or memory ran out.
+pub fn put_status<O: Sink>(alloc: Global, status: &Status, out: &mut O) -> Result<(), Status>
+    ensures ok { OnOk result (IsTrue O.tells → O.written out.new ≡ O.written out.old ++ status_text status.now) }
+    ensures err { OnErr result (IsTrue O.tells → AppendsPrefix (status_text status.now) (O.written out.old) (O.written out.new)) }
+    ensures refusal { IfErr result (IsRefusal O.last_count (O.faults out.old) (O.faults out.new)) }
+    ensures no_fewer_faults { O.faults out.old ≤ O.faults out.new }
+{
+    match status {
+        Status::Usage => put_usage(alloc, out),
+        _ => put_status_line(alloc, status, out),
+    }
+}
