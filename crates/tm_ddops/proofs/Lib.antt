@@ -1,6 +1,7 @@
 pub mod CacheLemmas
 pub mod Choices
 pub mod Connectives
+pub mod Copies
 pub mod Counts
 pub mod Exists
 pub mod Facts

@@ -1,6 +1,7 @@
 pub mod Choice
 pub mod Composed
 pub mod Connective
+pub mod Copied
 pub mod Found
 pub mod Layout
 pub mod Least

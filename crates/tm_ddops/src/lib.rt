@@ -6,6 +6,7 @@ mod cache;
 mod choice;
 mod compose;
 mod connective;
+mod copy;
 mod descent;
 mod ite;
 mod least;

@@ -56,8 +56,7 @@ impl Manager {
         ensures manager { IfOk result IsManager }
     {
         let store = Store::new(alloc, levels)?;
-        let cache = LruCache::sparse(alloc, NonZeroUsize::MIN.saturating_add(ROOM - 1))?;
-        prove!(cache.len() <= ROOM);
+        let cache = empty_cache(alloc)?;
         Ok(Manager {
             alloc,
             store,
@@ -187,4 +186,12 @@ impl Manager {
         }
         self.walked(operation, choice, steps)
     }
+}
+
+/// A cache that remembers no result, and at most `ROOM` of them.
+pub(crate) fn empty_cache(alloc: Global) -> Result<Cache, AllocError>
+    ensures empty { IfOk result (λ cache. cache.entries ≡ []) }
+    ensures room { IfOk result (λ cache. cache.cap ≡ 65536) }
+{
+    LruCache::sparse(alloc, NonZeroUsize::MIN.saturating_add(ROOM - 1))
 }
