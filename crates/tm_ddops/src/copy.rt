@@ -27,9 +27,9 @@ impl Manager {
         ensures refused_roots { OnErr result (roots.new ≡ roots.old) }
     {
         let mut store = Store::new(self.alloc, self.store.levels())?;
-        let copies = copies(self.alloc, &self.store, &mut store, roots)?;
+        let new_roots = copies(self.alloc, &self.store, &mut store, roots)?;
         let cache = empty_cache(self.alloc)?;
-        roots.copy_from_slice(&copies);
+        roots.copy_from_slice(&new_roots);
         self.store = store;
         self.cache = cache;
         Ok(())
