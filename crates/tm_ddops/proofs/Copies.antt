@@ -92,16 +92,16 @@ pub adds_node : (a b c d : Table) → IsReduced b → IsReduced c → Extends b 
     → ((g : NodeId) → Knows d g → Knows c g ⊎ ((g ≡ id) ⊎ (g ≡ complement id))) → AddsReached a d id
 adds_node a b c d rb rc bc cd lo hi id klo khi low high inner is_lo is_hi added g known = elim (added g known) [
   | inl in_c ↦ elim (high g in_c) [
-      | inl in_b ↦ elim (low g in_b) [
-          | inl in_a ↦ inl in_a
-          | inr r ↦ inr (below_lo (mark_later b d rb (Extends-trans b c d bc cd) lo g klo r))
-        ]
-      | inr r ↦ inr (below_hi (mark_later c d rc cd hi g khi r))
+    | inl in_b ↦ elim (low g in_b) [
+      | inl in_a ↦ inl in_a
+      | inr r ↦ inr (below_lo (mark_later b d rb (Extends-trans b c d bc cd) lo g klo r))
     ]
+    | inr r ↦ inr (below_hi (mark_later c d rc cd hi g khi r))
+  ]
   | inr new ↦ elim new [
-      | inl e ↦ inr (inl (subst (Reaches d id) (sym e) (itself id)))
-      | inr e ↦ inr (inr (subst (Reaches d id) (sym (ap complement e ∙ complement-complement id)) (itself id)))
-    ]
+    | inl e ↦ inr (inl (subst (Reaches d id) (sym e) (itself id)))
+    | inr e ↦ inr (inr (subst (Reaches d id) (sym (ap complement e ∙ complement-complement id)) (itself id)))
+  ]
 ]
   where
     below_lo : ReachesUpToMark d lo g → ReachesUpToMark d id g
@@ -157,8 +157,8 @@ pub reached_more : (from s t : Table) → IsReduced s → Extends s t → (fs id
     → AllReached s ids → AddsReached s t id → AllReached t (ids ++ id ∷ [])
 reached_more from s t reduced e fs ids m id all adds g known = elim (adds g known) [
   | inl was ↦ elim (all g was) [
-      | inl constant ↦ inl constant
-      | inr r ↦ inr (r.0, Contains-append_left ids (id ∷ []) r.0 r.1, mark_later s t reduced e r.0 g (knows_each from s fs ids m r.0 r.1) r.2)
-    ]
+    | inl constant ↦ inl constant
+    | inr r ↦ inr (r.0, Contains-append_left ids (id ∷ []) r.0 r.1, mark_later s t reduced e r.0 g (knows_each from s fs ids m r.0 r.1) r.2)
+  ]
   | inr new ↦ inr (id, Contains-append_right ids (id ∷ []) id (Contains-head id []), new)
 ]

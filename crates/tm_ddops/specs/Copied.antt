@@ -10,7 +10,8 @@ use Rattle.tm_ddops.specs.Reached.{Reaches}
 -- as many ids as before, and each means in the new store what the one at its place meant in the old store
 pub record MeanTheSame (old : Table) (olds : List NodeId) (new : Table) (news : List NodeId) : Type 0 where
   pub as_many : length news ≡ length olds
-  pub functions : (i : ℕ) (d : NodeId) → i < length olds → IsFunction new (slice_index_or news i d) (means old (slice_index_or olds i d))
+  pub functions : (i : ℕ) (d : NodeId) → i < length olds
+      → IsFunction new (slice_index_or news i d) (means old (slice_index_or olds i d))
 
 -- an id or its complement is reached from another
 abbrev pub ReachesUpToMark : Table → NodeId → NodeId → Type 0
@@ -18,7 +19,8 @@ ReachesUpToMark s f g = Reaches s f g ⊎ Reaches s f (complement g)
 
 -- each known id is a constant, or it or its complement is reached from one of the roots
 abbrev pub AllReached : Table → List NodeId → Type 0
-AllReached s roots = (g : NodeId) → Knows s g → IsConstant g ⊎ ((root : NodeId) × Contains roots root × ReachesUpToMark s root g)
+AllReached s roots = (g : NodeId) → Knows s g
+    → IsConstant g ⊎ ((root : NodeId) × Contains roots root × ReachesUpToMark s root g)
 
 -- what the new store knows beyond the old one is reached from an id, up to complement
 abbrev pub AddsReached : Table → Table → NodeId → Type 0

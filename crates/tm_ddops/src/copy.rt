@@ -1,8 +1,7 @@
-//! Copying what is still wanted into a new store.
-ghost use Rattle.std.specs.Prelude.{◌≡◌, ◌<◌, ◌≤◌, ◌≢◌, ℕ, Bool, [], Contains, IfOk, OnOk, OnErr, length, slice_index_or};
-ghost use Rattle.tm_dd.specs.NodeId.{IsConstant};
+//! What is still wanted, copied into a new store.
+ghost use Rattle.std.specs.Prelude.{◌≡◌, [], Contains, IfOk, OnErr, OnOk};
 ghost use Rattle.tm_dd.specs.Reduced.{Extends, IsReduced};
-ghost use Rattle.tm_dd.specs.Table.{Knows, kept, means, node_of};
+ghost use Rattle.tm_dd.specs.Table.{Knows, kept};
 ghost use Rattle.tm_dd.specs.declared.node.NodeId.{NodeId as Id};
 ghost use Rattle.tm_ddops.specs.Copied.{AddsReached, AllReached, AreCopies, IsCopy, MeanTheSame};
 ghost use Rattle.tm_ddops.specs.Manager.{IsManager};
@@ -13,8 +12,9 @@ use std::alloc::{AllocError, Global};
 use tm_dd::{NodeId, Store};
 
 impl Manager {
-    /// Keeps what the roots reach, and nothing else. The roots mean what they meant, all earlier ids are void, and no result is
-    /// remembered. After a refusal nothing has changed.
+    /// Keeps what the roots reach, and nothing else, in a new store.
+    ///
+    /// The roots mean what they meant, all earlier ids are void, and no result is remembered. After a refusal nothing has changed.
     pub fn copy_roots(&mut self, roots: &mut [NodeId]) -> Result<(), AllocError>
         requires known { (f : Id) → Contains roots.old f → Knows self.old.table f }
 

@@ -1,5 +1,7 @@
 //! What no clause says: that the calls succeed, and values that were worked out by hand.
+ghost use Rattle.std.specs.Prelude.{Contains};
 ghost use Rattle.tm_dd.specs.Table.{Knows};
+ghost use Rattle.tm_dd.specs.declared.node.NodeId.{NodeId as Id};
 
 use crate::Manager;
 use std::process::Abort;
@@ -31,6 +33,28 @@ fn eval(rt: &impl Abort, dd: &Manager, id: NodeId, values: &[bool]) -> bool {
         "one value a level"
     );
     dd.store().eval(id, values)
+}
+
+/// Both of two functions.
+fn both(rt: &impl Abort, dd: &mut Manager, f: NodeId, g: NodeId, steps: &mut Steps<()>) -> NodeId {
+    check(rt, dd, f);
+    check(rt, dd, g);
+    dd.and(f, g, steps).expect(rt, "memory")
+}
+
+/// Fails where the manager does not know one of the ids.
+fn check_all(rt: &impl Abort, dd: &Manager, ids: &[NodeId])
+    ensures { (f : Id) → Contains ids.now f → Knows dd.now.table f }
+{
+    for id in ids {
+        check(rt, dd, *id);
+    }
+}
+
+/// Keeps what the roots reach, and nothing else.
+fn copy_roots(rt: &impl Abort, dd: &mut Manager, roots: &mut [NodeId]) {
+    check_all(rt, dd, roots);
+    dd.copy_roots(roots).expect(rt, "memory");
 }
 
 /// The function of three variables whose values are the bits of a table, that of `true, true, true` highest.
@@ -107,6 +131,42 @@ fn functions_have_their_values(rt: HostRuntime) {
             );
         }
     }
+}
+
+#[test]
+fn a_copied_root_means_what_it_meant(rt: HostRuntime) {
+    let mut dd = Manager::new(rt.alloc(), 2).expect(&rt, "memory");
+    let mut steps = Steps::new(());
+    let x = variable(&rt, &mut dd, 0, &mut steps);
+    let y = variable(&rt, &mut dd, 1, &mut steps);
+    both(&rt, &mut dd, x, y, &mut steps);
+    let mut roots = [y];
+    copy_roots(&rt, &mut dd, &mut roots);
+    check(&rt, &dd, roots[0]);
+    assert_eq!(rt; dd.size(roots[0]).expect(&rt, "memory"), 1);
+    assert_eq!(rt; dd.store().kept(), 1);
+    for row in 0..4u8 {
+        let values = [row & 2 != 0, row & 1 != 0];
+        let value = eval(&rt, &dd, roots[0], &values);
+        assert!(rt; value == values[1], "another value at row {row}");
+    }
+}
+
+#[test]
+fn copying_forgets_the_results(rt: HostRuntime) {
+    let mut dd = Manager::new(rt.alloc(), 2).expect(&rt, "memory");
+    let mut steps = Steps::new(());
+    let x = variable(&rt, &mut dd, 0, &mut steps);
+    let y = variable(&rt, &mut dd, 1, &mut steps);
+    both(&rt, &mut dd, x, y, &mut steps);
+    let mut roots = [x, y];
+    copy_roots(&rt, &mut dd, &mut roots);
+    let before = steps.count();
+    let first = both(&rt, &mut dd, roots[0], roots[1], &mut steps);
+    assert_eq!(rt; steps.count(), before.saturating_add(1));
+    let second = both(&rt, &mut dd, roots[0], roots[1], &mut steps);
+    assert!(rt; second == first, "another result");
+    assert_eq!(rt; steps.count(), before.saturating_add(1));
 }
 
 #[test]
