@@ -10,3 +10,4 @@ pub mod Operation
 pub mod Parts
 pub mod Quantified
 pub mod Reached
+pub mod Support

@@ -13,6 +13,7 @@ mod manager;
 mod operation;
 mod quantify;
 mod reached;
+mod support;
 #[cfg(test)]
 mod tests;
 mod walk;
