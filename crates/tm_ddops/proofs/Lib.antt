@@ -12,4 +12,5 @@ pub mod Reach
 pub mod Replaced
 pub mod Results
 pub mod Sound
+pub mod Supports
 pub mod Walks

@@ -11,3 +11,4 @@ pub mod Operation
 pub mod Parts
 pub mod Quantified
 pub mod Reached
+pub mod Support

@@ -24,7 +24,7 @@ impl Manager {
 }
 
 /// As many values as there are levels, all of them false.
-fn all_false(alloc: Global, count: u32) -> Result<Vec<bool>, AllocError>
+pub(crate) fn all_false(alloc: Global, count: u32) -> Result<Vec<bool>, AllocError>
     ensures { IfOk result (λ values. values.items ≡ replicate count false) }
 {
     vec![in alloc; false; count as usize]

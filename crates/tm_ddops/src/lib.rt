@@ -14,6 +14,7 @@ mod manager;
 mod operation;
 mod quantify;
 mod reached;
+mod support;
 #[cfg(test)]
 mod tests;
 mod walk;

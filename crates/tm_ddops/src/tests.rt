@@ -234,6 +234,27 @@ fn two_variables(rt: HostRuntime) {
     assert_eq!(rt; steps.count(), before);
 }
 
+/// Whether these are the levels that a function depends on.
+fn has_support(rt: &impl Abort, dd: &Manager, f: NodeId, levels: &[u32]) -> bool {
+    check(rt, dd, f);
+    let support = dd.support(f).expect(rt, "memory");
+    support.as_slice() == levels
+}
+
+#[test]
+fn support_is_the_levels_of_a_function(rt: HostRuntime) {
+    let mut dd = Manager::new(rt.alloc(), 2).expect(&rt, "memory");
+    let mut steps = Steps::new(());
+    let x = variable(&rt, &mut dd, 0, &mut steps);
+    let y = variable(&rt, &mut dd, 1, &mut steps);
+    check(&rt, &dd, x);
+    check(&rt, &dd, y);
+    let both = dd.and(x, y, &mut steps).expect(&rt, "memory");
+    assert!(rt; has_support(&rt, &dd, both, &[0, 1]), "both levels");
+    assert!(rt; has_support(&rt, &dd, y, &[1]), "level 1");
+    assert!(rt; has_support(&rt, &dd, TRUE, &[]), "no level");
+}
+
 #[test]
 fn complements_and_remembered_results_are_free(rt: HostRuntime) {
     let mut dd = Manager::new(rt.alloc(), 2).expect(&rt, "memory");
