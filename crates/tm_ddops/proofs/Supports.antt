@@ -94,8 +94,8 @@ module _ (s : Table) (reduced : IsReduced s) where
   tell_apart f g known_f known_g apart =
       let same : (ℕ → Bool) → Bool = λ v. agrees (means s f v) (means s g v) in
       elim (decided s.levels same (λ v w agree i. agrees
-          (reduced.independent f known_f v w (λ k _ below. agree k below) i)
-          (reduced.independent g known_g v w (λ k _ below. agree k below) i))) [
+      (reduced.independent f known_f v w (λ k _ below. agree k below) i)
+      (reduced.independent g known_g v w (λ k _ below. agree k below) i))) [
         | inl everywhere ↦ absurd (apart (reduced.canonical f g known_f known_g (λ v. agrees-true (means s f v) (means s g v) (everywhere v))))
         | inr somewhere ↦ (somewhere.0, agrees-false (means s f somewhere.0) (means s g somewhere.0) somewhere.1)
       ]
@@ -223,7 +223,7 @@ module _ (s : Table) (reduced : IsReduced s) where
             let found = Any-from_list_any (λ id. eqb (level_of s id) k) ids (sym (marked k below) ∙ on) in
             let there : Contains ids found.1 = (found.0, found.2, found.3) in
             subst (DependsOn s f) (eqb-true (level_of s found.1) k found.4)
-                (depends_reached f found.1 known (inner.reached found.1 there) (inner.inner found.1 there))
+            (depends_reached f found.1 known (inner.reached found.1 there) (inner.inner found.1 there))
       ]
 
       none : get_or marks k false ≡ false → (g : NodeId) → Reaches s f g → ¬ IsConstant g → level_of s g ≢ k
@@ -300,16 +300,17 @@ passing-rises p n = IsStrictlyIncreasing-filter p (map (λ k. k) (range_with_len
     omega (arith, get_or-map-range_with_len (λ (j : ℕ). j) 0 n k k 0 (omega arith) (omega arith), get_or-map-range_with_len (λ (j : ℕ). j) 0 n (k + 1) (k + 1) 0 (omega arith) (omega arith)))
 
 pub passing-exact : (p : ℕ → Bool) (n : ℕ) → ((k : ℕ) → ¬ (k < n) → p k ≡ false) → (k : ℕ) → Contains (passing p n) k ↔ (p k ≡ true)
-passing-exact p n beyond k =
-    (
-      (λ h. All-contains (λ x. p x ≡ true) (passing p n) k (filter_passes p (map (λ j. j) (range_with_len 0 n))) h),
-      (λ on. elim (below_or_not k n) [
-        | inl below ↦ Contains-filter p (map (λ j. j) (range_with_len 0 n)) k on (k,
-            omega (arith, below, length-map-range_with_len (λ (j : ℕ). j) 0 n),
-            get_or-map-range_with_len (λ (j : ℕ). j) 0 n k k k below (omega arith))
-        | inr above ↦ let off = beyond k above in cc
-      ]),
+passing-exact p n beyond k = (
+  (λ h. All-contains (λ x. p x ≡ true) (passing p n) k (filter_passes p (map (λ j. j) (range_with_len 0 n))) h),
+  (λ on. elim (below_or_not k n) [
+    | inl below ↦ Contains-filter p (map (λ j. j) (range_with_len 0 n)) k on (
+      k,
+      omega (arith, below, length-map-range_with_len (λ (j : ℕ). j) 0 n),
+      get_or-map-range_with_len (λ (j : ℕ). j) 0 n k k k below (omega arith),
     )
+    | inr above ↦ let off = beyond k above in cc
+  ]),
+)
 
 -- an answer that lists what passes one test lists what passes another that is as strong
 pub listed_alike : {V E : Type 0} (r : Result V E) (items : V → List ℕ) (P Q : ℕ → Type 0) → ((k : ℕ) → P k ↔ Q k)

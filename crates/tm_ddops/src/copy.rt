@@ -14,8 +14,8 @@ use tm_dd::{NodeId, Store};
 impl Manager {
     /// Keeps what the roots reach, and nothing else, in a new store.
     ///
-    /// The roots mean what they meant, all earlier ids are void, and no result is remembered. After a refusal nothing has
-    /// changed.
+    /// The roots mean what they meant, all earlier ids are void, and no result is remembered. After a refusal nothing
+    /// has changed.
     pub fn copy_roots(&mut self, roots: &mut [NodeId]) -> Result<(), AllocError>
         requires known { (f : Id) → Contains roots.old f → Knows self.old.table f }
 

@@ -12,7 +12,8 @@ impl Manager {
     /// The least values of all levels that make `f` true, with false before true and level 0 first. `FALSE` has none.
     pub fn least(&self, f: NodeId) -> Result<Option<Vec<bool>>, AllocError>
         requires { Knows self.now.table f }
-        ensures { IfOk result (λ least. MatchOption least (f ≡ FALSE) (λ values. IsLeast self.now.table f values.items)) }
+        ensures { IfOk result (λ least.
+            MatchOption least (f ≡ FALSE) (λ values. IsLeast self.now.table f values.items)) }
     {
         if f == FALSE {
             return Ok(None);

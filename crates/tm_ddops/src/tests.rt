@@ -1,5 +1,5 @@
 //! What no clause says: that the calls succeed, and values that were worked out by hand.
-ghost use Rattle.std.specs.Prelude.{Contains};
+ghost use Rattle.std.specs.Prelude.{◌<◌, Contains};
 ghost use Rattle.tm_dd.specs.Table.{Knows};
 ghost use Rattle.tm_dd.specs.declared.node.NodeId.{NodeId as Id};
 
@@ -108,6 +108,108 @@ fn binary_operations_are_those_of_the_truth_tables(rt: HostRuntime) {
             check(&rt, &dd, g);
             let one = dd.xor(f, g, &mut steps).expect(&rt, "memory");
             assert!(rt; one == functions[a ^ b], "xor at {a} and {b}");
+        }
+    }
+}
+
+/// The table of `f` where the variable of this bit has the value of `g`.
+fn substituted(f: u8, g: u8, bit: u32) -> u8
+    requires { bit < 3 }
+{
+    let mut table = 0;
+    for row in 0..8u8 {
+        let without = row & !(1u8 << bit);
+        let at = (without | (g >> row & 1) << bit) % 8;
+        table |= (f >> at & 1) << row;
+    }
+    table
+}
+
+/// Fails where quantification over a level is not that of the table.
+fn check_quantified(
+    rt: &impl Abort,
+    dd: &mut Manager,
+    functions: &[NodeId; 256],
+    table: u8,
+    level: u32,
+)
+    requires { level < 3 }
+{
+    let bit = 2 - level;
+    let at_false = substituted(table, 0, bit);
+    let at_true = substituted(table, 255, bit);
+    let f = functions[table as usize];
+    check(rt, dd, f);
+    let some = dd.exists(f, &[level]).expect(rt, "memory");
+    assert!(rt;
+        some == functions[(at_false | at_true) as usize],
+        "exists at {table}"
+    );
+    check(rt, dd, f);
+    let all = dd.forall(f, &[level]).expect(rt, "memory");
+    assert!(rt;
+        all == functions[(at_false & at_true) as usize],
+        "forall at {table}"
+    );
+}
+
+/// Fails where if-then-else of two functions and the exclusive sum of both is not that of the tables.
+fn check_chosen(rt: &impl Abort, dd: &mut Manager, functions: &[NodeId; 256], a: u8, b: u8) {
+    let (f, g, h) = (
+        functions[a as usize],
+        functions[b as usize],
+        functions[(a ^ b) as usize],
+    );
+    check(rt, dd, f);
+    check(rt, dd, g);
+    check(rt, dd, h);
+    let chosen = dd.ite(f, g, h).expect(rt, "memory");
+    assert!(rt;
+        chosen == functions[(a & b | !a & (a ^ b)) as usize],
+        "ite at {a} and {b}"
+    );
+}
+
+/// Fails where substitution of one function for a level of another is not that of the tables.
+fn check_composed(
+    rt: &impl Abort,
+    dd: &mut Manager,
+    functions: &[NodeId; 256],
+    a: u8,
+    b: u8,
+    level: u32,
+)
+    requires { level < 3 }
+{
+    let (f, g) = (functions[a as usize], functions[b as usize]);
+    check(rt, dd, f);
+    check(rt, dd, g);
+    let composed = dd.compose(f, &[(level, g)]).expect(rt, "memory");
+    assert!(rt;
+        composed == functions[substituted(a, b, 2 - level) as usize],
+        "compose at {a} and {b}"
+    );
+}
+
+#[test]
+fn the_other_operations_are_those_of_the_truth_tables(rt: HostRuntime) {
+    let mut dd = Manager::new(rt.alloc(), 3).expect(&rt, "memory");
+    let mut steps = Steps::new(());
+    let mut variables = [FALSE; 3];
+    for level in 0..3u32 {
+        variables[2 - level as usize] = variable(&rt, &mut dd, level, &mut steps);
+    }
+    let mut functions = [FALSE; 256];
+    for table in 0..=255u8 {
+        functions[table as usize] = from_table(&rt, &mut dd, &variables, table);
+    }
+    for a in 0..=255u8 {
+        for level in 0..3u32 {
+            check_quantified(&rt, &mut dd, &functions, a, level);
+        }
+        for b in 0..=255u8 {
+            check_chosen(&rt, &mut dd, &functions, a, b);
+            check_composed(&rt, &mut dd, &functions, a, b, u32::from(a ^ b) % 3);
         }
     }
 }

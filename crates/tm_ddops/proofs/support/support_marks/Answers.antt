@@ -24,8 +24,7 @@ node-node-requires-clause-inner c =
 pub loop-id-preserved : goal.loop-id-preserved
 loop-id-preserved c =
     let s = c.args.store.now in
-    let node = c.node-node.ensures.is_node in
-    (
+    let node = c.node-node.ensures.is_node in (
       length-set c.loop-id.marks.items _ _ ∙ c.loop-id.invariant.0,
       marked_more (λ id. level_of s id.now) s.levels c.loop-id.marks.items c.loop-id.yielded c.in-Some.id c.node-node.result.level node.level
           (omega (arith, node.below, c.loop-id.invariant.0)) c.loop-id.invariant.1,
