@@ -23,7 +23,8 @@ abbrev pub first_values : SpecTree → List Var → List ℕ → Option (List �
 first_values spec [] [] = Some []
 first_values spec [] (c ∷ cs) = None
 first_values spec (v ∷ vs) choices =
-    option_and_then (λ n. option_map (λ ns. n.0 ∷ ns) (first_values spec vs n.1)) (value_or_choice v.init (type_size spec v.ty) choices)
+    option_and_then (λ n. option_map (λ ns. n.0 ∷ ns) (first_values spec vs n.1))
+    (value_or_choice v.init (type_size spec v.ty) choices)
 
 -- the state that these choices give to begin with
 pub record IsFirst (d : DesignTree) (choices : List ℕ) (s : StateData) : Type 0 where

@@ -20,7 +20,9 @@ magic_place _ = None
 -- the magic blocks of a list of statements, each with the statements behind it
 abbrev pub magic_blocks : Scope → List StmtTree → List Location
 magic_blocks scope [] = []
-magic_blocks scope (magic at ∷ others) = record { at = at; trail = []; is_magic = true; rest = map (perform scope []) others } ∷ magic_blocks scope others
+magic_blocks scope (magic at ∷ others) =
+    record { at = at; trail = []; is_magic = true; rest = map (perform scope []) others }
+    ∷ magic_blocks scope others
 magic_blocks scope (_ ∷ others) = magic_blocks scope others
 
 -- the statements of a process of a small design, with where they run
@@ -41,8 +43,10 @@ pub record IsTaskBody (d : DesignTree) (t : ℕ) (stmts : List StmtTree) : Type 
   pub is_small : AllByRecursion IsSmallStmt stmts
 
 -- what a move of a small design has to do: these statements, somewhere in the one instance
-pub record IsJob (d : DesignTree) (s : StateData) (move : Move) (stmts : List StmtTree) (mover : Option ℕ) (last : ℕ) : Type 0 where
+pub record IsJob (d : DesignTree) (s : StateData) (move : Move) (stmts : List StmtTree) (mover : Option ℕ)
+    (last : ℕ) : Type 0 where
   pub body : BodyName
   pub who : last < 2 + length d.processes
-  pub work : work d s move ≡ Some (record { items = map (perform (main_scope body) []) stmts; memory = memory_of s; mover = mover; last = last })
+  pub work : work d s move
+      ≡ Some (record { items = map (perform (main_scope body) []) stmts; memory = memory_of s; mover = mover; last = last })
   pub is_small : AllByRecursion IsSmallStmt stmts

@@ -30,7 +30,8 @@ assigned values (Some k) n = slice_set values k n
 -- a variable gets the next choice, which is 0 or 1
 abbrev pub chooses : Option ℕ → List ℕ → List ℕ → Progress
 chooses variable values [] = comes_to blocked
-chooses variable values (c ∷ cs) = if nat_lt c 2 then goes_on [] (plain_memory (assigned values variable c)) cs else comes_to blocked
+chooses variable values (c ∷ cs) =
+    if nat_lt c 2 then goes_on [] (plain_memory (assigned values variable c)) cs else comes_to blocked
 
 -- the location at which a halt leaves a process
 abbrev pub halt_number : DesignTree → ℕ → Halt → ℕ
@@ -46,4 +47,5 @@ places_after d places (Some p) h = slice_set places p (halt_number d p h)
 abbrev pub outcome_at : DesignTree → List ℕ → List ℕ → Option ℕ → ℕ → Halt → Outcome
 outcome_at d values places mover last halt.Failed = outcomes.Error
 outcome_at d values places mover last halt.Blocked = outcomes.NoOutcome
-outcome_at d values places mover last h = outcomes.Next (record { values = values; places = places_after d places mover h; last = last })
+outcome_at d values places mover last h =
+    outcomes.Next (record { values = values; places = places_after d places mover h; last = last })

@@ -19,25 +19,36 @@ pub record Location : Type 0 where
 
 -- the locations of a statement, given those of a call and what stands after the statement
 abbrev mutual
-  pub stmt_locations : (List Ident → List WorkItem → List Location) → Scope → List Place → StmtTree → List WorkItem → List Location
+  pub stmt_locations : (List Ident → List WorkItem → List Location) → Scope → List Place → StmtTree →
+      List WorkItem → List Location
   stmt_locations within scope trail (assign _ _ _) after = []
   stmt_locations within scope trail (invoke names _) after = within names after
-  stmt_locations within scope trail (branch _ first second) after = row_locations within scope trail first after ++ row_locations within scope trail second after
-  stmt_locations within scope trail (repeat at e body) after = row_locations within scope trail body (perform scope trail (repeat at e body) ∷ after)
-  stmt_locations within scope trail (forever at body) after = row_locations within scope trail body (perform scope trail (forever at body) ∷ after)
+  stmt_locations within scope trail (branch _ first second) after =
+      row_locations within scope trail first after ++ row_locations within scope trail second after
+  stmt_locations within scope trail (repeat at e body) after =
+      row_locations within scope trail body (perform scope trail (repeat at e body) ∷ after)
+  stmt_locations within scope trail (forever at body) after =
+      row_locations within scope trail body (perform scope trail (forever at body) ∷ after)
   stmt_locations within scope trail (choose _ blocks) after = block_locations within scope trail blocks after
   stmt_locations within scope trail (assert _ _) after = []
   stmt_locations within scope trail (assume _ _) after = []
-  stmt_locations within scope trail (pause at) after = record { at = at; trail = trail; is_magic = false; rest = after } ∷ []
-  stmt_locations within scope trail (wait at e) after = record { at = at; trail = trail; is_magic = false; rest = perform scope trail (assume at e) ∷ after } ∷ []
-  stmt_locations within scope trail (magic at) after = record { at = at; trail = trail; is_magic = true; rest = after } ∷ []
+  stmt_locations within scope trail (pause at) after =
+      record { at = at; trail = trail; is_magic = false; rest = after } ∷ []
+  stmt_locations within scope trail (wait at e) after =
+      record { at = at; trail = trail; is_magic = false; rest = perform scope trail (assume at e) ∷ after }
+      ∷ []
+  stmt_locations within scope trail (magic at) after =
+      record { at = at; trail = trail; is_magic = true; rest = after } ∷ []
 
-  pub row_locations : (List Ident → List WorkItem → List Location) → Scope → List Place → StmtRow → List WorkItem → List Location
+  pub row_locations : (List Ident → List WorkItem → List Location) → Scope → List Place → StmtRow →
+      List WorkItem → List Location
   row_locations within scope trail nothing after = []
   row_locations within scope trail (then first others) after =
-      stmt_locations within scope trail first (performs scope trail others ++ after) ++ row_locations within scope trail others after
+      stmt_locations within scope trail first (performs scope trail others ++ after)
+      ++ row_locations within scope trail others after
 
-  pub block_locations : (List Ident → List WorkItem → List Location) → Scope → List Place → BlockRow → List WorkItem → List Location
+  pub block_locations : (List Ident → List WorkItem → List Location) → Scope → List Place → BlockRow →
+      List WorkItem → List Location
   block_locations within scope trail nowhere after = []
   block_locations within scope trail (or_else first others) after =
       row_locations within scope trail first after ++ block_locations within scope trail others after
@@ -46,7 +57,9 @@ abbrev mutual
 abbrev pub body_locations : ℕ → DesignTree → Scope → List Place → BodyTree → List WorkItem → List Location
 body_locations zero d scope trail body after = []
 body_locations (suc depth) d scope trail body after =
-    row_locations (λ names left. option_map_or (λ callee. body_locations depth d callee.scope (call_place names ++ trail) callee.body left) (called d scope names) [])
+    row_locations (λ names left. option_map_or (λ callee.
+    body_locations depth d callee.scope (call_place names ++ trail) callee.body left)
+    (called d scope names) [])
     scope trail (row_of (body_stmts body)) after
 
 -- a process of a design: its scope and its body
@@ -57,7 +70,9 @@ pub record Thread : Type 0 where
 -- the process of this number
 abbrev pub thread : DesignTree → ℕ → Option Thread
 thread d p =
-    option_and_then (λ item. option_and_then (λ at. option_and_then (λ k. option_map (λ process. record { scope = record { instance = at.number; body = process_body k }; process = process })
+    option_and_then (λ item. option_and_then (λ at.
+    option_and_then (λ k. option_map (λ process.
+    record { scope = record { instance = at.number; body = process_body k }; process = process })
     (slice_get at.template.processes k)) item.index) (site d item.instance)) (slice_get d.processes p)
 
 -- how deep calls nest at most: no body reaches itself by calls

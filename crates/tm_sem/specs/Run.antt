@@ -39,7 +39,8 @@ at_end (c ∷ cs) e = blocked
 abbrev pub type_size : SpecTree → Ty → ℕ
 type_size spec types.Bool = 2
 type_size spec (types.Uint n) = 2 ^ n
-type_size spec (types.Enum name) = option_map_or (λ e. length e.constants) (find (λ e. is_spelled name e.name) spec.enums) 0
+type_size spec (types.Enum name) =
+    option_map_or (λ e. length e.constants) (find (λ e. is_spelled name e.name) spec.enums) 0
 
 -- the type that a target asks for
 abbrev pub asked_by : DesignTree → Option Cell → Ty
@@ -69,12 +70,17 @@ call_place (name ∷ names) = name.place ∷ []
 
 -- the memory in which the parameters of a body have the values of its arguments, which are valued first
 abbrev pub with_arguments : DesignTree → Scope → Memory → List Cell → List ExprTree → Memory
-with_arguments d scope m params args = fold (λ so_far p. put so_far p.0 (value d scope m (asked_by d (Some p.0)) p.1)) m (zip params args)
+with_arguments d scope m params args =
+    fold (λ so_far p. put so_far p.0 (value d scope m (asked_by d (Some p.0)) p.1)) m (zip params args)
 
 -- a call: the items of the body stand in front, and what it returns is put into a target if there is one
-abbrev pub calls : DesignTree → Scope → List Place → Memory → List ℕ → List Ident → List ExprTree → (Called → List WorkItem) → Progress
+abbrev pub calls : DesignTree → Scope → List Place → Memory → List ℕ → List Ident → List ExprTree →
+    (Called → List WorkItem) → Progress
 calls d scope trail m cs names args after =
-    option_map_or (λ callee. goes_on (body_items callee.scope (call_place names ++ trail) callee.body ++ after callee) (with_arguments d scope m callee.params args) cs)
+    option_map_or
+    (λ callee.
+    goes_on (body_items callee.scope (call_place names ++ trail) callee.body ++ after callee)
+    (with_arguments d scope m callee.params args) cs)
     (called d scope names) (comes_to blocked)
 
 -- what is put into a target after a body
@@ -84,12 +90,14 @@ returned target callee = map (deliver target callee.scope) (option_to_list calle
 -- the next choice numbers a value of a type
 abbrev pub chooses_value : DesignTree → Memory → Option Cell → List ℕ → Progress
 chooses_value d m target [] = comes_to blocked
-chooses_value d m target (c ∷ cs) = if nat_lt c (type_size d.spec (asked_by d target)) then goes_on [] (put_in m target c) cs else comes_to blocked
+chooses_value d m target (c ∷ cs) =
+    if nat_lt c (type_size d.spec (asked_by d target)) then goes_on [] (put_in m target c) cs else comes_to blocked
 
 -- the next choice numbers an alternative
 abbrev pub chooses_block : Scope → List Place → Memory → List StmtRow → List ℕ → Progress
 chooses_block scope trail m blocks [] = comes_to blocked
-chooses_block scope trail m blocks (c ∷ cs) = option_map_or (λ block. goes_on (performs scope trail block) m cs) (slice_get blocks c) (comes_to blocked)
+chooses_block scope trail m blocks (c ∷ cs) =
+    option_map_or (λ block. goes_on (performs scope trail block) m cs) (slice_get blocks c) (comes_to blocked)
 
 -- the expressions that what is assigned values
 abbrev pub valued_by : ValueTree → List ExprTree
@@ -115,12 +123,17 @@ assigns d scope trail m cs target (plain e) = goes_on [] (put_in m target (value
 
 -- what a statement does where none of its expressions overruns
 abbrev pub acts : DesignTree → Scope → List Place → Memory → List ℕ → StmtTree → Progress
-acts d scope trail m cs (assign names index v) = assigns d scope trail m cs (cell d scope names (option_map (index_value d scope m) index)) v
+acts d scope trail m cs (assign names index v) =
+    assigns d scope trail m cs (cell d scope names (option_map (index_value d scope m) index)) v
 acts d scope trail m cs (invoke names args) = calls d scope trail m cs names args (λ _. [])
-acts d scope trail m cs (branch e first second) = goes_on (performs scope trail (if holds_in d scope m e then first else second)) m cs
+acts d scope trail m cs (branch e first second) =
+    goes_on (performs scope trail (if holds_in d scope m e then first else second)) m cs
 acts d scope trail m cs (repeat at e body) =
-    goes_on (if holds_in d scope m e then performs scope trail body ++ perform scope trail (repeat at e body) ∷ [] else []) m cs
-acts d scope trail m cs (forever at body) = goes_on (performs scope trail body ++ perform scope trail (forever at body) ∷ []) m cs
+    goes_on
+    (if holds_in d scope m e then performs scope trail body ++ perform scope trail (repeat at e body) ∷ [] else [])
+    m cs
+acts d scope trail m cs (forever at body) =
+    goes_on (performs scope trail body ++ perform scope trail (forever at body) ∷ []) m cs
 acts d scope trail m cs (choose _ blocks) = chooses_block scope trail m (blocks_of blocks) cs
 acts d scope trail m cs (assert _ e) = if holds_in d scope m e then goes_on [] m cs else comes_to (at_end cs failed)
 acts d scope trail m cs (assume _ e) = if holds_in d scope m e then goes_on [] m cs else comes_to blocked
@@ -130,9 +143,14 @@ acts d scope trail m cs (magic at) = comes_to (at_end cs (stopped at trail m))
 
 -- what an item leads to; an overrun ends in error before the item takes a choice or assigns
 abbrev pub progress : DesignTree → Memory → List ℕ → WorkItem → Progress
-progress d m cs (perform scope trail s) = if list_any (overruns d scope m) (valued s) then comes_to (at_end cs failed) else acts d scope trail m cs s
+progress d m cs (perform scope trail s) =
+    if list_any (overruns d scope m) (valued s)
+    then comes_to (at_end cs failed)
+    else acts d scope trail m cs s
 progress d m cs (deliver target scope e) =
-    if overruns d scope m e then comes_to (at_end cs failed) else goes_on [] (put_in m target (value d scope m (asked_by d target) e)) cs
+    if overruns d scope m e
+    then comes_to (at_end cs failed)
+    else goes_on [] (put_in m target (value d scope m (asked_by d target) e)) cs
 
 -- items, from a memory and with these choices, come to an end
 pub data Run (d : DesignTree) : List WorkItem → Memory → List ℕ → Ending → Type 0 where

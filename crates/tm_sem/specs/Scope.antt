@@ -38,7 +38,8 @@ pub record Site : Type 0 where
 -- the instance of this number
 abbrev pub site : DesignTree → ℕ → Option Site
 site d i =
-    option_and_then (λ node. option_map (λ t. record { number = i; node = node; template = t }) (slice_get d.spec.templates node.template))
+    option_and_then (λ node. option_map (λ t. record { number = i; node = node; template = t })
+    (slice_get d.spec.templates node.template))
     (slice_get d.instances i)
 
 -- the instance in which a path from another one ends: every name but the last leads to an instance or a port
@@ -46,7 +47,8 @@ abbrev pub site_along : DesignTree → Site → List Ident → Option Site
 site_along d at [] = Some at
 site_along d at (name ∷ []) = Some at
 site_along d at (name ∷ next ∷ names) =
-    option_and_then (λ n. option_and_then (λ s. site_along d s (next ∷ names)) (site d n)) (neighbor at.node at.template name.text)
+    option_and_then (λ n. option_and_then (λ s. site_along d s (next ∷ names)) (site d n))
+    (neighbor at.node at.template name.text)
 
 -- the last name of a path
 abbrev pub last_name : List Ident → List ℕ
@@ -116,12 +118,15 @@ variable_path node name (Some k) = joined node.path name ++ 46 ∷ decimal k
 -- the cell of a parameter or local
 abbrev pub slot_cell : DesignTree → Scope → Site → Code → Slot → Option Cell
 slot_cell d scope at code slot =
-    if code.kept then variable_at d (joined at.node.path code.name ++ 46 ∷ slot.name) else Some (in_step scope slot.name slot.ty)
+    if code.kept
+    then variable_at d (joined at.node.path code.name ++ 46 ∷ slot.name)
+    else Some (in_step scope slot.name slot.ty)
 
 -- the parameter or local that a path of one name means
 abbrev pub own_cell : DesignTree → Scope → Site → List Ident → Option Cell
 own_cell d scope at (name ∷ []) =
-    option_and_then (λ code. option_and_then (slot_cell d scope at code) (slot_named code name.text)) (code_named d at scope.body)
+    option_and_then (λ code. option_and_then (slot_cell d scope at code) (slot_named code name.text))
+    (code_named d at scope.body)
 own_cell d scope at _ = None
 
 -- the variable or array element that a path means from an instance
@@ -132,7 +137,8 @@ member_cell d at path index =
 -- the cell that a path means in a body, with the index of an element: a parameter or local before a member
 abbrev pub cell : DesignTree → Scope → List Ident → Option ℕ → Option Cell
 cell d scope path index =
-    option_and_then (λ at. slice_get (option_to_list (own_cell d scope at path) ++ option_to_list (member_cell d at path index)) 0) (site d scope.instance)
+    option_and_then (λ at. slice_get (option_to_list (own_cell d scope at path)
+    ++ option_to_list (member_cell d at path index)) 0) (site d scope.instance)
 
 -- the type of what a cell holds
 abbrev pub cell_type : DesignTree → Cell → Option Ty
@@ -156,14 +162,18 @@ abbrev pub task_called : DesignTree → Site → ℕ → Option Called
 task_called d at k =
     option_map (λ task. record {
       scope = record { instance = at.number; body = task_body k };
-      params = filter_map (λ p. slot_cell d (record { instance = at.number; body = task_body k }) at (task_code d at.template task) (param_slot p)) task.params;
+      params = filter_map
+          (λ p.
+          slot_cell d (record { instance = at.number; body = task_body k }) at (task_code d at.template task) (param_slot p))
+          task.params;
       body = task.body;
     }) (slice_get at.template.tasks k)
 
 -- the task or procedure that a path means
 abbrev pub called : DesignTree → Scope → List Ident → Option Called
 called d scope path =
-    option_and_then (λ at. option_and_then (λ s. option_and_then (task_called d s) (position (λ task. is_spelled (last_name path) task.name) s.template.tasks))
+    option_and_then (λ at. option_and_then (λ s. option_and_then (task_called d s)
+    (position (λ task. is_spelled (last_name path) task.name) s.template.tasks))
     (site_along d at path)) (site d scope.instance)
 
 -- whether two body names are one

@@ -49,7 +49,8 @@ pub record Work : Type 0 where
 -- a process runs from its location, which is no magic block and not its end
 abbrev pub process_work : DesignTree → StateData → ℕ → Option Work
 process_work d s p =
-    then_some (nat_lt p (length d.processes) && nat_lt (slice_index s.places p) (end_number d p) && not (stands_at_magic d s p))
+    then_some
+    (nat_lt p (length d.processes) && nat_lt (slice_index s.places p) (end_number d p) && not (stands_at_magic d s p))
     (record { items = rest d p (slice_index s.places p); memory = memory_of s; mover = Some p; last = 2 + p })
 
 -- the driver leaves the magic block at which a process stands
@@ -61,24 +62,34 @@ leave_work d s p =
 -- whether the arguments of a call are as many as its parameters, each in its type
 abbrev pub arguments_fit : DesignTree → List Cell → List ℕ → Bool
 arguments_fit d params args =
-    nat_eq (length params) (length args) && list_all (λ p. nat_lt p.1 (type_size d.spec (asked_by d (Some p.0)))) (zip params args)
+    nat_eq (length params) (length args)
+    && list_all (λ p. nat_lt p.1 (type_size d.spec (asked_by d (Some p.0)))) (zip params args)
 
 -- a controllable task of a design, as a call runs it
 abbrev pub task_of : DesignTree → ℕ → Option Called
-task_of d t = option_and_then (λ item. option_and_then (λ at. option_and_then (task_called d at) item.index) (site d item.instance)) (slice_get d.tasks t)
+task_of d t =
+    option_and_then
+    (λ item. option_and_then (λ at. option_and_then (task_called d at) item.index) (site d item.instance))
+    (slice_get d.tasks t)
 
 -- the driver calls a controllable task
 abbrev pub call_work : DesignTree → StateData → ℕ → List ℕ → Option Work
 call_work d s t args =
     option_and_then (λ callee. then_some (is_driver_turn d s && arguments_fit d callee.params args)
-    (record { items = body_items callee.scope [] callee.body; memory = fold (λ m p. put m p.0 p.1) (memory_of s) (zip callee.params args); mover = None; last = 1 }))
+    (record {
+      items = body_items callee.scope [] callee.body;
+      memory = fold (λ m p. put m p.0 p.1) (memory_of s) (zip callee.params args);
+      mover = None;
+      last = 1;
+    }))
     (task_of d t)
 
 -- what a move has to do at a state, where the turn rule permits it
 abbrev pub work : DesignTree → StateData → Move → Option Work
 work d s moves.Stutter = Some (record { items = []; memory = memory_of s; mover = None; last = 0 })
 work d s (moves.Process p) = process_work d s p
-work d s moves.Idle = then_some (is_driver_turn d s) (record { items = []; memory = memory_of s; mover = None; last = 1 })
+work d s moves.Idle =
+    then_some (is_driver_turn d s) (record { items = []; memory = memory_of s; mover = None; last = 1 })
 work d s (moves.Leave p) = leave_work d s p
 work d s (moves.Call t args) = call_work d s t args
 
@@ -90,8 +101,17 @@ moved (Some p) s k = slice_set s.places p k
 -- what an end of the work leads to
 abbrev pub outcome_of : DesignTree → StateData → Work → Ending → Outcome
 outcome_of d s w (stopped at trail m) =
-    outcomes.Next (record { values = m.values; places = moved w.mover s (location_number d (unwrap_or w.mover 0) at trail); last = w.last })
-outcome_of d s w (finished m) = outcomes.Next (record { values = m.values; places = moved w.mover s (end_number d (unwrap_or w.mover 0)); last = w.last })
+    outcomes.Next (record {
+      values = m.values;
+      places = moved w.mover s (location_number d (unwrap_or w.mover 0) at trail);
+      last = w.last;
+    })
+outcome_of d s w (finished m) =
+    outcomes.Next (record {
+      values = m.values;
+      places = moved w.mover s (end_number d (unwrap_or w.mover 0));
+      last = w.last;
+    })
 outcome_of d s w failed = outcomes.Error
 outcome_of d s w blocked = outcomes.NoOutcome
 
@@ -117,7 +137,9 @@ is_driver_move _ = true
 
 -- a driver move is allowed where the driver can be picked, its arguments are in range and some choices give an outcome
 abbrev pub IsAllowed : DesignTree → StateData → Move → Type 0
-IsAllowed d s move = IsTrue (is_driver_move move) × (choices : List ℕ) × (o : Outcome) × Step d s move choices o × (o ≢ outcomes.NoOutcome)
+IsAllowed d s move =
+    IsTrue (is_driver_move move) × (choices : List ℕ) × (o : Outcome) × Step d s move choices o
+    × (o ≢ outcomes.NoOutcome)
 
 -- an outcome that is a state is a valid one
 abbrev pub LeadsToState : DesignTree → Outcome → Type 0

@@ -35,7 +35,9 @@ plain_memory values = record { values = values; passing = [] }
 -- the value in a cell; a parameter or local that has got none in this step has the value 0
 abbrev pub read : Memory → Cell → ℕ
 read m (in_state k) = slice_index m.values k
-read m (in_step scope name _) = option_map_or (λ p. p.value) (find (λ p. same_scope scope p.scope && pointwise nat_eq name p.name) m.passing) 0
+read m (in_step scope name _) =
+    option_map_or (λ p. p.value)
+    (find (λ p. same_scope scope p.scope && pointwise nat_eq name p.name) m.passing) 0
 
 -- the memory after a value was put into a cell
 abbrev pub put : Memory → Cell → ℕ → Memory
@@ -49,14 +51,17 @@ either_type (Some ty) _ = Some ty
 
 -- the type of a path that is the name of an enum constant
 abbrev pub constant_type : SpecTree → List Ident → Option Ty
-constant_type spec (name ∷ []) = option_map (λ e. types.Enum e.name.text) (find (λ e. list_any (is_spelled name.text) e.constants) spec.enums)
+constant_type spec (name ∷ []) =
+    option_map (λ e. types.Enum e.name.text)
+    (find (λ e. list_any (is_spelled name.text) e.constants) spec.enums)
 constant_type spec _ = None
 
 -- an expression's own type: a number has none, nor has what joins numbers alone
 abbrev pub own_type : DesignTree → Scope → ExprTree → Option Ty
 own_type d scope (truth _ _) = Some types.Bool
 own_type d scope (number _) = None
-own_type d scope (path names) = either_type (option_and_then (cell_type d) (cell d scope names None)) (constant_type d.spec names)
+own_type d scope (path names) =
+    either_type (option_and_then (cell_type d) (cell d scope names None)) (constant_type d.spec names)
 own_type d scope (group _ e) = own_type d scope e
 own_type d scope (unary _ Not _) = Some types.Bool
 own_type d scope (unary _ Complement e) = own_type d scope e
@@ -101,7 +106,8 @@ combined GreaterEqual w a b = bit (nat_le b a)
 combined AndAlso w a b = if a == 0 then 0 else b
 combined OrElse w a b = if a == 0 then b else 1
 
--- the type that an operator asks its operands for: its own where it gives a number, else the one of the two that is there
+-- the type that an operator asks its operands for: its own where it gives a number, else the one of the two that is
+-- there
 abbrev pub operand_type : DesignTree → Scope → BinaryOperator → Ty → ExprTree → ExprTree → Ty
 operand_type d scope AndAlso asked a b = types.Bool
 operand_type d scope OrElse asked a b = types.Bool
@@ -120,7 +126,8 @@ prefixed Complement w a = 2 ^ w - 1 - a
 -- the value of what a path means: of its cell, or of the enum constant
 abbrev pub path_value : DesignTree → Scope → Memory → List Ident → Option ℕ → ℕ
 path_value d scope m names index =
-    option_map_or (read m) (cell d scope names index) (unwrap_or (option_and_then (λ (name : Ident). constant_value d.spec name.text) (slice_get names 0)) 0)
+    option_map_or (read m) (cell d scope names index)
+    (unwrap_or (option_and_then (λ (name : Ident). constant_value d.spec name.text) (slice_get names 0)) 0)
 
 -- the value of an expression where its place asks for a type; an element past the end has the value 0
 abbrev pub value : DesignTree → Scope → Memory → Ty → ExprTree → ℕ
@@ -129,17 +136,23 @@ value d scope m asked (number n) = number_of n
 value d scope m asked (path names) = path_value d scope m names None
 value d scope m asked (group _ e) = value d scope m asked e
 value d scope m asked (unary _ op e) =
-    prefixed op (width (valued_in asked (own_type d scope e))) (value d scope m (valued_in asked (own_type d scope e)) e)
+    prefixed op (width (valued_in asked (own_type d scope e)))
+    (value d scope m (valued_in asked (own_type d scope e)) e)
 value d scope m asked (binary _ op a b) =
-    combined op (width (operand_type d scope op asked a b)) (value d scope m (operand_type d scope op asked a b) a) (value d scope m (operand_type d scope op asked a b) b)
+    combined op (width (operand_type d scope op asked a b))
+    (value d scope m (operand_type d scope op asked a b) a)
+    (value d scope m (operand_type d scope op asked a b) b)
 value d scope m asked (shift _ op e by) =
-    shifted op (width (valued_in asked (own_type d scope e))) (value d scope m (valued_in asked (own_type d scope e)) e) (number_of by)
+    shifted op (width (valued_in asked (own_type d scope e)))
+    (value d scope m (valued_in asked (own_type d scope e)) e) (number_of by)
 value d scope m asked (conditional _ test a b) =
-    if value d scope m types.Bool test == 0 then value d scope m (valued_in asked (either_type (own_type d scope a) (own_type d scope b))) b
+    if value d scope m types.Bool test == 0
+    then value d scope m (valued_in asked (either_type (own_type d scope a) (own_type d scope b))) b
     else value d scope m (valued_in asked (either_type (own_type d scope a) (own_type d scope b))) a
 value d scope m asked (cast _ to e) = value d scope m (valued_in asked (own_type d scope e)) e % 2 ^ number_of to
 value d scope m asked (element names e) =
-    option_map_or (read m) (cell d scope names (Some (value d scope m (valued_in (types.Uint 64) (own_type d scope e)) e))) 0
+    option_map_or (read m)
+    (cell d scope names (Some (value d scope m (valued_in (types.Uint 64) (own_type d scope e)) e))) 0
 
 -- whether a condition holds
 abbrev pub holds_in : DesignTree → Scope → Memory → ExprTree → Bool

@@ -15,7 +15,8 @@ use tm_syntax::tree::{ProcessDef, Stmt, TaskDef};
 
 /// The process of a number.
 fn process_def(design: &Design, number: usize) -> Option<&ProcessDef>
-    ensures { option_map (λ p. process_tree p.now) result ≡ option_map (λ t. t.process) (thread (design_tree design.now) number) }
+    ensures { option_map (λ p. process_tree p.now) result ≡ option_map (λ t. t.process)
+        (thread (design_tree design.now) number) }
 {
     let item = design.processes.get(number)?;
     let template = template_of(design, item.instance as usize)?;
@@ -24,7 +25,8 @@ fn process_def(design: &Design, number: usize) -> Option<&ProcessDef>
 
 /// The controllable task of a number.
 fn task_def(design: &Design, number: usize) -> Option<&TaskDef>
-    ensures { option_map (λ k. body_tree k.now.body) result ≡ option_map (λ c. c.body) (task_of (design_tree design.now) number) }
+    ensures { option_map (λ k. body_tree k.now.body) result ≡ option_map (λ c. c.body)
+        (task_of (design_tree design.now) number) }
 {
     let item = design.tasks.get(number)?;
     let template = template_of(design, item.instance as usize)?;
@@ -45,7 +47,8 @@ pub fn process_stmts(design: &Design, number: usize) -> &[Stmt]
 /// The statements of a controllable task.
 pub fn task_stmts(design: &Design, number: usize) -> Option<&[Stmt]>
     requires { IsSmall (design_tree design.now) }
-    ensures { MatchOption result (task_of (design_tree design.now) number ≡ None) (λ stmts. IsTaskBody (design_tree design.now) number (stmt_trees stmts.now)) }
+    ensures { MatchOption result (task_of (design_tree design.now) number ≡ None)
+        (λ stmts. IsTaskBody (design_tree design.now) number (stmt_trees stmts.now)) }
 {
     let task = task_def(design, number)?;
     Some(task.body.stmts.as_slice())

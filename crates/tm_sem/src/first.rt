@@ -57,8 +57,10 @@ fn first_value(declared: Option<u64>, choices: &[u64]) -> Option<(u64, &[u64])>
 /// The values of the variables: the declared ones, and the choices for the others, in order.
 fn first_values(alloc: Global, design: &Design, choices: &[u64]) -> Result<Vec<u64>, SemError>
     requires { IsSmall (design_tree design.now) }
-    ensures ok { IfOk result (λ values. values_of (design_tree design.now).spec design.now.vars.items choices.now ≡ Some values.items) }
-    ensures bad { result ≡ Err SemError.BadChoices → values_of (design_tree design.now).spec design.now.vars.items choices.now ≡ None }
+    ensures ok { IfOk result (λ values.
+        values_of (design_tree design.now).spec design.now.vars.items choices.now ≡ Some values.items) }
+    ensures bad { result ≡ Err SemError.BadChoices →
+        values_of (design_tree design.now).spec design.now.vars.items choices.now ≡ None }
 {
     let mut values = Vec::new(alloc);
     let mut left = choices;
@@ -83,7 +85,8 @@ fn first_values(alloc: Global, design: &Design, choices: &[u64]) -> Result<Vec<u
 pub fn first_state(alloc: Global, design: &Design, choices: &[u64]) -> Result<State, SemError>
     requires { IsSmall (design_tree design.now) }
     ensures ok { IfOk result (IsFirst (design_tree design.now) choices.now) }
-    ensures bad { result ≡ Err SemError.BadChoices → (s : StateData) → IsFirst (design_tree design.now) choices.now s → ⊥ }
+    ensures bad { result ≡ Err SemError.BadChoices → (s : StateData) →
+        IsFirst (design_tree design.now) choices.now s → ⊥ }
     ensures initial { IfOk result (IsInitial (design_tree design.now)) }
     ensures valid { IfOk result (IsState (design_tree design.now)) }
 {

@@ -39,7 +39,8 @@ pub fn magic_count(stmts: &[Stmt]) -> usize
 
 /// The statements behind the magic block of this number, from 0.
 pub fn behind_magic(stmts: &[Stmt], number: usize) -> Option<&[Stmt]>
-    ensures left { (scope : Scope) → option_map (λ left. map (perform scope []) (stmt_trees left.now)) result ≡ option_map (λ l. l.rest) (slice_get (magic_blocks scope (stmt_trees stmts.now)) number) }
+    ensures left { (scope : Scope) → option_map (λ left. map (perform scope []) (stmt_trees left.now)) result
+        ≡ option_map (λ l. l.rest) (slice_get (magic_blocks scope (stmt_trees stmts.now)) number) }
     ensures within { IfSome result (λ left. (index : ℕ) × (left.now ≡ drop index stmts.now)) }
 {
     let mut before = number;
@@ -62,7 +63,8 @@ fn is_same_place(left: Place, right: Place) -> bool
 
 /// How many magic blocks stand before the one at a place: all, if there is none.
 pub fn magics_before(stmts: &[Stmt], place: Place) -> usize
-    ensures before { (scope : Scope) → result ≡ position_or_len (is_location_at place []) (magic_blocks scope (stmt_trees stmts.now)) }
+    ensures before { (scope : Scope) → result ≡ position_or_len (is_location_at place [])
+        (magic_blocks scope (stmt_trees stmts.now)) }
     ensures few { result ≤ length stmts.now }
 {
     let mut before = 0;

@@ -28,7 +28,9 @@ fn goal_expr<'a>(design: &'a Design, goal: &Item) -> Option<&'a Expr>
 /// Whether a goal holds where the state variables have these values.
 fn item_holds(design: &Design, values: &[u64], goal: &Item) -> bool
     requires { IsSmall (design_tree design.now) }
-    ensures { result ≡ option_map_or (holds_in (design_tree design.now) (record { instance = goal.now.instance; body = outside }) (plain_memory values.now)) (expr_of (design_tree design.now) goal.now) true }
+    ensures { result ≡ option_map_or (holds_in (design_tree design.now)
+        (record { instance = goal.now.instance; body = outside }) (plain_memory values.now))
+        (expr_of (design_tree design.now) goal.now) true }
 {
     match goal_expr(design, goal) {
         Some(expr) => literal_value(design, values, expr) != 0,

@@ -50,7 +50,9 @@ fn is_driver_turn(design: &Design, state: &State) -> bool
 /// What a process has to do: its whole body, at its start.
 fn process_job<'a>(design: &'a Design, state: &State, process: u32) -> Option<Job<'a>>
     requires { IsSmall (design_tree design.now) }
-    ensures { MatchOption result (work (design_tree design.now) state.now (Move.Process process) ≡ None) (λ job. IsJob (design_tree design.now) state.now (Move.Process process) (stmt_trees job.stmts.now) job.mover job.last) }
+    ensures { MatchOption result (work (design_tree design.now) state.now (Move.Process process) ≡ None)
+        (λ job. IsJob (design_tree design.now) state.now (Move.Process process)
+        (stmt_trees job.stmts.now) job.mover job.last) }
 {
     let number = process as usize;
     if number >= design.processes.len() {
@@ -70,7 +72,9 @@ fn process_job<'a>(design: &'a Design, state: &State, process: u32) -> Option<Jo
 /// What the driver has to do to leave the magic block at which a process stands.
 fn leave_job<'a>(design: &'a Design, state: &State, process: u32) -> Option<Job<'a>>
     requires { IsSmall (design_tree design.now) }
-    ensures { MatchOption result (work (design_tree design.now) state.now (Move.Leave process) ≡ None) (λ job. IsJob (design_tree design.now) state.now (Move.Leave process) (stmt_trees job.stmts.now) job.mover job.last) }
+    ensures { MatchOption result (work (design_tree design.now) state.now (Move.Leave process) ≡ None)
+        (λ job. IsJob (design_tree design.now) state.now (Move.Leave process)
+        (stmt_trees job.stmts.now) job.mover job.last) }
 {
     let number = process as usize;
     let place = place_of(state, number) as usize;
@@ -87,7 +91,9 @@ fn leave_job<'a>(design: &'a Design, state: &State, process: u32) -> Option<Job<
 /// What the driver has to do to call a controllable task.
 fn call_job<'a>(design: &'a Design, state: &State, task: u32, args: &[u64]) -> Option<Job<'a>>
     requires { IsSmall (design_tree design.now) }
-    ensures { MatchOption result (work (design_tree design.now) state.now (Move.Call task args.now) ≡ None) (λ job. IsJob (design_tree design.now) state.now (Move.Call task args.now) (stmt_trees job.stmts.now) job.mover job.last) }
+    ensures { MatchOption result (work (design_tree design.now) state.now (Move.Call task args.now) ≡ None)
+        (λ job. IsJob (design_tree design.now) state.now (Move.Call task args.now)
+        (stmt_trees job.stmts.now) job.mover job.last) }
 {
     let stmts = task_stmts(design, task as usize)?;
     if args.is_empty() && is_driver_turn(design, state) {
@@ -104,7 +110,9 @@ fn call_job<'a>(design: &'a Design, state: &State, task: u32, args: &[u64]) -> O
 /// What a move has to do, where the turn rule permits it.
 fn job_of<'a>(design: &'a Design, state: &State, action: &Move) -> Option<Job<'a>>
     requires { IsSmall (design_tree design.now) }
-    ensures { MatchOption result (work (design_tree design.now) state.now action.now ≡ None) (λ job. IsJob (design_tree design.now) state.now action.now (stmt_trees job.stmts.now) job.mover job.last) }
+    ensures { MatchOption result (work (design_tree design.now) state.now action.now ≡ None)
+        (λ job. IsJob (design_tree design.now) state.now action.now
+        (stmt_trees job.stmts.now) job.mover job.last) }
 {
     match action {
         Move::Stutter => Some(Job {

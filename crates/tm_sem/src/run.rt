@@ -29,7 +29,9 @@ pub enum Halt {
 
 /// Gives the variable of a path a value, if there is one.
 pub fn assign(design: &Design, values: &mut Vec<u64>, path: &Name, value: u64)
-    ensures assigned { values.new.items ≡ assigned values.old.items (position (λ v. pointwise nat_eq path.now v.path) design.now.vars.items) value }
+    ensures assigned { values.new.items
+        ≡ assigned values.old.items (position (λ v.
+        pointwise nat_eq path.now v.path) design.now.vars.items) value }
     ensures keeps { value < 2 → KeepsTruths values.old.items values.new.items }
 {
     if let Some(number) = variable_of(design, path) {
@@ -57,7 +59,9 @@ fn choose<'a>(
     choices: &'a [u64],
     path: &Name,
 ) -> Result<&'a [u64], Halt>
-    ensures progress { progress_of result values.new.items ≡ chooses (position (λ v. pointwise nat_eq path.now v.path) design.now.vars.items) values.old.items choices.now }
+    ensures progress { progress_of result values.new.items
+        ≡ chooses (position (λ v.
+        pointwise nat_eq path.now v.path) design.now.vars.items) values.old.items choices.now }
     ensures keeps { KeepsTruths values.old.items values.new.items }
 {
     match choices {
@@ -79,7 +83,9 @@ pub fn perform<'a>(
 ) -> Result<&'a [u64], Halt>
     requires small { IsSmall (design_tree design.now) }
     requires stmt { IsSmallStmt (stmt_tree stmt.now) }
-    ensures progress { (body : BodyName) → progress (design_tree design.now) (plain_memory values.old.items) choices.now (perform (main_scope body) [] (stmt_tree stmt.now)) ≡ progress_of result values.new.items }
+    ensures progress { (body : BodyName) → progress (design_tree design.now)
+        (plain_memory values.old.items) choices.now (perform (main_scope body) [] (stmt_tree stmt.now))
+        ≡ progress_of result values.new.items }
     ensures keeps { AreTruths values.old.items → KeepsTruths values.old.items values.new.items }
 {
     match stmt {
@@ -108,7 +114,9 @@ pub fn perform<'a>(
 pub fn run(design: &Design, stmts: &[Stmt], values: &mut Vec<u64>, choices: &[u64]) -> Halt
     requires small { IsSmall (design_tree design.now) }
     requires stmts { AllByRecursion IsSmallStmt (stmt_trees stmts.now) }
-    ensures run { (body : BodyName) → Run (design_tree design.now) (map (perform (main_scope body) []) (stmt_trees stmts.now)) (plain_memory values.old.items) choices.now (ending_of result values.new.items) }
+    ensures run { (body : BodyName) → Run (design_tree design.now)
+        (map (perform (main_scope body) []) (stmt_trees stmts.now))
+        (plain_memory values.old.items) choices.now (ending_of result values.new.items) }
     ensures keeps { AreTruths values.old.items → KeepsTruths values.old.items values.new.items }
 {
     let mut left = choices;

@@ -12,7 +12,8 @@ use tm_syntax::tree::Template;
 
 /// The template of an instance.
 pub fn template_of(design: &Design, instance: usize) -> Option<&Template>
-    ensures { option_map (λ t. template_tree t.now) result ≡ option_map (λ at. at.template) (site (design_tree design.now) instance) }
+    ensures { option_map (λ t. template_tree t.now) result ≡ option_map (λ at. at.template)
+        (site (design_tree design.now) instance) }
 {
     let node = design.instances.get(instance)?;
     design.spec.templates.get(node.template as usize)

@@ -29,7 +29,8 @@ fn values_fit(design: &Design, values: &[u64]) -> bool
 /// Whether no place lies beyond the end of its process.
 fn places_are_within(design: &Design, places: &[u32]) -> bool
     requires { IsSmall (design_tree design.now) }
-    ensures { IsTrue result ↔ EachIndex places.now (λ p. slice_index places.now p ≤ end_number (design_tree design.now) p) }
+    ensures { IsTrue result ↔ EachIndex places.now (λ p. slice_index places.now p
+        ≤ end_number (design_tree design.now) p) }
 {
     for (number, place) in places.iter().enumerate() {
         if *place as usize > end_of(design, number) {
@@ -50,7 +51,8 @@ fn places_fit(design: &Design, places: &[u32]) -> bool
 /// Whether these values, places and last mover are a valid state.
 fn parts_fit(design: &Design, values: &[u64], places: &[u32], last: u32) -> bool
     requires { IsSmall (design_tree design.now) }
-    ensures { IsTrue result ↔ IsSmallState (design_tree design.now) (record { values = values.now; places = places.now; last = last }) }
+    ensures { IsTrue result ↔ IsSmallState (design_tree design.now)
+        (record { values = values.now; places = places.now; last = last }) }
 {
     if !values_fit(design, values) {
         return false;
@@ -61,7 +63,8 @@ fn parts_fit(design: &Design, values: &[u64], places: &[u32], last: u32) -> bool
     (last as usize) < 2 + design.processes.len()
 }
 
-/// Whether a state is a valid one of the design: the counts match, and every value, location and the last mover are in range.
+/// Whether a state is a valid one of the design: the counts match, and every value, location and the last mover are
+/// in range.
 pub fn fits(design: &Design, state: &State) -> bool
     requires { IsSmall (design_tree design.now) }
     ensures { IsTrue result ↔ IsState (design_tree design.now) state.now }

@@ -17,7 +17,8 @@ use tm_syntax::tree::{Expr, UnaryOperator};
 
 /// The value of the state variable of a path, 0 where there is none.
 pub fn variable_value(design: &Design, values: &[u64], path: &Name) -> u64
-    ensures value { result ≡ option_map_or (slice_index values.now) (position (λ v. pointwise nat_eq path.now v.path) design.now.vars.items) 0 }
+    ensures value { result ≡ option_map_or (slice_index values.now)
+        (position (λ v. pointwise nat_eq path.now v.path) design.now.vars.items) 0 }
     ensures truth { AreTruths values.now → result < 2 }
 {
     match variable_of(design, path) {
@@ -30,7 +31,8 @@ pub fn variable_value(design: &Design, values: &[u64], path: &Name) -> u64
 pub fn atom_value(design: &Design, values: &[u64], atom: &Expr) -> u64
     requires small { IsSmall (design_tree design.now) }
     requires atom { IsAtom (expr_tree atom.now) }
-    ensures value { (body : BodyName) → result ≡ value (design_tree design.now) (main_scope body) (plain_memory values.now) bool_type (expr_tree atom.now) }
+    ensures value { (body : BodyName) → result ≡ value (design_tree design.now) (main_scope body)
+        (plain_memory values.now) bool_type (expr_tree atom.now) }
     ensures truth { AreTruths values.now → result < 2 }
 {
     match atom {
@@ -47,7 +49,8 @@ pub fn atom_value(design: &Design, values: &[u64], atom: &Expr) -> u64
 pub fn literal_value(design: &Design, values: &[u64], literal: &Expr) -> u64
     requires small { IsSmall (design_tree design.now) }
     requires literal { IsLiteral (expr_tree literal.now) }
-    ensures value { (body : BodyName) → result ≡ value (design_tree design.now) (main_scope body) (plain_memory values.now) bool_type (expr_tree literal.now) }
+    ensures value { (body : BodyName) → result ≡ value (design_tree design.now) (main_scope body)
+        (plain_memory values.now) bool_type (expr_tree literal.now) }
     ensures truth { AreTruths values.now → result < 2 }
 {
     match literal {
