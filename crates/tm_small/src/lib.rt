@@ -76,9 +76,9 @@ fn design(alloc: Global, text: &[u8], tokens: &[Token]) -> Result<Design, Stop>
 }
 
 /// The design of a text of the small form: one template `main` of bools, controllable tasks without parameters, one
-/// process and at most one goal. `None` is for every other text, as one that is too long, that has a byte that begins no
-/// token, or that is above a limit. No contract rules it out for a text of the form: tests alone show what is read. The
-/// error is want of memory.
+/// process and at most one goal. `None` is for every other text, as one that is too long, that has a byte that begins
+/// no token, or that is above a limit. No contract rules it out for a text of the form: tests alone show what is read.
+/// The error is want of memory.
 pub fn read_small(alloc: Global, text: &[u8]) -> Result<Option<Design>, AllocError>
     ensures spelled { IfOk result (λ found. IfSome found (λ d. IsSmallText text.now (design_tree d))) }
     ensures small { IfOk result (λ found. IfSome found (λ d. IsSmall (design_tree d))) }
