@@ -1,9 +1,10 @@
 //! A temporary reader of small specifications, until the whole language is read.
 #![tactic(auto)]
 
-ghost use Rattle.std.specs.Prelude.{◌≡◌, ◌<◌, ◌≤◌, length, map, count_by, AllPairs, IfOk, IfSome};
+ghost use Rattle.std.specs.Prelude.{◌≡◌, ◌<◌, ◌≤◌, ℕ, List, length, map, count_by, AllPairs, IfOk, IfSome};
 ghost use Rattle.tm_syntax.specs.Tokens.{AreTokens};
 ghost use Rattle.tm_syntax.specs.View.{template_tree};
+ghost use Rattle.tm_syntax.specs.Design.{DesignTree};
 ghost use Rattle.tm_syntax.specs.DesignView.{design_tree};
 ghost use Rattle.tm_syntax.specs.Small.{IsSmall};
 ghost use Rattle.tm_small.specs.SmallText.{IsSmallText, is_star, declared_names};
@@ -98,3 +99,9 @@ pub fn read_small(alloc: Global, text: &[u8]) -> Result<Option<Design>, AllocErr
         Err(Stop::Memory) => Err(AllocError),
     }
 }
+
+/// A text spells one design, so what `read_small` answers is all that the definitions allow.
+pub fn small_designs_are_determined()
+    ensures { (text : List ℕ) (one other : DesignTree)
+        → IsSmallText text one → IsSmallText text other → one ≡ other }
+{}
