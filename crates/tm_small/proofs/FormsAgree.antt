@@ -147,8 +147,8 @@ stmt_ends (stmt_magic m p) k = let e = same_kind (mark_kind m) k refl in cc
 body_agree : {text : List ℕ} {j k : List (List ℕ)} {r s : Bool} {x y : BodyTree} {a b c d : List Token} → IsBody text j r x a b → IsBody text k s y c d → a ≡ c → (x ≡ y) × (b ≡ d)
 body_agree (braces m stmts p) (braces n stmts' q) e =
     let same = rows_agree (λ a. first_kind a ≡ Some (token.Sign sign.CloseBrace))
-        (record { agree = stmt_agree; ends = stmt_ends; other_ends = stmt_ends })
-        (row_of stmts) (row_of stmts') (mark_rest m n e) (mark_kind p) (mark_kind q) in
+    (record { agree = stmt_agree; ends = stmt_ends; other_ends = stmt_ends })
+    (row_of stmts) (row_of stmts') (mark_rest m n e) (mark_kind p) (mark_kind q) in
     ((λ i. record { locals = []; stmts = same.0 i; answer = None }), mark_rest p q same.1)
 
 var_kind : {text : List ℕ} {x : VarTree} {a b : List Token} → IsVar text x a b → first_kind a ≡ Some (token.Word word.Bool)
@@ -200,15 +200,21 @@ pub spec_agree : {text : List ℕ} {t u : TemplateTree} {a b c d : List Token} �
 spec_agree (template m name is_main vars tasks runs goals p) (template n name' is_main' vars' tasks' runs' goals' q) e =
     let names = name_agree name name' (mark_rest m n e) in
     let all_vars = rows_agree (λ a. ¬ (first_kind a ≡ Some (token.Word word.Bool)))
-        (record { agree = var_agree; ends = λ h none. none (var_kind h); other_ends = λ h none. none (var_kind h) })
-        (row_of vars) (row_of vars') names.1
-        (no_variable (row_of tasks) (process_kind runs)) (no_variable (row_of tasks') (process_kind runs')) in
+    (record { agree = var_agree; ends = λ h none. none (var_kind h); other_ends = λ h none. none (var_kind h) })
+    (row_of vars) (row_of vars') names.1
+    (no_variable (row_of tasks) (process_kind runs)) (no_variable (row_of tasks') (process_kind runs')) in
     let all_tasks = rows_agree (λ a. first_kind a ≡ Some (token.Word word.Process))
-        (record { agree = task_agree; ends = task_ends; other_ends = task_ends })
-        (row_of tasks) (row_of tasks') all_vars.1 (process_kind runs) (process_kind runs') in
+    (record { agree = task_agree; ends = task_ends; other_ends = task_ends })
+    (row_of tasks) (row_of tasks') all_vars.1 (process_kind runs) (process_kind runs') in
     let processes = process_agree runs runs' all_tasks.1 in
     let all_goals = goals_agree goals goals' processes.1 (mark_kind p) (mark_kind q) in
     λ i. record {
-      name = names.0 i; ports = []; instances = []; vars = all_vars.0 i;
-      goals = all_goals.0 i; fairs = []; processes = processes.0 i ∷ []; tasks = all_tasks.0 i;
+      name = names.0 i;
+      ports = [];
+      instances = [];
+      vars = all_vars.0 i;
+      goals = all_goals.0 i;
+      fairs = [];
+      processes = processes.0 i ∷ [];
+      tasks = all_tasks.0 i;
     }

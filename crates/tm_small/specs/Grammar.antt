@@ -127,6 +127,12 @@ pub data IsSpec (text : List ℕ) : TemplateTree → List Token → List Token �
       IsProcess text (var_names vars) process e f → AreGoals text (var_names vars) goals f g →
       IsMark (token.Word word.EndTemplate) q g h →
       IsSpec text (record {
-        name = name; ports = []; instances = []; vars = vars;
-        goals = goals; fairs = []; processes = process ∷ []; tasks = tasks;
+        name = name;
+        ports = [];
+        instances = [];
+        vars = vars;
+        goals = goals;
+        fairs = [];
+        processes = process ∷ [];
+        tasks = tasks;
       }) a h
