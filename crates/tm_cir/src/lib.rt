@@ -1,6 +1,12 @@
 //! A driver as blocks of C, and the driver's answer at a state.
 #![tactic(auto)]
 
+ghost use Rattle.std.specs.Prelude.{◌≡◌, ℕ, List};
+ghost use Rattle.tm_sem.specs.State.{StateData};
+ghost use Rattle.tm_sem.specs.declared.state.Move.{Move};
+ghost use Rattle.tm_cir.specs.Tree.{BlockTree};
+ghost use Rattle.tm_cir.specs.Answer.{Answers};
+
 mod answering;
 pub mod block;
 mod blocks;
@@ -13,6 +19,13 @@ pub use answering::answer;
 pub use block::{Block, Num64, Truth};
 pub use blocks::Blocks;
 pub use small_driver::read_small_driver;
+
+/// Blocks have one answer at a state, so what `answer` answers is all that the definitions allow.
+#[tactic(auto, using(crate::proofs::Determined::one_answer))]
+pub fn answers_are_determined()
+    ensures { (bs : List BlockTree) (s : StateData) (goal : ℕ) (one other : Move)
+        → Answers bs s goal one → Answers bs s goal other → one ≡ other }
+{}
 
 #[cfg(test)]
 mod tests;
