@@ -10,7 +10,8 @@ ghost use Rattle.tm_cir.specs.SmallText.{name_byte, item_name, token_text, is_si
 use std::alloc::{AllocError, Global};
 use tm_syntax::design::Design;
 
-/// A token, as far as small drivers have it: words, signs, constants, and the names of labels and of the design's items.
+/// A token, as far as small drivers have it: words, signs, constants, and the names of labels and of the design's
+/// items.
 #[derive(Clone, Copy, Debug, PartialEq, Eq)]
 pub enum Token {
     Void,
