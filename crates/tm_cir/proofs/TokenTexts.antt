@@ -1,5 +1,5 @@
 -- A text begins with one token, so it is one list of tokens: the token is read back from the first bytes.
-use Rattle.std.proofs.Common.{◌≡◌, ℕ, ◌+◌, ◌*◌, ◌^◌, ◌<◌, Bool, true, false, cond, ltb, eqb, Option, None, Some, option_map, ◌==◌, ◌&&◌, ◌||◌, ◌⊎◌, List, [], ◌∷◌, ◌++◌, map, length, get_or, drop, codes, refl, ap, ap₂, sym, subst, ◌∙◌, ⊎_elim, true≢false, append_assoc, lt-ltb, ltb-true, le-leb, arith}
+use Rattle.std.proofs.Common.{◌≡◌, ℕ, ◌+◌, ◌*◌, ◌^◌, ◌<◌, Bool, true, false, cond, ltb, Option, None, Some, option_map, ◌==◌, ◌&&◌, ◌||◌, ◌⊎◌, List, [], ◌∷◌, ◌++◌, map, length, get_or, drop, codes, refl, ap, ap₂, sym, subst, ◌∙◌, ⊎_elim, true≢false, append_assoc, lt-ltb, ltb-true, le-leb, arith}
 use Rattle.std.specs.Fmt.{decimal}
 use Rattle.std.specs.Char.{digit_value}
 use Rattle.std.specs.Int.{is_in_range}
@@ -54,11 +54,13 @@ token_in_front text =
     cond (begins_digit text) (Some (Constant (number_in_front text)))
     (sign_or_word (get_or text 0 0) (begins_digit (drop 1 text)) (number_in_front (drop 1 text)))
 
-number_is : (n : ℕ) (ds rest : List ℕ) → AllDigits 10 ds → begins_digit rest ≡ false → number_after n (ds ++ rest) ≡ digits_value_after 10 n ds
+number_is : (n : ℕ) (ds rest : List ℕ) → AllDigits 10 ds → begins_digit rest ≡ false →
+    number_after n (ds ++ rest) ≡ digits_value_after 10 n ds
 number_is n [] [] digits ends = refl
 number_is n [] (b ∷ bs) digits ends = ap (λ (v : Bool). cond v (number_after (n * 10 + digit_value b) bs) n) ends
 number_is n (c ∷ cs) rest digits ends =
-    ap (λ (v : Bool). cond v (number_after (n * 10 + digit_value c) (cs ++ rest)) n) (lt-ltb (digit_value c) 10 digits.0)
+    ap (λ (v : Bool). cond v (number_after (n * 10 + digit_value c) (cs ++ rest)) n)
+    (lt-ltb (digit_value c) 10 digits.0)
     ∙ number_is (n * 10 + digit_value c) cs rest digits.1 ends
 
 digit_is : (ds rest : List ℕ) → 0 < length ds → AllDigits 10 ds → begins_digit (ds ++ rest) ≡ true
@@ -75,7 +77,8 @@ digit_read k rest small = let is = decimal_is_IsNumeral k small in digit_is (dec
 digit_continues : (b : ℕ) → digit_value b < 10 → continues_name b ≡ true
 digit_continues b small =
     let within = digit_from_value b small in
-    ap₂ (λ (p q : Bool). (((p && q) || is_in_range 65 90 b) || is_in_range 97 122 b) || b == 95) (le-leb 48 b within.0) (le-leb b 57 within.1)
+    ap₂ (λ (p q : Bool). (((p && q) || is_in_range 65 90 b) || is_in_range 97 122 b) || b == 95)
+    (le-leb 48 b within.0) (le-leb b 57 within.1)
 
 -- a byte that continues no name is no digit
 no_digit : (rest : List ℕ) → BeginsNoWord rest → begins_digit rest ≡ false
@@ -90,22 +93,25 @@ no_digit (b ∷ bs) ends = of (is_digit b) refl
 numbered : (k : ℕ) (more rest : List ℕ) → k < 2 ^ 64 → begins_digit (more ++ rest) ≡ false →
     (begins_digit ((decimal k ++ more) ++ rest) ≡ true) × (number_in_front ((decimal k ++ more) ++ rest) ≡ k)
 numbered k more rest small ends =
-    subst (λ (text : List ℕ). (begins_digit text ≡ true) × (number_in_front text ≡ k)) (sym (append_assoc (decimal k) more rest))
+    subst (λ (text : List ℕ). (begins_digit text ≡ true) × (number_in_front text ≡ k))
+    (sym (append_assoc (decimal k) more rest))
     (digit_read k (more ++ rest) small, number_read k (more ++ rest) small ends)
 
 pub same_inside : {A : Type 0} {a b : A} → Some a ≡ Some b → a ≡ b
 same_inside same = cc
 
 -- the token in front is this one, if it is so of the bytes that spell it
-spelled_so : (word bytes rest : List ℕ) (t : Token) → Some word ≡ Some bytes → token_in_front (word ++ rest) ≡ Some t → token_in_front (bytes ++ rest) ≡ Some t
-spelled_so word bytes rest t same reads = subst (λ (w : List ℕ). token_in_front (w ++ rest) ≡ Some t) (same_inside same) reads
+spelled_so : (word bytes rest : List ℕ) (t : Token) → Some word ≡ Some bytes →
+    token_in_front (word ++ rest) ≡ Some t → token_in_front (bytes ++ rest) ≡ Some t
+spelled_so word bytes rest t same reads =
+    subst (λ (w : List ℕ). token_in_front (w ++ rest) ≡ Some t) (same_inside same) reads
 
 word_ends : (rest : List ℕ) → (false ≡ true) ⊎ BeginsNoWord rest → begins_digit rest ≡ false
 word_ends rest ends = ⊎_elim (λ no. absurd (true≢false (sym no))) (λ none. no_digit rest none) ends
 
 -- an item's name gives the item's number
-item_read : {A : Type 0} (path : A → List ℕ) (letter k : ℕ) (item : Option A) (bytes rest : List ℕ) (t : Token) → k < 2 ^ 64 →
-    option_map (λ (a : A). item_name letter k (path a)) item ≡ Some bytes →
+item_read : {A : Type 0} (path : A → List ℕ) (letter k : ℕ) (item : Option A) (bytes rest : List ℕ) (t : Token) →
+    k < 2 ^ 64 → option_map (λ (a : A). item_name letter k (path a)) item ≡ Some bytes →
     ((more : List ℕ) → begins_digit more ≡ true → number_in_front more ≡ k → token_in_front (letter ∷ more) ≡ Some t) →
     token_in_front (bytes ++ rest) ≡ Some t
 item_read path letter k None bytes rest t small spelled reads = cc
@@ -115,17 +121,20 @@ item_read path letter k (Some a) bytes rest t small spelled reads =
     (reads ((decimal k ++ 95 ∷ map name_byte (path a)) ++ rest) behind.0 behind.1)
 
 -- the token that a text begins with is the one in front
-pub token_read : (d : DesignTree) (t : Token) (bytes rest : List ℕ) → token_number t < 2 ^ 64 → token_text d t ≡ Some bytes → (is_sign t ≡ true) ⊎ BeginsNoWord rest →
-    token_in_front (bytes ++ rest) ≡ Some t
+pub token_read : (d : DesignTree) (t : Token) (bytes rest : List ℕ) → token_number t < 2 ^ 64 →
+    token_text d t ≡ Some bytes → (is_sign t ≡ true) ⊎ BeginsNoWord rest → token_in_front (bytes ++ rest) ≡ Some t
 token_read d Void bytes rest small spelled ends = spelled_so (codes "void") bytes rest Void spelled refl
-token_read d DriverTurn bytes rest small spelled ends = spelled_so (codes "driver_turn") bytes rest DriverTurn spelled refl
+token_read d DriverTurn bytes rest small spelled ends =
+    spelled_so (codes "driver_turn") bytes rest DriverTurn spelled refl
 token_read d If bytes rest small spelled ends = spelled_so (codes "if") bytes rest If spelled refl
 token_read d Else bytes rest small spelled ends = spelled_so (codes "else") bytes rest Else spelled refl
 token_read d Goto bytes rest small spelled ends = spelled_so (codes "goto") bytes rest Goto spelled refl
 token_read d Return bytes rest small spelled ends = spelled_so (codes "return") bytes rest Return spelled refl
-token_read d TermiteLeave bytes rest small spelled ends = spelled_so (codes "termite_leave") bytes rest TermiteLeave spelled refl
+token_read d TermiteLeave bytes rest small spelled ends =
+    spelled_so (codes "termite_leave") bytes rest TermiteLeave spelled refl
 token_read d (Label k) bytes rest small spelled ends =
-    spelled_so (codes "L" ++ decimal k) bytes rest (Label k) spelled (ap (λ (n : ℕ). Some (Label n)) (number_read k rest small (word_ends rest ends)))
+    spelled_so (codes "L" ++ decimal k) bytes rest (Label k) spelled
+    (ap (λ (n : ℕ). Some (Label n)) (number_read k rest small (word_ends rest ends)))
 token_read d (Variable k) bytes rest small spelled ends =
     item_read (λ (v : Var). v.path) 118 k _ bytes rest (Variable k) small spelled
     (λ more digit number. ap₂ (λ (v : Bool) (n : ℕ). cond v (Some (Variable n)) (Some Void)) digit number)
@@ -134,11 +143,14 @@ token_read d (Task k) bytes rest small spelled ends =
     (λ more digit number. ap₂ (λ (v : Bool) (n : ℕ). cond v (Some (Task n)) (Some TermiteLeave)) digit number)
 token_read d (Constant k) bytes rest small spelled ends =
     let text = (decimal k ++ codes "ULL") ++ rest in
+    let other = sign_or_word (get_or text 0 0) (begins_digit (drop 1 text)) (number_in_front (drop 1 text)) in
     let front = numbered k (codes "ULL") rest small refl in
     spelled_so (decimal k ++ codes "ULL") bytes rest (Constant k) spelled
-    (ap₂ (λ (v : Bool) (n : ℕ). cond v (Some (Constant n)) (sign_or_word (get_or text 0 0) (begins_digit (drop 1 text)) (number_in_front (drop 1 text)))) front.0 front.1)
-token_read d OpenParenthesis bytes rest small spelled ends = spelled_so (codes "(") bytes rest OpenParenthesis spelled refl
-token_read d CloseParenthesis bytes rest small spelled ends = spelled_so (codes ")") bytes rest CloseParenthesis spelled refl
+    (ap₂ (λ (v : Bool) (n : ℕ). cond v (Some (Constant n)) other) front.0 front.1)
+token_read d OpenParenthesis bytes rest small spelled ends =
+    spelled_so (codes "(") bytes rest OpenParenthesis spelled refl
+token_read d CloseParenthesis bytes rest small spelled ends =
+    spelled_so (codes ")") bytes rest CloseParenthesis spelled refl
 token_read d OpenBrace bytes rest small spelled ends = spelled_so (codes "{") bytes rest OpenBrace spelled refl
 token_read d CloseBrace bytes rest small spelled ends = spelled_so (codes "}") bytes rest CloseBrace spelled refl
 token_read d Colon bytes rest small spelled ends = spelled_so (codes ":") bytes rest Colon spelled refl
