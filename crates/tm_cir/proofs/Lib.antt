@@ -1,2 +1,6 @@
+pub mod Determined
+pub mod DriverTexts
 pub mod Following
 pub mod SmallLemmas
+pub mod TokenLists
+pub mod TokenTexts

@@ -19,7 +19,8 @@ abbrev mutual
   FitsNum vars processes (complement a) = FitsNum vars processes a
   FitsNum vars processes (binary op a b) = FitsNum vars processes a × FitsNum vars processes b
   FitsNum vars processes (shift op a by) = FitsNum vars processes a × (by < 64)
-  FitsNum vars processes (conditional t a b) = FitsTruth vars processes t × FitsNum vars processes a × FitsNum vars processes b
+  FitsNum vars processes (conditional t a b) =
+      FitsTruth vars processes t × FitsNum vars processes a × FitsNum vars processes b
 
   pub FitsTruth : ℕ → ℕ → TruthTree → Type 0
   FitsTruth vars processes (num n) = FitsNum vars processes n
@@ -30,7 +31,9 @@ abbrev mutual
 -- the task that an item of a design stands for, as its template declares it
 abbrev pub declared_task : DesignTree → Item → Option TaskTree
 declared_task d item =
-    option_and_then (λ node. option_and_then (λ t. option_and_then (slice_get t.tasks) item.index) (slice_get d.spec.templates node.template))
+    option_and_then
+    (λ node.
+    option_and_then (λ t. option_and_then (slice_get t.tasks) item.index) (slice_get d.spec.templates node.template))
     (slice_get d.instances item.instance)
 
 -- the number of parameters of a controllable task
@@ -43,8 +46,11 @@ IsLater at count target = (at < target) × (target < count)
 
 -- a block fits a design at its place among so many
 abbrev pub FitsBlock : DesignTree → ℕ → ℕ → BlockTree → Type 0
-FitsBlock d count at (test t first second) = FitsTruth (length d.vars) (length d.processes) t × IsLater at count first × IsLater at count second
-FitsBlock d count at (call task args) = (parameter_count d task ≡ Some (length args)) × (length args ≤ MOST_ARGUMENTS) × All (FitsNum (length d.vars) (length d.processes)) args
+FitsBlock d count at (test t first second) =
+    FitsTruth (length d.vars) (length d.processes) t × IsLater at count first × IsLater at count second
+FitsBlock d count at (call task args) =
+    (parameter_count d task ≡ Some (length args)) × (length args ≤ MOST_ARGUMENTS)
+    × All (FitsNum (length d.vars) (length d.processes)) args
 FitsBlock d count at (leave p) = p < length d.processes
 FitsBlock d count at idle = Unit {0}
 

@@ -1,6 +1,6 @@
 -- The C text of a small driver: each test is of one bool variable, and calls have no arguments. The text is tokens
 -- with any blanks before, between and behind them (ISO/IEC 9899:2011, 6.4).
-use Rattle.std.specs.Prelude.{◌≡◌, ℕ, ◌+◌, ◌≤◌, Bool, true, false, Option, Some, List, [], ◌∷◌, ◌++◌, ◌==◌, ◌⊎◌, map, length, codes, slice_get, if◌then◌else◌}
+use Rattle.std.specs.Prelude.{◌≡◌, ℕ, ◌+◌, ◌^◌, ◌<◌, ◌≤◌, Bool, true, false, Option, Some, List, [], ◌∷◌, ◌++◌, ◌==◌, ◌⊎◌, map, length, codes, slice_get, if◌then◌else◌}
 use Rattle.std.specs.Fmt.{decimal}
 use Rattle.std.specs.Option.{option_map}
 use Rattle.tm_syntax.specs.declared.design.Var.{Var}
@@ -57,9 +57,19 @@ abbrev pub BeginsNoWord : List ℕ → Type 0
 BeginsNoWord [] = Unit {0}
 BeginsNoWord (b ∷ bs) = continues_name b ≡ false
 
--- the text begins with this token; a word or a constant ends where no further letter, digit or `_` follows
+-- the number in a token, where it has one
+abbrev pub token_number : Token → ℕ
+token_number (Label k) = k
+token_number (Variable k) = k
+token_number (Task k) = k
+token_number (Constant n) = n
+token_number _ = 0
+
+-- the text begins with this token, whose number has at most 64 bits; a word or a constant ends where no further
+-- letter, digit or `_` follows
 pub record BeginsWith (d : DesignTree) (text : List ℕ) (t : Token) (rest : List ℕ) : Type 0 where
   pub bytes : List ℕ
+  pub small : token_number t < 2 ^ 64
   pub spelled : token_text d t ≡ Some bytes
   pub ends : (is_sign t ≡ true) ⊎ BeginsNoWord rest
   pub whole : text ≡ bytes ++ rest
@@ -67,8 +77,10 @@ pub record BeginsWith (d : DesignTree) (text : List ℕ) (t : Token) (rest : Lis
 -- the bytes are these tokens, with blanks before, between and behind them
 pub data AreTokens (d : DesignTree) : List ℕ → List Token → Type 0 where
   no_more : AreTokens d [] []
-  blank : {b : ℕ} {text : List ℕ} {ts : List Token} → is_blank b ≡ true → AreTokens d text ts → AreTokens d (b ∷ text) ts
-  token : {t : Token} {text rest : List ℕ} {ts : List Token} → BeginsWith d text t rest → AreTokens d rest ts → AreTokens d text (t ∷ ts)
+  blank : {b : ℕ} {text : List ℕ} {ts : List Token} →
+      is_blank b ≡ true → AreTokens d text ts → AreTokens d (b ∷ text) ts
+  token : {t : Token} {text rest : List ℕ} {ts : List Token} →
+      BeginsWith d text t rest → AreTokens d rest ts → AreTokens d text (t ∷ ts)
 
 -- a variable of type bool
 abbrev pub IsBool : DesignTree → ℕ → Type 0
@@ -78,11 +90,18 @@ IsBool d k = option_map (λ (v : Var). v.ty) (slice_get d.vars k) ≡ Some types
 pub data IsBlock (d : DesignTree) (label : ℕ) : List Token → BlockTree → Type 0 where
   tests : {k first second : ℕ} → IsBool d k →
       IsBlock d label
-      (Label label ∷ Colon ∷ If ∷ OpenParenthesis ∷ Variable k ∷ CloseParenthesis ∷ Goto ∷ Label first ∷ Semicolon ∷ Else ∷ Goto ∷ Label second ∷ Semicolon ∷ [])
+      (Label label ∷ Colon ∷ If ∷ OpenParenthesis ∷ Variable k ∷ CloseParenthesis
+      ∷ Goto ∷ Label first ∷ Semicolon ∷ Else ∷ Goto ∷ Label second ∷ Semicolon ∷ [])
       (test (num (var k)) first second)
-  calls : {k : ℕ} → IsBlock d label (Label label ∷ Colon ∷ Task k ∷ OpenParenthesis ∷ CloseParenthesis ∷ Semicolon ∷ Return ∷ Semicolon ∷ []) (call k [])
+  calls : {k : ℕ} →
+      IsBlock d label
+      (Label label ∷ Colon ∷ Task k ∷ OpenParenthesis ∷ CloseParenthesis ∷ Semicolon ∷ Return ∷ Semicolon ∷ [])
+      (call k [])
   leaves : {p : ℕ} →
-      IsBlock d label (Label label ∷ Colon ∷ TermiteLeave ∷ OpenParenthesis ∷ Constant p ∷ CloseParenthesis ∷ Semicolon ∷ Return ∷ Semicolon ∷ []) (leave p)
+      IsBlock d label
+      (Label label ∷ Colon ∷ TermiteLeave ∷ OpenParenthesis ∷ Constant p ∷ CloseParenthesis ∷ Semicolon
+      ∷ Return ∷ Semicolon ∷ [])
+      (leave p)
   idles : IsBlock d label (Label label ∷ Colon ∷ Return ∷ Semicolon ∷ []) idle
 
 -- the tokens begin with the block with this label, and then come the rest

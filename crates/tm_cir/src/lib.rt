@@ -1,6 +1,14 @@
 //! A driver as blocks of C, and the driver's answer at a state.
 #![tactic(auto)]
 
+ghost use Rattle.std.specs.Prelude.{◌≡◌, ℕ, List};
+ghost use Rattle.tm_syntax.specs.Design.{DesignTree};
+ghost use Rattle.tm_sem.specs.State.{StateData};
+ghost use Rattle.tm_sem.specs.declared.state.Move.{Move};
+ghost use Rattle.tm_cir.specs.Tree.{BlockTree};
+ghost use Rattle.tm_cir.specs.Answer.{Answers};
+ghost use Rattle.tm_cir.specs.SmallText.{IsSmallDriverText};
+
 mod answering;
 pub mod block;
 mod blocks;
@@ -13,6 +21,19 @@ pub use answering::answer;
 pub use block::{Block, Num64, Truth};
 pub use blocks::Blocks;
 pub use small_driver::read_small_driver;
+
+/// Blocks have one answer at a state, so what `answer` answers is all that the definitions allow.
+#[tactic(auto, using(crate::proofs::Determined::one_answer))]
+pub fn answers_are_determined()
+    ensures { (bs : List BlockTree) (s : StateData) (goal : ℕ) (one other : Move)
+        → Answers bs s goal one → Answers bs s goal other → one ≡ other }
+{}
+
+/// A text spells one list of blocks over a design, so what `read_small_driver` answers is all that the definitions allow.
+pub fn small_drivers_are_determined()
+    ensures { (d : DesignTree) (text : List ℕ) (one other : List BlockTree)
+        → IsSmallDriverText d text one → IsSmallDriverText d text other → one ≡ other }
+{}
 
 #[cfg(test)]
 mod tests;

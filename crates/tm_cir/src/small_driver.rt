@@ -28,7 +28,8 @@ pub fn read_small_driver(
     design: &Design,
     text: &[u8],
 ) -> Result<Option<Blocks>, AllocError>
-    ensures { IfOk result (λ found. IfSome found (λ blocks. IsSmallDriverText (design_tree design.now) text.now (trees_of blocks))) }
+    ensures { IfOk result (λ found.
+        IfSome found (λ blocks. IsSmallDriverText (design_tree design.now) text.now (trees_of blocks))) }
 {
     if text.len() > MOST_BYTES {
         return Ok(None);
@@ -90,7 +91,8 @@ fn blocks_of(
     design: &Design,
     tokens: &[Token],
 ) -> Result<Option<Vec<Block>>, AllocError>
-    ensures { IfOk result (λ found. IfSome found (λ blocks. IsFunction (design_tree design.now) tokens.now (block_trees blocks.items))) }
+    ensures { IfOk result (λ found.
+        IfSome found (λ blocks. IsFunction (design_tree design.now) tokens.now (block_trees blocks.items))) }
 {
     let head = [
         Token::Void,

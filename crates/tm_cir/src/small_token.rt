@@ -1,16 +1,17 @@
 //! The tokens of a small driver's text. Temporary, until the whole C reader is there.
-ghost use Rattle.std.specs.Prelude.{◌≡◌, ◌<◌, ◌≤◌, Some, ◌++◌, ◌∷◌, [], true, length, map, drop, IfOk, IfSome, IsTrue, MatchOption};
+ghost use Rattle.std.specs.Prelude.{◌≡◌, ◌^◌, ◌<◌, ◌≤◌, Some, ◌++◌, ◌∷◌, [], true, length, map, drop, IfOk, IfSome, IsTrue, MatchOption};
 ghost use Rattle.std.specs.Fmt.{decimal};
 ghost use Rattle.std.specs.List.{prefix_len};
 ghost use Rattle.tm_syntax.specs.Tokens.{is_blank, continues_name};
 ghost use Rattle.tm_syntax.specs.Design.{DesignTree};
 ghost use Rattle.tm_syntax.specs.DesignView.{design_tree};
-ghost use Rattle.tm_cir.specs.SmallText.{name_byte, item_name, token_text, is_sign, BeginsNoWord, AreTokens, BeginsWith};
+ghost use Rattle.tm_cir.specs.SmallText.{name_byte, item_name, token_text, is_sign, token_number, BeginsNoWord, AreTokens, BeginsWith};
 
 use std::alloc::{AllocError, Global};
 use tm_syntax::design::Design;
 
-/// A token, as far as small drivers have it: words, signs, constants, and the names of labels and of the design's items.
+/// A token, as far as small drivers have it: words, signs, constants, and the names of labels and of the design's
+/// items.
 #[derive(Clone, Copy, Debug, PartialEq, Eq)]
 pub enum Token {
     Void,
@@ -88,6 +89,7 @@ fn first_token<'a>(design: &Design, text: &'a [u8]) -> Option<(Token, &'a [u8])>
 fn sign_token(byte: u8) -> Option<Token>
     ensures text { (d : DesignTree) → IfSome result (λ t. token_text d t ≡ Some (byte ∷ [])) }
     ensures sign { IfSome result (λ t. is_sign t ≡ true) }
+    ensures small { IfSome result (λ t. token_number t < 2 ^ 64) }
 {
     match byte {
         b'(' => Some(Token::OpenParenthesis),
@@ -124,7 +126,8 @@ fn continues_name(byte: u8) -> bool
 }
 
 fn word_token(design: &Design, word: &[u8]) -> Option<Token>
-    ensures { IfSome result (λ t. token_text (design_tree design.now) t ≡ Some word.now) }
+    ensures text { IfSome result (λ t. token_text (design_tree design.now) t ≡ Some word.now) }
+    ensures small { IfSome result (λ t. token_number t < 2 ^ 64) }
 {
     if let Some(token) = keyword(word) {
         return Some(token);
@@ -138,7 +141,8 @@ fn word_token(design: &Design, word: &[u8]) -> Option<Token>
 }
 
 fn keyword(word: &[u8]) -> Option<Token>
-    ensures { (d : DesignTree) → IfSome result (λ t. token_text d t ≡ Some word.now) }
+    ensures text { (d : DesignTree) → IfSome result (λ t. token_text d t ≡ Some word.now) }
+    ensures small { IfSome result (λ t. token_number t < 2 ^ 64) }
 {
     if word == b"void".as_slice() {
         Some(Token::Void)
@@ -160,7 +164,8 @@ fn keyword(word: &[u8]) -> Option<Token>
 }
 
 fn label(word: &[u8]) -> Option<Token>
-    ensures { (d : DesignTree) → IfSome result (λ t. token_text d t ≡ Some word.now) }
+    ensures text { (d : DesignTree) → IfSome result (λ t. token_text d t ≡ Some word.now) }
+    ensures small { IfSome result (λ t. token_number t < 2 ^ 64) }
 {
     let digits = word.strip_prefix(b"L")?;
     let number = u32::try_from(leading_number(digits)).ok()?;
@@ -172,7 +177,8 @@ fn label(word: &[u8]) -> Option<Token>
 }
 
 fn constant(word: &[u8]) -> Option<Token>
-    ensures { (d : DesignTree) → IfSome result (λ t. token_text d t ≡ Some word.now) }
+    ensures text { (d : DesignTree) → IfSome result (λ t. token_text d t ≡ Some word.now) }
+    ensures small { IfSome result (λ t. token_number t < 2 ^ 64) }
 {
     let digits = word.strip_suffix(b"ULL")?;
     let number = leading_number(digits);
@@ -184,7 +190,8 @@ fn constant(word: &[u8]) -> Option<Token>
 }
 
 fn variable(design: &Design, word: &[u8]) -> Option<Token>
-    ensures { IfSome result (λ t. token_text (design_tree design.now) t ≡ Some word.now) }
+    ensures text { IfSome result (λ t. token_text (design_tree design.now) t ≡ Some word.now) }
+    ensures small { IfSome result (λ t. token_number t < 2 ^ 64) }
 {
     let (_, behind) = parted(word)?;
     let number = u32::try_from(leading_number(behind)).ok()?;
@@ -197,7 +204,8 @@ fn variable(design: &Design, word: &[u8]) -> Option<Token>
 }
 
 fn task(design: &Design, word: &[u8]) -> Option<Token>
-    ensures { IfSome result (λ t. token_text (design_tree design.now) t ≡ Some word.now) }
+    ensures text { IfSome result (λ t. token_text (design_tree design.now) t ≡ Some word.now) }
+    ensures small { IfSome result (λ t. token_number t < 2 ^ 64) }
 {
     let (_, behind) = parted(word)?;
     let number = u32::try_from(leading_number(behind)).ok()?;
