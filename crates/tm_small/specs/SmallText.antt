@@ -6,12 +6,14 @@ use Rattle.tm_syntax.specs.declared.token.TokenKind.TheVariants as token
 use Rattle.tm_syntax.specs.declared.token.Sign.TheVariants as sign
 use Rattle.tm_syntax.specs.Tokens.{AreTokens}
 use Rattle.tm_syntax.specs.Tree.{TaskTree, TemplateTree}
-use Rattle.tm_syntax.specs.Design.{DesignTree}
+use Rattle.tm_syntax.specs.Design.{DesignTree, IsDesign}
 use Rattle.tm_small.specs.Grammar.{var_names, IsSpec}
 
 -- the names that a template declares
 abbrev pub declared_names : TemplateTree → List (List ℕ)
-declared_names t = var_names t.vars ++ map (λ k. k.name.text) t.tasks ++ map (λ p. p.name.text) t.processes ++ map (λ g. g.name.text) t.goals
+declared_names t =
+    var_names t.vars ++ map (λ k. k.name.text) t.tasks
+    ++ map (λ p. p.name.text) t.processes ++ map (λ g. g.name.text) t.goals
 
 -- the number of statements of tasks
 abbrev pub stmt_count : List TaskTree → ℕ
@@ -31,7 +33,8 @@ pub record IsWithinLimits (t : TemplateTree) : Type 0 where
   pub tasks : length t.tasks ≤ 64
   pub stmts : stmt_count t.tasks + sum_by (λ p. length p.body.stmts) t.processes ≤ 1000
 
--- the text spells the tree of this design, by the small grammar and within its limits
+-- the text spells the tree of this design, by the small grammar and within its limits,
+-- and the design is numbered as that tree says
 pub record IsSmallText (text : List ℕ) (d : DesignTree) : Type 0 where
   pub size : length text ≤ 1048576
   pub tokens : List Token
@@ -42,3 +45,4 @@ pub record IsSmallText (text : List ℕ) (d : DesignTree) : Type 0 where
   pub within : IsWithinLimits template
   pub stars : count_by is_star tokens ≤ 64
   pub distinct : AllPairs (λ x y. x ≢ y) (declared_names template)
+  pub numbered : IsDesign d

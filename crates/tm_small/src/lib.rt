@@ -1,9 +1,10 @@
 //! A temporary reader of small specifications, until the whole language is read.
 #![tactic(auto)]
 
-ghost use Rattle.std.specs.Prelude.{◌≡◌, ◌<◌, ◌≤◌, length, map, count_by, AllPairs, IfOk, IfSome};
+ghost use Rattle.std.specs.Prelude.{◌≡◌, ◌<◌, ◌≤◌, ℕ, List, length, map, count_by, AllPairs, IfOk, IfSome};
 ghost use Rattle.tm_syntax.specs.Tokens.{AreTokens};
 ghost use Rattle.tm_syntax.specs.View.{template_tree};
+ghost use Rattle.tm_syntax.specs.Design.{DesignTree};
 ghost use Rattle.tm_syntax.specs.DesignView.{design_tree};
 ghost use Rattle.tm_syntax.specs.Small.{IsSmall};
 ghost use Rattle.tm_small.specs.SmallText.{IsSmallText, is_star, declared_names};
@@ -76,9 +77,9 @@ fn design(alloc: Global, text: &[u8], tokens: &[Token]) -> Result<Design, Stop>
 }
 
 /// The design of a text of the small form: one template `main` of bools, controllable tasks without parameters, one
-/// process and at most one goal. `None` is for every other text, as one that is too long, that has a byte that begins no
-/// token, or that is above a limit. No contract rules it out for a text of the form: tests alone show what is read. The
-/// error is want of memory.
+/// process and at most one goal. `None` is for every other text, as one that is too long, that has a byte that begins
+/// no token, or that is above a limit. No contract rules it out for a text of the form: tests alone show what is read.
+/// The error is want of memory.
 pub fn read_small(alloc: Global, text: &[u8]) -> Result<Option<Design>, AllocError>
     ensures spelled { IfOk result (λ found. IfSome found (λ d. IsSmallText text.now (design_tree d))) }
     ensures small { IfOk result (λ found. IfSome found (λ d. IsSmall (design_tree d))) }
@@ -98,3 +99,9 @@ pub fn read_small(alloc: Global, text: &[u8]) -> Result<Option<Design>, AllocErr
         Err(Stop::Memory) => Err(AllocError),
     }
 }
+
+/// A text spells one design, so what `read_small` answers is all that the definitions allow.
+pub fn small_designs_are_determined()
+    ensures { (text : List ℕ) (one other : DesignTree)
+        → IsSmallText text one → IsSmallText text other → one ≡ other }
+{}

@@ -93,7 +93,8 @@ fn goals_of(alloc: Global, declarations: &[Named]) -> Result<Vec<Item>, AllocErr
 
 /// The one instance.
 fn instances(alloc: Global) -> Result<Vec<Instance>, AllocError>
-    ensures { IfOk result (λ instances. map instance_node instances.items ≡ record { path = []; template = 0; ports = []; children = [] } ∷ []) }
+    ensures { IfOk result (λ instances.
+        map instance_node instances.items ≡ record { path = []; template = 0; ports = []; children = [] } ∷ []) }
 {
     let mut instances = Vec::new(alloc);
     let path = Name::from_bytes(alloc, b"")?;

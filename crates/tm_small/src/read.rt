@@ -215,7 +215,8 @@ fn stmts<'a>(
     room: usize,
     tokens: &'a [Token],
 ) -> Result<(Vec<Stmt>, &'a [Token]), Stop>
-    ensures spelled { IfOk result (λ r. AreEach (IsStmt text.now known.now in_process) (stmt_trees r.0.items) tokens.now r.1.now) }
+    ensures spelled { IfOk result (λ r.
+        AreEach (IsStmt text.now known.now in_process) (stmt_trees r.0.items) tokens.now r.1.now) }
     ensures within { IfOk result (λ r. vec_len r.0 ≤ room) }
 {
     let mut stmts = Vec::new(alloc);
@@ -333,7 +334,8 @@ fn tasks<'a>(
     known: &[Name],
     tokens: &'a [Token],
 ) -> Result<(Vec<TaskDef>, usize, &'a [Token]), Stop>
-    ensures spelled { IfOk result (λ r. AreEach (IsTask text.now known.now) (map task_tree r.0.items) tokens.now r.2.now) }
+    ensures spelled { IfOk result (λ r.
+        AreEach (IsTask text.now known.now) (map task_tree r.0.items) tokens.now r.2.now) }
     ensures within { IfOk result (λ r. vec_len r.0 ≤ 64) }
     ensures room { IfOk result (λ r. stmt_count (map task_tree r.0.items) + r.1 ≡ 1000) }
 {

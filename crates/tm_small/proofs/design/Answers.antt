@@ -1,11 +1,28 @@
-use Rattle.std.proofs.Common.{sym, subst}
+use Rattle.std.proofs.Common.{sym, ap, subst, arith, rules}
+use Rattle.tm_syntax.specs.Design.{DesignTree, IsDesign}
 use Rattle.tm_syntax.specs.Small.{IsSmall}
-use Rattle.tm_small.proofs.Numbered.{main_is_small}
+use Rattle.tm_small.proofs.Numbered.{main_is_design, main_is_small}
 use Rattle.tm_small.proofs.SmallForms.{spec_small}
 use Rattle.tm_small.proofs.design.Goals as goal
 
 pub main_design-requires-clause-small : goal.main_design-requires-clause-small
 main_design-requires-clause-small c = spec_small c.in_ok-template.ensures.spelled c.in_ok-template.ensures.within
+
+pub returns-clause-spelled : goal.returns-clause-spelled
+returns-clause-spelled c =
+    let small = spec_small c.in_ok-template.ensures.spelled c.in_ok-template.ensures.within in
+    record {
+      size = c.requires.size;
+      tokens = c.args.tokens.now;
+      are_tokens = c.requires.tokens;
+      template = _;
+      spec = ap (λ (d : DesignTree). d.spec) c.in_ok-main_design.ensures;
+      spelled = c.in_ok-template.ensures.spelled;
+      within = c.in_ok-template.ensures.within;
+      stars = omega (arith, c.star_count.ensures, c.if-star_count-gt-STARS.false);
+      distinct = search rules;
+      numbered = subst IsDesign (sym c.in_ok-main_design.ensures) (main_is_design _ small);
+    }
 
 pub returns-clause-small : goal.returns-clause-small
 returns-clause-small c =
