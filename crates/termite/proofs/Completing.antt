@@ -9,8 +9,7 @@ use Rattle.tm_cir.specs.SmallText.{IsSmallDriverText}
 use Rattle.tm_cir.proofs.DriverTexts.{one_driver}
 use Rattle.termite.specs.declared.status.Status.{Status}
 use Rattle.termite.specs.declared.status.Status.TheVariants.{Played, Usage, ReadFault, WriteFault, Memory, BadText, Stopped, Unbuilt}
-use Rattle.termite.specs.declared.status.Bad.{Bad}
-use Rattle.termite.specs.declared.status.Bad.TheVariants.{TooLong, Choices}
+use Rattle.termite.specs.declared.status.Bad.TheVariants.{Choices}
 use Rattle.termite.specs.Script.{ScriptData}
 use Rattle.termite.specs.Words.{Command, run}
 use Rattle.termite.specs.Choices.{reading_of}
@@ -99,9 +98,9 @@ module _ (contents : List ℕ → Option (List ℕ)) where
         let blocks : cs ≡ bs = told_blocks driver d cs bs told p.blocks in
         let said : TellsScript contents choices d f = subst (λ (x : DesignTree). TellsScript contents choices x f) designs q.script in
         let scripts : f ≡ c = told_script choices d f c said p.script in
-        let moved : Ends d bs c other_text other =
-            subst (λ (x : ScriptData). Ends d bs x other_text other) scripts
-            (subst (λ (x : List BlockTree). Ends d x f other_text other) blocks (subst (λ (x : DesignTree). Ends x cs f other_text other) designs others)) in
+        let of_design : Ends d cs f other_text other = subst (λ (x : DesignTree). Ends x cs f other_text other) designs others in
+        let of_blocks : Ends d bs f other_text other = subst (λ (x : List BlockTree). Ends d x f other_text other) blocks of_design in
+        let moved : Ends d bs c other_text other = subst (λ (x : ScriptData). Ends d bs x other_text other) scripts of_blocks in
         (one_end d bs c text other_text one other ends moved).1
 
     -- `run` has one end

@@ -1,5 +1,5 @@
 -- A text of choices has one end.
-use Rattle.std.proofs.Common.{◌≡◌, ◌≢◌, ℕ, zero, suc, ◌+◌, ◌<◌, true, false, inl, inr, ⊎_elim, None, Some, List, [], ◌∷◌, length, refl, sym, ap, subst, ◌∙◌, arith}
+use Rattle.std.proofs.Common.{◌≡◌, ◌≢◌, ℕ, zero, suc, ◌+◌, ◌<◌, false, inl, inr, ⊎_elim, Some, List, [], ◌∷◌, length, refl, sym, ap, subst, ◌∙◌, arith}
 use Rattle.std.specs.Prelude.{IsTrue, slice_get}
 use Rattle.std.proofs.lemmas.Bool.{cases_order}
 use Rattle.tm_syntax.specs.Design.{DesignTree}
@@ -19,9 +19,9 @@ use Rattle.termite.specs.declared.script.Actor.TheVariants.{Stutter, Process, Dr
 use Rattle.termite.specs.declared.status.StopWhy.{StopWhy}
 use Rattle.termite.specs.declared.status.StopWhy.TheVariants.{Error, Forbidden, Illegal}
 use Rattle.termite.specs.declared.status.Status.{Status}
-use Rattle.termite.specs.declared.status.Status.TheVariants.{Played, Stopped}
+use Rattle.termite.specs.declared.status.Status.TheVariants.{Stopped}
 use Rattle.termite.specs.Script.{TurnData, ScriptData}
-use Rattle.termite.specs.Played.{IsMoveOf, Follows, IsPlayOf, state_after, goal_after, play_text, Reaches, Stops, Ends, plays, stops, begins_badly}
+use Rattle.termite.specs.Played.{IsMoveOf, Follows, state_after, goal_after, play_text, Reaches, Stops, Ends, plays, stops, begins_badly}
 
 -- the blocks answer with a move of the driver
 answers_driver : (bs : List BlockTree) (s : StateData) (g : ℕ) {at : ℕ} {m : Move} → AnswersFrom bs s g at m → IsTrue (is_driver_move m)
@@ -179,9 +179,8 @@ module _ (d : DesignTree) (bs : List BlockTree) where
         let shorter : length p.entries < length q.entries = omega (arith, p.count, q.count) in
         let there : slice_get c.turns (length p.entries) ≡ Some t = ap (slice_get c.turns) p.count ∙ at in
         let on = leads_on p.first (pending_at d 0 p.first) c.turns p.entries q.entries t p.play.play.steps p.play.follows steps follows shorter there in
-        let moved : IsMoveOf d bs s g t.actor on.move =
-            subst (λ (x : StateData). IsMoveOf d bs x g t.actor on.move) p.state
-            (subst (λ (x : ℕ). IsMoveOf d bs (state_after p.first p.entries) x t.actor on.move) p.goal on.moved) in
+        let here : IsMoveOf d bs (state_after p.first p.entries) g t.actor on.move = subst (λ (x : ℕ). IsMoveOf d bs (state_after p.first p.entries) x t.actor on.move) p.goal on.moved in
+        let moved : IsMoveOf d bs s g t.actor on.move = subst (λ (x : StateData). IsMoveOf d bs x g t.actor on.move) p.state here in
         stops_nowhere t s g why on.move on.next stop moved (subst (λ (x : StateData). Step d x on.move t.choices (outcomes.Next on.next)) p.state on.step)
 
     -- the place of an item is below the end
@@ -198,9 +197,9 @@ module _ (d : DesignTree) (bs : List BlockTree) where
         let both = one_reach n k s s2 g g2 text text2 p q same in
         let turns : Some t2 ≡ Some t = sym there ∙ ap (slice_get c.turns) (sym same) ∙ at in
         let turn : t2 ≡ t = cc in
-        let moved : Stops d bs s g t other =
-            subst (λ (x : StateData). Stops d bs x g t other) (sym both.state)
-            (subst (λ (x : ℕ). Stops d bs s2 x t other) (sym both.goal) (subst (λ (x : TurnData). Stops d bs s2 g2 x other) turn stop2)) in
+        let of_turn : Stops d bs s2 g2 t other = subst (λ (x : TurnData). Stops d bs s2 g2 x other) turn stop2 in
+        let of_goal : Stops d bs s2 g t other = subst (λ (x : ℕ). Stops d bs s2 x t other) (sym both.goal) of_turn in
+        let moved : Stops d bs s g t other = subst (λ (x : StateData). Stops d bs x g t other) (sym both.state) of_goal in
         (both.lines, ap (λ (x : ℕ). Stopped (x + 1) one) same ∙ ap (Stopped (k + 1)) (one_why t s g one other stop moved))
 
     -- a play is no first state that is wanting

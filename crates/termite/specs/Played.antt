@@ -64,8 +64,8 @@ play_text d first entries =
 
 -- a play of n steps, its last state, the goal pending there, and its lines
 pub record Reaches
-    (d : DesignTree) (bs : List BlockTree) (c : ScriptData) (n : ℕ) (s : StateData) (g : ℕ) (text : List ℕ) : Type 0
-    where
+    (d : DesignTree) (bs : List BlockTree) (c : ScriptData)
+    (n : ℕ) (s : StateData) (g : ℕ) (text : List ℕ) : Type 0 where
   pub first : StateData
   pub entries : List Entry
   pub play : IsPlayOf d bs c first entries

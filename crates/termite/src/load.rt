@@ -170,7 +170,7 @@ pub fn load<F: Files>(
 ) -> Result<Inputs, Status>
     ensures told { IfOk result (λ i. IsTrue F.tells →
         Loads (F.contents files.old) spec.now driver.now choices.now
-            (design_tree i.design) (trees_of i.blocks) i.script) }
+        (design_tree i.design) (trees_of i.blocks) i.script) }
     ensures playable { IfOk result (λ i. IsPlayable (design_tree i.design)) }
     ensures fits { IfOk result (λ i. FitBlocks (design_tree i.design) (trees_of i.blocks)) }
     ensures refused { IfErr result (IsUnloaded F.tells F.last_count

@@ -20,8 +20,8 @@ fn obey<F: Files, O: Sink>(alloc: Global, command: Command, files: &mut F, out: 
         Explains (CommandEnds (F.contents files.old) (Some (command_view command.entry))) result }
     ensures puts { IsTrue F.tells → IsTrue O.tells →
         Puts (CommandEnds (F.contents files.old) (Some (command_view command.entry)))
-            (IsCommandPart (F.contents files.old) (Some (command_view command.entry)))
-            (O.written out.old) (O.written out.new) result }
+        (IsCommandPart (F.contents files.old) (Some (command_view command.entry)))
+        (O.written out.old) (O.written out.new) result }
     ensures faults { IsFaultShown (read_names (Some (command_view command.entry)))
         F.last_count (F.read_faults files.old) (F.read_faults files.new)
         O.last_count (O.faults out.old) (O.faults out.new) result }
@@ -54,8 +54,8 @@ fn obey_words<F: Files, O: Sink>(
         Explains (CommandEnds (F.contents files.old) (command_of (map string_bytes words.now))) result }
     ensures puts { IsTrue F.tells → IsTrue O.tells →
         Puts (CommandEnds (F.contents files.old) (command_of (map string_bytes words.now)))
-            (IsCommandPart (F.contents files.old) (command_of (map string_bytes words.now)))
-            (O.written out.old) (O.written out.new) result }
+        (IsCommandPart (F.contents files.old) (command_of (map string_bytes words.now)))
+        (O.written out.old) (O.written out.new) result }
     ensures faults { IsFaultShown (read_names (command_of (map string_bytes words.now)))
         F.last_count (F.read_faults files.old) (F.read_faults files.new)
         O.last_count (O.faults out.old) (O.faults out.new) result }
@@ -81,25 +81,25 @@ pub fn termite<F: Files, O: Sink>(
     files: &mut F,
     out: &mut O,
 ) -> Status
-    // `Usage` comes exactly where the words have no reading, but for a failed output and want of memory.
+    // `Usage` comes exactly where the words have no reading, but for a failed output and want of memory, and the sink
+    // took the usage text then.
     ensures usage_only { IsUsageShown (command_of (map string_bytes words.now)) result }
     ensures usage { command_of (map string_bytes words.now) ≡ None →
         (result ≡ Status.Usage) ⊎ IsRefusal O.last_count (O.faults out.old) (O.faults out.new) result }
-
-    // The sink took the usage text then.
     ensures usage_report { command_of (map string_bytes words.now) ≡ None → IsTrue O.tells →
         ReportsUsage (O.written out.old) (O.written out.new) result }
 
-    // Each other status has its cause, where the files tell, and the sink took its report; and an end that the command
-    // has is the one that is answered.
+    // Each other status has its cause, where the files tell, and the sink took its report.
     ensures cause { IsTrue F.tells →
         Explains (CommandEnds (F.contents files.old) (command_of (map string_bytes words.now))) result }
     ensures report { IsTrue F.tells → IsTrue O.tells →
         Reports (CommandEnds (F.contents files.old) (command_of (map string_bytes words.now)))
-            (IsCommandPart (F.contents files.old) (command_of (map string_bytes words.now)))
-            (IsFailedRead (read_names (command_of (map string_bytes words.now)))
-                F.last_count (F.read_faults files.old) (F.read_faults files.new))
-            (O.written out.old) (O.written out.new) result }
+        (IsCommandPart (F.contents files.old) (command_of (map string_bytes words.now)))
+        (IsFailedRead (read_names (command_of (map string_bytes words.now)))
+        F.last_count (F.read_faults files.old) (F.read_faults files.new))
+        (O.written out.old) (O.written out.new) result }
+
+    // An end that the command has is the one that is answered, so `Played` comes wherever each step has a next state.
     ensures complete { IsTrue F.tells →
         AnswersEnd (CommandEnds (F.contents files.old) (command_of (map string_bytes words.now))) result }
 

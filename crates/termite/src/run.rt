@@ -22,8 +22,8 @@ pub fn run<F: Files, O: Sink>(
     ensures ends { IsTrue F.tells → Explains (RunEnds (F.contents files.old) spec.now driver.now choices.now) result }
     ensures puts { IsTrue F.tells → IsTrue O.tells →
         Puts (RunEnds (F.contents files.old) spec.now driver.now choices.now)
-            (IsRunPart (F.contents files.old) spec.now driver.now choices.now)
-            (O.written out.old) (O.written out.new) result }
+        (IsRunPart (F.contents files.old) spec.now driver.now choices.now)
+        (O.written out.old) (O.written out.new) result }
     ensures faults { IsFaultShown (spec.now ∷ driver.now ∷ choices.now ∷ [])
         F.last_count (F.read_faults files.old) (F.read_faults files.new)
         O.last_count (O.faults out.old) (O.faults out.new) result }
