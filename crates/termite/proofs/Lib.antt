@@ -1,6 +1,8 @@
 mod Appending
+mod Completing
 mod Loading
 mod Numbering
+mod OneEnd
 mod Playing
 mod Reaching
 mod Running

@@ -10,11 +10,11 @@ use Rattle.termite.specs.declared.status.Status.{Status}
 use Rattle.termite.specs.declared.status.Status.TheVariants.{Played, Usage, ReadFault, WriteFault, Memory, BadText, Stopped, Unbuilt}
 use Rattle.termite.specs.Script.{ScriptData}
 use Rattle.termite.specs.Words.{Command}
-use Rattle.termite.specs.Report.{status_text}
+use Rattle.termite.specs.Report.{status_text, usage_text}
 use Rattle.termite.specs.Sinking.{IsRefusal}
-use Rattle.termite.specs.Inputs.{Loads, IsUnloaded, TookTooMany}
+use Rattle.termite.specs.Inputs.{IsFailedRead, Loads, IsUnloaded, TookTooMany}
 use Rattle.termite.specs.Played.{Ends, IsPart}
-use Rattle.termite.specs.Answer.{RunEnds, refused, ended, IsRunPart, no_line, some_lines, Explains, Puts, IsReport, whole, fault, so_far, Reports, IsFaultShown, IsUsageShown}
+use Rattle.termite.specs.Answer.{RunEnds, refused, ended, IsRunPart, no_line, some_lines, Explains, Puts, IsReport, whole, fault, so_far, Reports, ReportsUsage, IsFaultShown, IsUsageShown, AnswersEnd}
 use Rattle.termite.proofs.Loading.{rose_later}
 use Rattle.termite.proofs.Playing.{cut_nothing, cut_more}
 
@@ -121,15 +121,15 @@ module _ (d : DesignTree) (bs : List BlockTree) (c : ScriptData) where
 put_nothing : (mid now : List ℕ) → AppendsPrefix [] mid now → now ≡ mid
 put_nothing mid now cut = cut.1 ∙ ap (λ t. mid ++ t) (take_all cut.0 [] (omega arith)) ∙ append-nil mid
 
-module _ (E : List ℕ → Status → Type 0) (P : List ℕ → Type 0) (before mid now : List ℕ) where
+module _ (E : List ℕ → Status → Type 0) (P F : List ℕ → Type 0) (before mid now : List ℕ) where
   ended_whole : (text line : List ℕ) → mid ≡ before ++ text → now ≡ mid ++ line → now ≡ before ++ (text ++ line)
   ended_whole text line lines all = all ∙ ap (λ m. m ++ line) lines ∙ append_assoc before text line
 
-  part_stays : (text : List ℕ) → P text → AppendsPrefix text before mid → now ≡ mid → (t : List ℕ) × IsReport E P t × AppendsPrefix t before now
+  part_stays : (text : List ℕ) → P text → AppendsPrefix text before mid → now ≡ mid → (t : List ℕ) × IsReport E P F t × AppendsPrefix t before now
   part_stays text so_put cut same = (text, so_far so_put, subst (λ n. AppendsPrefix text before n) (sym same) cut)
 
   -- the report of a status was put whole
-  pub reports_whole : (status : Status) → ((name : List ℕ) → status ≡ WriteFault name → name ≡ []) → Puts E P before mid status → now ≡ mid ++ status_text status → Reports E P before now status
+  pub reports_whole : (status : Status) → ((name : List ℕ) → status ≡ WriteFault name → name ≡ []) → Puts E P before mid status → now ≡ mid ++ status_text status → Reports E P F before now status
   reports_whole Memory named puts all = part_stays puts.0 puts.1 puts.2 (all ∙ append-nil mid)
   reports_whole (WriteFault []) named puts all = part_stays puts.0 puts.1 puts.2 (all ∙ append-nil mid)
   reports_whole (WriteFault (b ∷ bs)) named puts all = let none : b ∷ bs ≡ [] = named (b ∷ bs) refl in cc
@@ -140,38 +140,72 @@ module _ (E : List ℕ → Status → Type 0) (P : List ℕ → Type 0) (before 
   reports_whole (Stopped n why) named puts all = (puts.0, puts.1, ended_whole puts.0 (status_text (Stopped n why)) puts.2 all)
   reports_whole (Unbuilt name) named puts all = (puts.0, puts.1, ended_whole puts.0 (status_text (Unbuilt name)) puts.2 all)
 
-  cut_line : (text : List ℕ) (status : Status) → E text status → mid ≡ before ++ text → AppendsPrefix (status_text status) mid now → (t : List ℕ) × IsReport E P t × AppendsPrefix t before now
+  cut_line : (text : List ℕ) (status : Status) → E text status → mid ≡ before ++ text → AppendsPrefix (status_text status) mid now → (t : List ℕ) × IsReport E P F t × AppendsPrefix t before now
   cut_line text status ends all cut = (text ++ status_text status, whole ends, cut_more before mid now text (status_text status) all cut)
 
   -- some first part of a report was put
-  cut_report : (status : Status) → ((name : List ℕ) → status ≡ WriteFault name → name ≡ []) → Puts E P before mid status → AppendsPrefix (status_text status) mid now →
-      (t : List ℕ) × IsReport E P t × AppendsPrefix t before now
-  cut_report Memory named puts cut = part_stays puts.0 puts.1 puts.2 (put_nothing mid now cut)
-  cut_report (WriteFault []) named puts cut = part_stays puts.0 puts.1 puts.2 (put_nothing mid now cut)
-  cut_report (WriteFault (b ∷ bs)) named puts cut = let none : b ∷ bs ≡ [] = named (b ∷ bs) refl in cc
-  cut_report (ReadFault name) named puts cut = (status_text (ReadFault name), fault name, subst (λ m. AppendsPrefix (status_text (ReadFault name)) m now) puts cut)
-  cut_report (Played n) named puts cut = cut_line puts.0 (Played n) puts.1 puts.2 cut
-  cut_report Usage named puts cut = cut_line puts.0 Usage puts.1 puts.2 cut
-  cut_report (BadText name why) named puts cut = cut_line puts.0 (BadText name why) puts.1 puts.2 cut
-  cut_report (Stopped n why) named puts cut = cut_line puts.0 (Stopped n why) puts.1 puts.2 cut
-  cut_report (Unbuilt name) named puts cut = cut_line puts.0 (Unbuilt name) puts.1 puts.2 cut
+  cut_report : (status : Status) → ((name : List ℕ) → status ≡ WriteFault name → name ≡ []) → ((name : List ℕ) → status ≡ ReadFault name → F name) → Puts E P before mid status → AppendsPrefix (status_text status) mid now →
+      (t : List ℕ) × IsReport E P F t × AppendsPrefix t before now
+  cut_report Memory named failed puts cut = part_stays puts.0 puts.1 puts.2 (put_nothing mid now cut)
+  cut_report (WriteFault []) named failed puts cut = part_stays puts.0 puts.1 puts.2 (put_nothing mid now cut)
+  cut_report (WriteFault (b ∷ bs)) named failed puts cut = let none : b ∷ bs ≡ [] = named (b ∷ bs) refl in cc
+  cut_report (ReadFault name) named failed puts cut = (status_text (ReadFault name), fault (failed name refl), subst (λ m. AppendsPrefix (status_text (ReadFault name)) m now) puts cut)
+  cut_report (Played n) named failed puts cut = cut_line puts.0 (Played n) puts.1 puts.2 cut
+  cut_report Usage named failed puts cut = cut_line puts.0 Usage puts.1 puts.2 cut
+  cut_report (BadText name why) named failed puts cut = cut_line puts.0 (BadText name why) puts.1 puts.2 cut
+  cut_report (Stopped n why) named failed puts cut = cut_line puts.0 (Stopped n why) puts.1 puts.2 cut
+  cut_report (Unbuilt name) named failed puts cut = cut_line puts.0 (Unbuilt name) puts.1 puts.2 cut
 
-  pub reports_cut : (last : Option ℕ) (old new : ℕ) (status refusal : Status) → ((name : List ℕ) → status ≡ WriteFault name → name ≡ []) →
-      Puts E P before mid status → AppendsPrefix (status_text status) mid now → IsRefusal last old new refusal → Reports E P before now refusal
-  reports_cut last old new status Memory named puts cut r = cut_report status named puts cut
-  reports_cut last old new status (WriteFault name) named puts cut r = cut_report status named puts cut
-  reports_cut last old new status (ReadFault name) named puts cut r = elim r [ ]
-  reports_cut last old new status (Played n) named puts cut r = elim r [ ]
-  reports_cut last old new status Usage named puts cut r = elim r [ ]
-  reports_cut last old new status (BadText name why) named puts cut r = elim r [ ]
-  reports_cut last old new status (Stopped n why) named puts cut r = elim r [ ]
-  reports_cut last old new status (Unbuilt name) named puts cut r = elim r [ ]
+  pub reports_cut : (last : Option ℕ) (old new : ℕ) (status refusal : Status) → ((name : List ℕ) → status ≡ WriteFault name → name ≡ []) → ((name : List ℕ) → status ≡ ReadFault name → F name) →
+      Puts E P before mid status → AppendsPrefix (status_text status) mid now → IsRefusal last old new refusal → Reports E P F before now refusal
+  reports_cut last old new status Memory named failed puts cut r = cut_report status named failed puts cut
+  reports_cut last old new status (WriteFault name) named failed puts cut r = cut_report status named failed puts cut
+  reports_cut last old new status (ReadFault name) named failed puts cut r = elim r [ ]
+  reports_cut last old new status (Played n) named failed puts cut r = elim r [ ]
+  reports_cut last old new status Usage named failed puts cut r = elim r [ ]
+  reports_cut last old new status (BadText name why) named failed puts cut r = elim r [ ]
+  reports_cut last old new status (Stopped n why) named failed puts cut r = elim r [ ]
+  reports_cut last old new status (Unbuilt name) named failed puts cut r = elim r [ ]
 
 -- the name of a failed write is empty
 pub shown_name : (names : List (List ℕ)) (reads : Option ℕ) (old new : List ℕ → ℕ) (writes : Option ℕ) (old_out new_out : ℕ) (status : Status) →
     IsFaultShown names reads old new writes old_out new_out status → (name : List ℕ) → status ≡ WriteFault name → name ≡ []
 shown_name names reads old new writes old_out new_out status shown name is =
     (subst (IsFaultShown names reads old new writes old_out new_out) is shown).0
+
+-- the file of a failed read is one of these, and its count rose
+pub shown_failed : (names : List (List ℕ)) (reads : Option ℕ) (old new : List ℕ → ℕ) (writes : Option ℕ) (old_out new_out : ℕ) (status : Status) →
+    IsFaultShown names reads old new writes old_out new_out status → (name : List ℕ) → status ≡ ReadFault name → IsFailedRead names reads old new name
+shown_failed names reads old new writes old_out new_out status shown name is = subst (IsFaultShown names reads old new writes old_out new_out) is shown
+
+-- the usage text was put whole
+pub usage_whole : (before mid now : List ℕ) (status : Status) → mid ≡ before → status ≡ Usage → now ≡ mid ++ status_text status → ReportsUsage before now status
+usage_whole before mid now Usage same is all = all ∙ ap (λ m. m ++ usage_text) same
+usage_whole before mid now Memory same is all = cc
+usage_whole before mid now (ReadFault name) same is all = cc
+usage_whole before mid now (WriteFault name) same is all = cc
+usage_whole before mid now (Played n) same is all = cc
+usage_whole before mid now (BadText name why) same is all = cc
+usage_whole before mid now (Stopped n why) same is all = cc
+usage_whole before mid now (Unbuilt name) same is all = cc
+
+-- some first part of it was put
+pub usage_cut : (last : Option ℕ) (old new : ℕ) (before mid now : List ℕ) (status refusal : Status) → mid ≡ before → status ≡ Usage → AppendsPrefix (status_text status) mid now →
+    IsRefusal last old new refusal → ReportsUsage before now refusal
+usage_cut last old new before mid now status refusal same is cut = of_refusal refusal
+  where
+    part : AppendsPrefix usage_text before now
+    part = subst (λ (m : List ℕ). AppendsPrefix usage_text m now) same (subst (λ (s : Status). AppendsPrefix (status_text s) mid now) is cut)
+
+    of_refusal : (r : Status) → IsRefusal last old new r → ReportsUsage before now r
+    of_refusal Memory r = part
+    of_refusal (WriteFault name) r = part
+    of_refusal (ReadFault name) r = elim r [ ]
+    of_refusal (Played n) r = elim r [ ]
+    of_refusal Usage r = elim r [ ]
+    of_refusal (BadText name why) r = elim r [ ]
+    of_refusal (Stopped n why) r = elim r [ ]
+    of_refusal (Unbuilt name) r = elim r [ ]
 
 -- a refused report is no usage and explains itself
 pub refusal_explains : (E : List ℕ → Status → Type 0) (last : Option ℕ) (old new : ℕ) (status : Status) → IsRefusal last old new status → Explains E status
@@ -242,3 +276,14 @@ shown_on names reads old new writes old_out mid_out new_out Usage le s = tt
 shown_on names reads old new writes old_out mid_out new_out (BadText name why) le s = tt
 shown_on names reads old new writes old_out mid_out new_out (Stopped n why) le s = tt
 shown_on names reads old new writes old_out mid_out new_out (Unbuilt name) le s = tt
+
+-- a refused report may come before the end
+pub refusal_answers : (E : List ℕ → Status → Type 0) (last : Option ℕ) (old new : ℕ) (status : Status) → IsRefusal last old new status → AnswersEnd E status
+refusal_answers E last old new Memory r = tt
+refusal_answers E last old new (WriteFault name) r = tt
+refusal_answers E last old new (ReadFault name) r = elim r [ ]
+refusal_answers E last old new (Played n) r = elim r [ ]
+refusal_answers E last old new Usage r = elim r [ ]
+refusal_answers E last old new (BadText name why) r = elim r [ ]
+refusal_answers E last old new (Stopped n why) r = elim r [ ]
+refusal_answers E last old new (Unbuilt name) r = elim r [ ]

@@ -32,11 +32,13 @@ pub record IsPosition (d : DesignTree) (g : ℕ) (p : Position) : Type 0 where
 -- the position that choices give a play to begin with; none where they give no first state
 abbrev pub Begins : DesignTree → List ℕ → Option Position → Type 0
 Begins d choices p =
-    MatchOption p ((s : StateData) → ¬ (IsFirst d choices s)) (λ begin. IsFirst d choices begin.state × IsInitial d begin.state × IsPosition d 0 begin)
+    MatchOption p ((s : StateData) → ¬ (IsFirst d choices s))
+    (λ begin. IsFirst d choices begin.state × IsInitial d begin.state × IsPosition d 0 begin)
 
 -- a move of the step and the position that it leads to, or why it leads to none
 abbrev pub Advances : DesignTree → List BlockTree → StateData → ℕ → TurnData → TurnOutcome → Type 0
-Advances d bs s g t (To m next) = IsMoveOf d bs s g t.actor m × Step d s m t.choices (outcomes.Next next.state) × IsPosition d g next
+Advances d bs s g t (To m next) =
+    IsMoveOf d bs s g t.actor m × Step d s m t.choices (outcomes.Next next.state) × IsPosition d g next
 Advances d bs s g t (Stop why) = Stops d bs s g t why
 
 -- why a move without an outcome stops the play

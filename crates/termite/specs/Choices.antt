@@ -60,7 +60,8 @@ process_number processes path = position (λ p. bytes_eq p.path path) processes
 -- a process's path and choices
 abbrev pub process_turn : List Item → List (List ℕ) → Option TurnData
 process_turn processes [] = None
-process_turn processes (path ∷ fields) = option_and_then (λ p. turn_with (Process p) fields) (process_number processes path)
+process_turn processes (path ∷ fields) =
+    option_and_then (λ p. turn_with (Process p) fields) (process_number processes path)
 
 -- a step's line: `stutter`, `process` with a path and choices, or `driver` with choices
 abbrev pub turn_of : List Item → List (List ℕ) → Option TurnData
@@ -88,13 +89,15 @@ in_ok f (Err n) = Err n
 -- the steps that lines tell, or the number of the first line that tells none
 abbrev pub turns_of : List Item → List (ℕ × List ℕ) → Result (List TurnData) ℕ
 turns_of processes [] = Ok []
-turns_of processes (l ∷ ls) = option_map_or (λ t. in_ok (λ ts. t ∷ ts) (turns_of processes ls)) (turn_of processes (fields_of l.1)) (Err l.0)
+turns_of processes (l ∷ ls) =
+    option_map_or (λ t. in_ok (λ ts. t ∷ ts) (turns_of processes ls)) (turn_of processes (fields_of l.1)) (Err l.0)
 
 -- a start line and steps, or the number of the first line that is not of its form; without a start line, 1
 abbrev pub script_of : List Item → List (ℕ × List ℕ) → Result ScriptData ℕ
 script_of processes [] = Err 1
 script_of processes (l ∷ ls) =
-    option_map_or (λ start. in_ok (λ turns. record { start = start; turns = turns }) (turns_of processes ls)) (start_of (fields_of l.1)) (Err l.0)
+    option_map_or (λ start. in_ok (λ turns. record { start = start; turns = turns }) (turns_of processes ls))
+    (start_of (fields_of l.1)) (Err l.0)
 
 -- what a text of choices says, or its first bad line
 abbrev pub reading_of : List Item → List ℕ → Result ScriptData ℕ

@@ -24,27 +24,32 @@ pub record TellsDesign (contents : List ℕ → Option (List ℕ)) (spec : List 
   pub spelled : IsSmallText text d
 
 -- DRIVER tells these blocks over a design
-pub record TellsBlocks (contents : List ℕ → Option (List ℕ)) (driver : List ℕ) (d : DesignTree) (bs : List BlockTree) : Type 0 where
+pub record TellsBlocks
+    (contents : List ℕ → Option (List ℕ)) (driver : List ℕ) (d : DesignTree) (bs : List BlockTree) : Type 0 where
   pub text : List ℕ
   pub told : Tells contents driver text
   pub spelled : IsSmallDriverText d text bs
 
 -- CHOICES tells this start line and these steps over a design
-pub record TellsScript (contents : List ℕ → Option (List ℕ)) (choices : List ℕ) (d : DesignTree) (c : ScriptData) : Type 0 where
+pub record TellsScript
+    (contents : List ℕ → Option (List ℕ)) (choices : List ℕ) (d : DesignTree) (c : ScriptData) : Type 0 where
   pub text : List ℕ
   pub told : Tells contents choices text
   pub short : length text ≤ 16777216
   pub reads : reading_of d.processes text ≡ Ok c
 
 -- CHOICES has this first bad line over a design
-pub record TellsBadLine (contents : List ℕ → Option (List ℕ)) (choices : List ℕ) (d : DesignTree) (n : ℕ) : Type 0 where
+pub record TellsBadLine
+    (contents : List ℕ → Option (List ℕ)) (choices : List ℕ) (d : DesignTree) (n : ℕ) : Type 0 where
   pub text : List ℕ
   pub told : Tells contents choices text
   pub short : length text ≤ 16777216
   pub reads : reading_of d.processes text ≡ Err n
 
 -- reads leave all contents and what was counted of writes, and no count falls
-pub record OnlyReads (faults new_faults writes new_writes : List ℕ → ℕ) (taken new_taken : ℕ) (contents new_contents : List ℕ → Option (List ℕ)) : Type 0 where
+pub record OnlyReads
+    (faults new_faults writes new_writes : List ℕ → ℕ) (taken new_taken : ℕ)
+    (contents new_contents : List ℕ → Option (List ℕ)) : Type 0 where
   pub no_fewer_faults : (n : List ℕ) → faults n ≤ new_faults n
   pub no_fewer_bytes : taken ≤ new_taken
   pub same_writes : new_writes ≡ writes
@@ -52,12 +57,16 @@ pub record OnlyReads (faults new_faults writes new_writes : List ℕ → ℕ) (t
 
 -- a file was not read or has no reading: memory ran out; its reads failed, which their count shows; it is in no
 -- language that is read so far; it is too long; or it has this first bad line
-abbrev pub IsLoadRefusal : Bool → Option ℕ → ℕ → ℕ → (List ℕ → Option (List ℕ)) → List ℕ → (ℕ → Type 0) → Status → Type 0
+abbrev pub IsLoadRefusal :
+    Bool → Option ℕ → ℕ → ℕ → (List ℕ → Option (List ℕ)) → List ℕ → (ℕ → Type 0) → Status → Type 0
 IsLoadRefusal tells last old new contents name IsBadLine Memory = Unit {0}
 IsLoadRefusal tells last old new contents name IsBadLine (ReadFault n) = (n ≡ name) × Rose last old new
-IsLoadRefusal tells last old new contents name IsBadLine (Unbuilt n) = (n ≡ name) × (IsTrue tells → IsSome (contents name))
-IsLoadRefusal tells last old new contents name IsBadLine (BadText n TooLong) = (n ≡ name) × (IsTrue tells → IsLonger (contents name) 16777216)
-IsLoadRefusal tells last old new contents name IsBadLine (BadText n (Choices k)) = (n ≡ name) × (IsTrue tells → IsBadLine k)
+IsLoadRefusal tells last old new contents name IsBadLine (Unbuilt n) =
+    (n ≡ name) × (IsTrue tells → IsSome (contents name))
+IsLoadRefusal tells last old new contents name IsBadLine (BadText n TooLong) =
+    (n ≡ name) × (IsTrue tells → IsLonger (contents name) 16777216)
+IsLoadRefusal tells last old new contents name IsBadLine (BadText n (Choices k)) =
+    (n ≡ name) × (IsTrue tells → IsBadLine k)
 IsLoadRefusal tells last old new contents name IsBadLine _ = ⊥
 
 -- the status of a file that is in no language that is read so far, or of want of memory for its name
@@ -88,26 +97,42 @@ TookTooMany tells last old new (BadText n TooLong) = tells ≡ false → RoseBy 
 TookTooMany tells last old new _ = Unit {0}
 
 -- why the files of `run` are refused, the first one that is
-pub data Refused (contents : List ℕ → Option (List ℕ)) (spec driver choices : List ℕ) : Status → Type 0 where
+pub data Refused
+    (contents : List ℕ → Option (List ℕ)) (spec driver choices : List ℕ) : Status → Type 0 where
   unbuilt_spec : IsSome (contents spec) → Refused contents spec driver choices (Unbuilt spec)
-  unbuilt_driver : {d : DesignTree} → TellsDesign contents spec d → IsSome (contents driver) → Refused contents spec driver choices (Unbuilt driver)
-  long_driver : {d : DesignTree} → TellsDesign contents spec d → IsLonger (contents driver) 16777216 → Refused contents spec driver choices (BadText driver TooLong)
-  long_choices : {d : DesignTree} {bs : List BlockTree} → TellsDesign contents spec d → TellsBlocks contents driver d bs →
-      IsLonger (contents choices) 16777216 → Refused contents spec driver choices (BadText choices TooLong)
-  bad_line : {d : DesignTree} {bs : List BlockTree} {n : ℕ} → TellsDesign contents spec d → TellsBlocks contents driver d bs →
-      TellsBadLine contents choices d n → Refused contents spec driver choices (BadText choices (Choices n))
+  unbuilt_driver : {d : DesignTree} →
+      TellsDesign contents spec d → IsSome (contents driver) → Refused contents spec driver choices (Unbuilt driver)
+  long_driver : {d : DesignTree} → TellsDesign contents spec d → IsLonger (contents driver) 16777216 →
+      Refused contents spec driver choices (BadText driver TooLong)
+  long_choices : {d : DesignTree} {bs : List BlockTree} →
+      TellsDesign contents spec d → TellsBlocks contents driver d bs → IsLonger (contents choices) 16777216 →
+      Refused contents spec driver choices (BadText choices TooLong)
+  bad_line : {d : DesignTree} {bs : List BlockTree} {n : ℕ} →
+      TellsDesign contents spec d → TellsBlocks contents driver d bs → TellsBadLine contents choices d n →
+      Refused contents spec driver choices (BadText choices (Choices n))
 
 -- the files of `run` tell a design, blocks, and choices
-pub record Loads (contents : List ℕ → Option (List ℕ)) (spec driver choices : List ℕ) (d : DesignTree) (bs : List BlockTree) (c : ScriptData) : Type 0 where
+pub record Loads
+    (contents : List ℕ → Option (List ℕ)) (spec driver choices : List ℕ)
+    (d : DesignTree) (bs : List BlockTree) (c : ScriptData) : Type 0 where
   pub design : TellsDesign contents spec d
   pub blocks : TellsBlocks contents driver d bs
   pub script : TellsScript contents choices d c
 
--- why the files of `run` were not loaded: memory ran out; a read of one of them failed, which its count shows; or the
--- first one that is refused, where the files tell
-abbrev pub IsUnloaded : Bool → Option ℕ → (List ℕ → ℕ) → (List ℕ → ℕ) → (List ℕ → Option (List ℕ)) → List ℕ → List ℕ → List ℕ → Status → Type 0
+-- a read of one of the files of these names failed, which its count shows
+abbrev pub IsFailedRead : List (List ℕ) → Option ℕ → (List ℕ → ℕ) → (List ℕ → ℕ) → List ℕ → Type 0
+IsFailedRead names last old new name = Contains names name × Rose last (old name) (new name)
+
+-- why the files of `run` were not loaded: memory ran out; a read of one of them failed; or the first one that is
+-- refused, where the files tell
+abbrev pub IsUnloaded :
+    Bool → Option ℕ → (List ℕ → ℕ) → (List ℕ → ℕ) → (List ℕ → Option (List ℕ)) → List ℕ → List ℕ → List ℕ
+    → Status → Type 0
 IsUnloaded tells last old new contents spec driver choices Memory = Unit {0}
-IsUnloaded tells last old new contents spec driver choices (ReadFault n) = Contains (spec ∷ driver ∷ choices ∷ []) n × Rose last (old n) (new n)
-IsUnloaded tells last old new contents spec driver choices (Unbuilt n) = IsTrue tells → Refused contents spec driver choices (Unbuilt n)
-IsUnloaded tells last old new contents spec driver choices (BadText n why) = IsTrue tells → Refused contents spec driver choices (BadText n why)
+IsUnloaded tells last old new contents spec driver choices (ReadFault n) =
+    IsFailedRead (spec ∷ driver ∷ choices ∷ []) last old new n
+IsUnloaded tells last old new contents spec driver choices (Unbuilt n) =
+    IsTrue tells → Refused contents spec driver choices (Unbuilt n)
+IsUnloaded tells last old new contents spec driver choices (BadText n why) =
+    IsTrue tells → Refused contents spec driver choices (BadText n why)
 IsUnloaded tells last old new contents spec driver choices _ = ⊥

@@ -29,10 +29,13 @@ IsMoveOf d bs s g Driver m = (is_driver_turn d s ≡ true) × Answers bs s g m
 abbrev pub Follows : DesignTree → List BlockTree → StateData → ℕ → List TurnData → List Entry → Type 0
 Follows d bs s g turns [] = Unit {0}
 Follows d bs s g [] (e ∷ es) = ⊥
-Follows d bs s g (t ∷ ts) (e ∷ es) = IsMoveOf d bs s g t.actor e.move × (e.choices ≡ t.choices) × Follows d bs e.state (pending_at d g e.state) ts es
+Follows d bs s g (t ∷ ts) (e ∷ es) =
+    IsMoveOf d bs s g t.actor e.move × (e.choices ≡ t.choices)
+    × Follows d bs e.state (pending_at d g e.state) ts es
 
 -- a play that takes the start line and then step after step, the driver's move being the blocks' answer
-pub record IsPlayOf (d : DesignTree) (bs : List BlockTree) (c : ScriptData) (first : StateData) (entries : List Entry) : Type 0 where
+pub record IsPlayOf
+    (d : DesignTree) (bs : List BlockTree) (c : ScriptData) (first : StateData) (entries : List Entry) : Type 0 where
   pub start : IsFirst d c.start first
   pub play : IsPlay d first entries
   pub follows : Follows d bs first (pending_at d 0 first) c.turns entries
@@ -50,14 +53,19 @@ goal_after d g (e ∷ es) = goal_after d (pending_at d g e.state) es
 -- the lines of entries, numbered on from n
 abbrev pub entry_lines : DesignTree → ℕ → ℕ → List Entry → List ℕ
 entry_lines d n g [] = []
-entry_lines d n g (e ∷ es) = state_line d n (Some e.move) e.state (pending_at d g e.state) ++ entry_lines d (n + 1) (pending_at d g e.state) es
+entry_lines d n g (e ∷ es) =
+    state_line d n (Some e.move) e.state (pending_at d g e.state)
+    ++ entry_lines d (n + 1) (pending_at d g e.state) es
 
 -- the lines of a play
 abbrev pub play_text : DesignTree → StateData → List Entry → List ℕ
-play_text d first entries = state_line d 0 None first (pending_at d 0 first) ++ entry_lines d 1 (pending_at d 0 first) entries
+play_text d first entries =
+    state_line d 0 None first (pending_at d 0 first) ++ entry_lines d 1 (pending_at d 0 first) entries
 
 -- a play of n steps, its last state, the goal pending there, and its lines
-pub record Reaches (d : DesignTree) (bs : List BlockTree) (c : ScriptData) (n : ℕ) (s : StateData) (g : ℕ) (text : List ℕ) : Type 0 where
+pub record Reaches
+    (d : DesignTree) (bs : List BlockTree) (c : ScriptData)
+    (n : ℕ) (s : StateData) (g : ℕ) (text : List ℕ) : Type 0 where
   pub first : StateData
   pub entries : List Entry
   pub play : IsPlayOf d bs c first entries
@@ -73,13 +81,16 @@ Stops d bs s g t Error = (m : Move) × IsMoveOf d bs s g t.actor m × Step d s m
 Stops d bs s g t Forbidden = (m : Move) × (t.actor ≡ Driver) × IsMoveOf d bs s g t.actor m × ¬ (IsAllowed d s m)
 Stops d bs s g t Illegal =
     ((t.actor ≡ Driver) × (is_driver_turn d s ≡ false))
-    ⊎ ((m : Move) × IsMoveOf d bs s g t.actor m × Step d s m t.choices outcomes.NoOutcome × (t.actor ≡ Driver → IsAllowed d s m))
+    ⊎ ((m : Move) × IsMoveOf d bs s g t.actor m × Step d s m t.choices outcomes.NoOutcome
+    × (t.actor ≡ Driver → IsAllowed d s m))
 
 -- how the play of choices ends, with the lines of its states
 pub data Ends (d : DesignTree) (bs : List BlockTree) (c : ScriptData) : List ℕ → Status → Type 0 where
-  plays : {s : StateData} {g : ℕ} {text : List ℕ} → Reaches d bs c (length c.turns) s g text → Ends d bs c text (Played (length c.turns))
+  plays : {s : StateData} {g : ℕ} {text : List ℕ} →
+      Reaches d bs c (length c.turns) s g text → Ends d bs c text (Played (length c.turns))
   stops : {n : ℕ} {s : StateData} {g : ℕ} {text : List ℕ} {t : TurnData} {why : StopWhy} →
-      Reaches d bs c n s g text → slice_get c.turns n ≡ Some t → Stops d bs s g t why → Ends d bs c text (Stopped (n + 1) why)
+      Reaches d bs c n s g text → slice_get c.turns n ≡ Some t → Stops d bs s g t why →
+      Ends d bs c text (Stopped (n + 1) why)
   begins_badly : ((s : StateData) → ¬ (IsFirst d c.start s)) → Ends d bs c [] (Stopped 0 Illegal)
 
 -- the lines of the states of the play so far

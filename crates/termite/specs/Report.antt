@@ -26,7 +26,9 @@ place_text p = p.0.path ++ codes "@" ++ decimal p.1 ++ codes " "
 
 -- a state: its variables, the locations of its processes, and who moved last
 abbrev pub state_text : DesignTree → StateData → List ℕ
-state_text d s = flat_map var_text (zip d.vars s.values) ++ flat_map place_text (zip d.processes s.places) ++ codes "last=" ++ decimal s.last
+state_text d s =
+    flat_map var_text (zip d.vars s.values) ++ flat_map place_text (zip d.processes s.places)
+    ++ codes "last=" ++ decimal s.last
 
 -- the path of the item of this number
 abbrev pub path_at : List Item → ℕ → List ℕ
@@ -52,7 +54,9 @@ reached_text d (Some m) = move_text d m
 
 -- the line of a state of a play: its number, how it was reached, itself, and its pending goal
 abbrev pub state_line : DesignTree → ℕ → Option Move → StateData → ℕ → List ℕ
-state_line d n m s g = decimal n ++ codes " " ++ reached_text d m ++ codes " " ++ state_text d s ++ codes " goal=" ++ decimal g ++ codes "\n"
+state_line d n m s g =
+    decimal n ++ codes " " ++ reached_text d m ++ codes " " ++ state_text d s
+    ++ codes " goal=" ++ decimal g ++ codes "\n"
 
 -- why a text has no reading
 abbrev pub bad_text : Bad → List ℕ

@@ -18,7 +18,8 @@ names_file (b ∷ c ∷ bs) = not (b == 45)
 -- the reading of the words, where they have one
 abbrev pub command_of : List (List ℕ) → Option Command
 command_of (command ∷ spec ∷ driver ∷ choices ∷ []) =
-    then_some (bytes_eq command (codes "run") && names_file spec && names_file driver && names_file choices) (run spec driver choices)
+    then_some (bytes_eq command (codes "run") && names_file spec && names_file driver && names_file choices)
+    (run spec driver choices)
 command_of _ = None
 
 -- a command as the code has it

@@ -43,11 +43,15 @@ fn read_file<F: Files>(
     ensures long { IfOk result (λ r. IsNone r → IsTrue F.tells → IsLonger (F.contents files.old name.now) limit) }
     ensures taken { IfOk result (λ r. IsNone r →
         F.tells ≡ false → RoseBy F.last_count (limit + 1) (F.bytes_taken files.old) (F.bytes_taken files.new)) }
-    ensures refused { IfErr result (IsLoadRefusal F.tells F.last_count (F.read_faults files.old name.now) (F.read_faults files.new name.now) (F.contents files.old) name.now (λ _. ⊥)) }
+    ensures refused { IfErr result (IsLoadRefusal F.tells F.last_count
+        (F.read_faults files.old name.now) (F.read_faults files.new name.now)
+        (F.contents files.old) name.now (λ _. ⊥)) }
     ensures never_bad { IfErr result IsNoBadText }
     ensures built { IfErr result IsBuilt }
     ensures took { IfErr result (TookTooMany F.tells F.last_count (F.bytes_taken files.old) (F.bytes_taken files.new)) }
-    ensures files { OnlyReads (F.read_faults files.old) (F.read_faults files.new) (F.write_faults files.old) (F.write_faults files.new) (F.bytes_taken files.old) (F.bytes_taken files.new) (F.contents files.old) (F.contents files.new) }
+    ensures files { OnlyReads (F.read_faults files.old) (F.read_faults files.new)
+        (F.write_faults files.old) (F.write_faults files.new) (F.bytes_taken files.old) (F.bytes_taken files.new)
+        (F.contents files.old) (F.contents files.new) }
 {
     match files.read(name, limit) {
         Ok(bytes) => Ok(Some(bytes)),
@@ -81,9 +85,13 @@ fn bad(alloc: Global, name: &str, why: Bad) -> Status
 fn load_design<F: Files>(alloc: Global, files: &mut F, spec: &str) -> Result<Design, Status>
     ensures told { IfOk result (λ d. IsTrue F.tells → TellsDesign (F.contents files.old) spec.now (design_tree d)) }
     ensures playable { IfOk result (λ d. IsPlayable (design_tree d)) }
-    ensures refused { IfErr result (IsLoadRefusal F.tells F.last_count (F.read_faults files.old spec.now) (F.read_faults files.new spec.now) (F.contents files.old) spec.now (λ _. ⊥)) }
+    ensures refused { IfErr result (IsLoadRefusal F.tells F.last_count
+        (F.read_faults files.old spec.now) (F.read_faults files.new spec.now)
+        (F.contents files.old) spec.now (λ _. ⊥)) }
     ensures never_bad { IfErr result IsNoBadText }
-    ensures files { OnlyReads (F.read_faults files.old) (F.read_faults files.new) (F.write_faults files.old) (F.write_faults files.new) (F.bytes_taken files.old) (F.bytes_taken files.new) (F.contents files.old) (F.contents files.new) }
+    ensures files { OnlyReads (F.read_faults files.old) (F.read_faults files.new)
+        (F.write_faults files.old) (F.write_faults files.new) (F.bytes_taken files.old) (F.bytes_taken files.new)
+        (F.contents files.old) (F.contents files.new) }
 {
     let Some(text) = read_file(alloc, files, spec, SPEC_BYTES)? else {
         return Err(unbuilt(alloc, spec));
@@ -101,11 +109,17 @@ fn load_blocks<F: Files>(
     driver: &str,
     design: &Design,
 ) -> Result<Blocks, Status>
-    ensures told { IfOk result (λ b. IsTrue F.tells → TellsBlocks (F.contents files.old) driver.now (design_tree design.now) (trees_of b)) }
+    ensures told { IfOk result (λ b. IsTrue F.tells →
+        TellsBlocks (F.contents files.old) driver.now (design_tree design.now) (trees_of b)) }
     ensures fits { IfOk result (λ b. FitBlocks (design_tree design.now) (trees_of b)) }
-    ensures refused { IfErr result (IsLoadRefusal F.tells F.last_count (F.read_faults files.old driver.now) (F.read_faults files.new driver.now) (F.contents files.old) driver.now (λ _. ⊥)) }
-    ensures taken { IfErr result (TookTooMany F.tells F.last_count (F.bytes_taken files.old) (F.bytes_taken files.new)) }
-    ensures files { OnlyReads (F.read_faults files.old) (F.read_faults files.new) (F.write_faults files.old) (F.write_faults files.new) (F.bytes_taken files.old) (F.bytes_taken files.new) (F.contents files.old) (F.contents files.new) }
+    ensures refused { IfErr result (IsLoadRefusal F.tells F.last_count
+        (F.read_faults files.old driver.now) (F.read_faults files.new driver.now)
+        (F.contents files.old) driver.now (λ _. ⊥)) }
+    ensures taken { IfErr result
+        (TookTooMany F.tells F.last_count (F.bytes_taken files.old) (F.bytes_taken files.new)) }
+    ensures files { OnlyReads (F.read_faults files.old) (F.read_faults files.new)
+        (F.write_faults files.old) (F.write_faults files.new) (F.bytes_taken files.old) (F.bytes_taken files.new)
+        (F.contents files.old) (F.contents files.new) }
 {
     let Some(text) = read_file(alloc, files, driver, TEXT_BYTES)? else {
         return Err(bad(alloc, driver, Bad::TooLong));
@@ -124,11 +138,17 @@ fn load_script<F: Files>(
     design: &Design,
 ) -> Result<Script, Status>
     requires { IsPlayable (design_tree design.now) }
-    ensures told { IfOk result (λ script. IsTrue F.tells → TellsScript (F.contents files.old) choices.now (design_tree design.now) script) }
-    ensures refused { IfErr result (IsLoadRefusal F.tells F.last_count (F.read_faults files.old choices.now) (F.read_faults files.new choices.now) (F.contents files.old) choices.now (TellsBadLine (F.contents files.old) choices.now (design_tree design.now))) }
+    ensures told { IfOk result (λ script. IsTrue F.tells →
+        TellsScript (F.contents files.old) choices.now (design_tree design.now) script) }
+    ensures refused { IfErr result (IsLoadRefusal F.tells F.last_count
+        (F.read_faults files.old choices.now) (F.read_faults files.new choices.now) (F.contents files.old) choices.now
+        (TellsBadLine (F.contents files.old) choices.now (design_tree design.now))) }
     ensures built { IfErr result IsBuilt }
-    ensures taken { IfErr result (TookTooMany F.tells F.last_count (F.bytes_taken files.old) (F.bytes_taken files.new)) }
-    ensures files { OnlyReads (F.read_faults files.old) (F.read_faults files.new) (F.write_faults files.old) (F.write_faults files.new) (F.bytes_taken files.old) (F.bytes_taken files.new) (F.contents files.old) (F.contents files.new) }
+    ensures taken { IfErr result
+        (TookTooMany F.tells F.last_count (F.bytes_taken files.old) (F.bytes_taken files.new)) }
+    ensures files { OnlyReads (F.read_faults files.old) (F.read_faults files.new)
+        (F.write_faults files.old) (F.write_faults files.new) (F.bytes_taken files.old) (F.bytes_taken files.new)
+        (F.contents files.old) (F.contents files.new) }
 {
     let Some(text) = read_file(alloc, files, choices, TEXT_BYTES)? else {
         return Err(bad(alloc, choices, Bad::TooLong));
@@ -149,12 +169,18 @@ pub fn load<F: Files>(
     choices: &str,
 ) -> Result<Inputs, Status>
     ensures told { IfOk result (λ i. IsTrue F.tells →
-        Loads (F.contents files.old) spec.now driver.now choices.now (design_tree i.design) (trees_of i.blocks) i.script) }
+        Loads (F.contents files.old) spec.now driver.now choices.now
+        (design_tree i.design) (trees_of i.blocks) i.script) }
     ensures playable { IfOk result (λ i. IsPlayable (design_tree i.design)) }
     ensures fits { IfOk result (λ i. FitBlocks (design_tree i.design) (trees_of i.blocks)) }
-    ensures refused { IfErr result (IsUnloaded F.tells F.last_count (F.read_faults files.old) (F.read_faults files.new) (F.contents files.old) spec.now driver.now choices.now) }
-    ensures taken { IfErr result (TookTooMany F.tells F.last_count (F.bytes_taken files.old) (F.bytes_taken files.new)) }
-    ensures files { OnlyReads (F.read_faults files.old) (F.read_faults files.new) (F.write_faults files.old) (F.write_faults files.new) (F.bytes_taken files.old) (F.bytes_taken files.new) (F.contents files.old) (F.contents files.new) }
+    ensures refused { IfErr result (IsUnloaded F.tells F.last_count
+        (F.read_faults files.old) (F.read_faults files.new) (F.contents files.old)
+        spec.now driver.now choices.now) }
+    ensures taken { IfErr result
+        (TookTooMany F.tells F.last_count (F.bytes_taken files.old) (F.bytes_taken files.new)) }
+    ensures files { OnlyReads (F.read_faults files.old) (F.read_faults files.new)
+        (F.write_faults files.old) (F.write_faults files.new) (F.bytes_taken files.old) (F.bytes_taken files.new)
+        (F.contents files.old) (F.contents files.new) }
 {
     let design = match load_design(alloc, files, spec) {
         Ok(design) => design,

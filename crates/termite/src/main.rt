@@ -2,6 +2,7 @@
 #![tactic(auto)]
 
 mod choices;
+mod laws;
 mod line_text;
 mod lines;
 mod load;

@@ -47,9 +47,14 @@ fn put_position<O: Sink>(
     out: &mut O,
 ) -> Result<(), Status>
     ensures ok { OnOk result (IsTrue O.tells →
-        O.written out.new ≡ O.written out.old ++ line_of_state (design_tree design.now) number (option_copied action.entry) position.now.state position.now.goal) }
+        O.written out.new ≡ O.written out.old
+        ++ line_of_state (design_tree design.now) number (option_copied action.entry)
+        position.now.state position.now.goal) }
     ensures err { OnErr result (IsTrue O.tells →
-        AppendsPrefix (line_of_state (design_tree design.now) number (option_copied action.entry) position.now.state position.now.goal) (O.written out.old) (O.written out.new)) }
+        AppendsPrefix
+        (line_of_state (design_tree design.now) number (option_copied action.entry)
+        position.now.state position.now.goal)
+        (O.written out.old) (O.written out.new)) }
     ensures refusal { IfErr result (IsRefusal O.last_count (O.faults out.old) (O.faults out.new)) }
     ensures no_fewer_faults { O.faults out.old ≤ O.faults out.new }
 {

@@ -81,7 +81,8 @@ fn push_reached(
     design: &Design,
     action: Option<&Move>,
 ) -> Result<(), AllocError>
-    ensures { OnOk result (line.new.items ≡ line.old.items ++ reached_text (design_tree design.now) (option_copied action.entry)) }
+    ensures { OnOk result (line.new.items
+        ≡ line.old.items ++ reached_text (design_tree design.now) (option_copied action.entry)) }
 {
     match action {
         Some(action) => push_move(line, design, action),

@@ -81,7 +81,8 @@ fn push_why(line: &mut Vec<u8>, why: StopWhy) -> Result<(), AllocError>
 
 #[tactic(auto, using(crate::proofs::Appending::append_assoc))]
 fn stopped_line(alloc: Global, step: u64, why: StopWhy) -> Result<Vec<u8>, AllocError>
-    ensures { IfOk result (λ line. line.items ≡ codes "stopped " ++ decimal step ++ codes " " ++ why_text why ++ codes "\n") }
+    ensures { IfOk result (λ line.
+        line.items ≡ codes "stopped " ++ decimal step ++ codes " " ++ why_text why ++ codes "\n") }
 {
     let mut line = Vec::from_slice(alloc, b"stopped ")?;
     push_number(&mut line, step)?;
@@ -114,8 +115,10 @@ fn status_line(alloc: Global, status: &Status) -> Result<Vec<u8>, AllocError>
 
 /// Puts lines, one after another.
 fn put_lines<O: Sink>(alloc: Global, out: &mut O, lines: &[&str]) -> Result<(), Status>
-    ensures ok { OnOk result (IsTrue O.tells → O.written out.new ≡ O.written out.old ++ flat_map (λ l. l.now) lines.now) }
-    ensures err { OnErr result (IsTrue O.tells → AppendsPrefix (flat_map (λ l. l.now) lines.now) (O.written out.old) (O.written out.new)) }
+    ensures ok { OnOk result (IsTrue O.tells →
+        O.written out.new ≡ O.written out.old ++ flat_map (λ l. l.now) lines.now) }
+    ensures err { OnErr result (IsTrue O.tells →
+        AppendsPrefix (flat_map (λ l. l.now) lines.now) (O.written out.old) (O.written out.new)) }
     ensures refusal { IfErr result (IsRefusal O.last_count (O.faults out.old) (O.faults out.new)) }
     ensures no_fewer_faults { O.faults out.old ≤ O.faults out.new }
 {
@@ -136,7 +139,8 @@ fn put_usage<O: Sink>(alloc: Global, out: &mut O) -> Result<(), Status>
 
 fn put_status_line<O: Sink>(alloc: Global, status: &Status, out: &mut O) -> Result<(), Status>
     ensures ok { OnOk result (IsTrue O.tells → O.written out.new ≡ O.written out.old ++ line_text status.now) }
-    ensures err { OnErr result (IsTrue O.tells → AppendsPrefix (line_text status.now) (O.written out.old) (O.written out.new)) }
+    ensures err { OnErr result (IsTrue O.tells →
+        AppendsPrefix (line_text status.now) (O.written out.old) (O.written out.new)) }
     ensures refusal { IfErr result (IsRefusal O.last_count (O.faults out.old) (O.faults out.new)) }
     ensures no_fewer_faults { O.faults out.old ≤ O.faults out.new }
 {
@@ -150,7 +154,8 @@ fn put_status_line<O: Sink>(alloc: Global, status: &Status, out: &mut O) -> Resu
 /// Puts the lines that tell a status, one put a line: none where the output failed or memory ran out.
 pub fn put_status<O: Sink>(alloc: Global, status: &Status, out: &mut O) -> Result<(), Status>
     ensures ok { OnOk result (IsTrue O.tells → O.written out.new ≡ O.written out.old ++ status_text status.now) }
-    ensures err { OnErr result (IsTrue O.tells → AppendsPrefix (status_text status.now) (O.written out.old) (O.written out.new)) }
+    ensures err { OnErr result (IsTrue O.tells →
+        AppendsPrefix (status_text status.now) (O.written out.old) (O.written out.new)) }
     ensures refusal { IfErr result (IsRefusal O.last_count (O.faults out.old) (O.faults out.new)) }
     ensures no_fewer_faults { O.faults out.old ≤ O.faults out.new }
 {

@@ -105,7 +105,8 @@ pub fn advance(
     requires blocks { FitBlocks (design_tree design.now) (trees_of blocks.now) }
     requires state { IsState (design_tree design.now) position.now.state }
     requires below { position.now.goal < length (design_tree design.now).goals }
-    ensures { IfOk result (Advances (design_tree design.now) (trees_of blocks.now) position.now.state position.now.goal turn.now) }
+    ensures { IfOk result (Advances (design_tree design.now) (trees_of blocks.now)
+        position.now.state position.now.goal turn.now) }
 {
     let state = &position.state;
     let Some(action) = move_of(alloc, design, blocks, state, position.goal, turn.actor)? else {
