@@ -1,6 +1,7 @@
 pub mod CacheLemmas
 pub mod Choices
 pub mod Connectives
+pub mod Copies
 pub mod Counts
 pub mod Exists
 pub mod Facts
@@ -11,4 +12,5 @@ pub mod Reach
 pub mod Replaced
 pub mod Results
 pub mod Sound
+pub mod Supports
 pub mod Walks

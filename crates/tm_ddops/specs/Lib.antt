@@ -1,6 +1,7 @@
 pub mod Choice
 pub mod Composed
 pub mod Connective
+pub mod Copied
 pub mod Found
 pub mod Layout
 pub mod Least
@@ -10,3 +11,4 @@ pub mod Operation
 pub mod Parts
 pub mod Quantified
 pub mod Reached
+pub mod Support

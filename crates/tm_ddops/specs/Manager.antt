@@ -23,20 +23,24 @@ pub record IsResult (s : Table) (operation : Operation) (id : NodeId) : Type 0 w
 
 -- each remembered result is true
 abbrev pub AreResults : Table → List (Operation × NodeId) → Type 0
-AreResults s results = (operation : Operation) (id : NodeId) → Contains results (operation, id) → IsResult s operation id
+AreResults s results = (operation : Operation) (id : NodeId) → Contains results (operation, id) →
+    IsResult s operation id
 
 -- a result is remembered
 abbrev pub Remembers : Diagrams → Operation → NodeId → Type 0
 Remembers m operation id = Contains m.results (operation, id)
 
--- what holds of every manager: ids are canonical, each remembered result is true, none stands twice, and there are at most 65,536
+-- what holds of every manager: ids are canonical, each remembered result is true, none stands twice, and there are at
+-- most 65,536
 pub record IsManager (m : Diagrams) : Type 0 where
   pub reduced : IsReduced m.table
   pub results : AreResults m.table m.results
   pub once : AllPairs (λ a b. a.0 ≢ b.0) m.results
   pub few : length m.results ≤ 65536
 
--- what a call that makes diagrams leaves: each id means what it meant, and a result is forgotten only where the list is full
+-- what a call that makes diagrams leaves: each id means what it meant, and a result is forgotten only where the list
+-- is full
 pub record Grows (old new : Diagrams) : Type 0 where
   pub extends : Extends old.table new.table
-  pub results : (operation : Operation) (id : NodeId) → Remembers old operation id → Remembers new operation id ⊎ (length new.results ≡ 65536)
+  pub results : (operation : Operation) (id : NodeId) → Remembers old operation id →
+      Remembers new operation id ⊎ (length new.results ≡ 65536)

@@ -15,7 +15,8 @@ Memo = HashMap Choice NodeId (BuildHasherDefault FoldHasher)
 
 -- whether two choices are one
 abbrev pub choice_eq : Choice → Choice → Bool
-choice_eq a b = (number_of a.test == number_of b.test) && ((number_of a.if_true == number_of b.if_true) && (number_of a.if_false == number_of b.if_false))
+choice_eq a b = (number_of a.test == number_of b.test)
+    && ((number_of a.if_true == number_of b.if_true) && (number_of a.if_false == number_of b.if_false))
 
 -- the id that is noted for a choice
 abbrev pub noted : Memo → Choice → Option NodeId

@@ -40,7 +40,8 @@ abbrev pub operation_eq : Operation → Operation → Bool
 operation_eq (And f g) (And x y) = (number_of f == number_of x) && (number_of g == number_of y)
 operation_eq (Or f g) (Or x y) = (number_of f == number_of x) && (number_of g == number_of y)
 operation_eq (Xor f g) (Xor x y) = (number_of f == number_of x) && (number_of g == number_of y)
-operation_eq (Ite f g h) (Ite x y z) = (number_of f == number_of x) && (number_of g == number_of y) && (number_of h == number_of z)
+operation_eq (Ite f g h) (Ite x y z) = (number_of f == number_of x) && (number_of g == number_of y)
+    && (number_of h == number_of z)
 operation_eq (Compose f parts) (Compose x others) = (number_of f == number_of x) && pointwise part_eq parts others
 operation_eq _ _ = false
 
@@ -72,7 +73,9 @@ same_operation (Ite f g h) (Ite x y z) e =
     let t = both_true _ _ e in
     let u = both_true _ _ t.0 in
     λ i. Ite (same_id f x u.0 i) (same_id g y u.1 i) (same_id h z t.1 i)
-same_operation (Compose f parts) (Compose x others) e = let t = both_true _ _ e in λ i. Compose (same_id f x t.0 i) (same_parts parts others t.1 i)
+same_operation (Compose f parts) (Compose x others) e =
+    let t = both_true _ _ e in
+    λ i. Compose (same_id f x t.0 i) (same_parts parts others t.1 i)
 same_operation _ _ e = cc
 
 operation_eq-refl : (a : Operation) → operation_eq a a ≡ true

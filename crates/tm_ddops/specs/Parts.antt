@@ -30,7 +30,8 @@ same_part p q h =
 
 part_eq-same : (p q : ℕ × NodeId) → p ≡ q → part_eq p q ≡ true
 part_eq-same p q e =
-    ap (λ (r : ℕ × NodeId). part_eq p r) (sym e) ∙ (λ i. eq-eqb p.0 p.0 refl i && eq-eqb (number_of p.1) (number_of p.1) refl i)
+    ap (λ (r : ℕ × NodeId). part_eq p r) (sym e)
+    ∙ (λ i. eq-eqb p.0 p.0 refl i && eq-eqb (number_of p.1) (number_of p.1) refl i)
 
 part_Decides : (p q : ℕ × NodeId) → Decides (part_eq p q) (p ≡ q)
 part_Decides p q = (same_part p q, part_eq-same p q)
@@ -41,5 +42,6 @@ parts_equiv = lists_equiv (decided part_eq part_Decides)
 pub same_parts : (xs ys : List (ℕ × NodeId)) → pointwise part_eq xs ys ≡ true → xs ≡ ys
 same_parts xs ys h = (pointwise_decides part_Decides xs ys).0 h
 
-pub same_hash : (xs ys : List (ℕ × NodeId)) → IsTrue (pointwise part_eq xs ys) → fed.slice part_hash xs ≡ fed.slice part_hash ys
+pub same_hash : (xs ys : List (ℕ × NodeId)) → IsTrue (pointwise part_eq xs ys) →
+    fed.slice part_hash xs ≡ fed.slice part_hash ys
 same_hash xs ys h = ap (fed.slice part_hash) (same_parts xs ys h)

@@ -28,15 +28,19 @@ impl Manager {
 
         ensures manager { IsManager self.new }
         ensures grows { Grows self.old self.new }
-        ensures answer { IfOk result (λ id. IsFunction self.new.table id (λ v. means self.new.table f v && means self.new.table g v)) }
+        ensures answer { IfOk result (λ id.
+            IsFunction self.new.table id (λ v. means self.new.table f v && means self.new.table g v)) }
         ensures requests { RisesByPairs self.old.table f g steps.old steps.new }
         ensures nodes { RisesByPairs self.old.table f g (kept self.old.table) (kept self.new.table) }
-        ensures remembered { AreTwoNodes f g → IfOk result (Remembers self.new (operation.And (smaller f g) (larger f g))) }
+        ensures remembered { AreTwoNodes f g →
+            IfOk result (Remembers self.new (operation.And (smaller f g) (larger f g))) }
 
         // A remembered result is answered again. That takes no memory and makes no request.
         ensures again { (id : Id) → Remembers self.old (operation.And (smaller f g) (larger f g)) id → result ≡ Ok id }
-        ensures again_same { (id : Id) → Remembers self.old (operation.And (smaller f g) (larger f g)) id → self.new.table ≡ self.old.table }
-        ensures again_free { (id : Id) → Remembers self.old (operation.And (smaller f g) (larger f g)) id → steps.new ≡ steps.old }
+        ensures again_same { (id : Id) → Remembers self.old (operation.And (smaller f g) (larger f g)) id →
+            self.new.table ≡ self.old.table }
+        ensures again_free { (id : Id) → Remembers self.old (operation.And (smaller f g) (larger f g)) id →
+            steps.new ≡ steps.old }
     {
         self.binary(Connective::And, f, g, steps)
     }
@@ -55,15 +59,19 @@ impl Manager {
 
         ensures manager { IsManager self.new }
         ensures grows { Grows self.old self.new }
-        ensures answer { IfOk result (λ id. IsFunction self.new.table id (λ v. means self.new.table f v || means self.new.table g v)) }
+        ensures answer { IfOk result (λ id.
+            IsFunction self.new.table id (λ v. means self.new.table f v || means self.new.table g v)) }
         ensures requests { RisesByPairs self.old.table f g steps.old steps.new }
         ensures nodes { RisesByPairs self.old.table f g (kept self.old.table) (kept self.new.table) }
-        ensures remembered { AreTwoNodes f g → IfOk result (Remembers self.new (operation.Or (smaller f g) (larger f g))) }
+        ensures remembered { AreTwoNodes f g →
+            IfOk result (Remembers self.new (operation.Or (smaller f g) (larger f g))) }
 
         // A remembered result is answered again. That takes no memory and makes no request.
         ensures again { (id : Id) → Remembers self.old (operation.Or (smaller f g) (larger f g)) id → result ≡ Ok id }
-        ensures again_same { (id : Id) → Remembers self.old (operation.Or (smaller f g) (larger f g)) id → self.new.table ≡ self.old.table }
-        ensures again_free { (id : Id) → Remembers self.old (operation.Or (smaller f g) (larger f g)) id → steps.new ≡ steps.old }
+        ensures again_same { (id : Id) → Remembers self.old (operation.Or (smaller f g) (larger f g)) id →
+            self.new.table ≡ self.old.table }
+        ensures again_free { (id : Id) → Remembers self.old (operation.Or (smaller f g) (larger f g)) id →
+            steps.new ≡ steps.old }
     {
         self.binary(Connective::Or, f, g, steps)
     }
@@ -82,15 +90,19 @@ impl Manager {
 
         ensures manager { IsManager self.new }
         ensures grows { Grows self.old self.new }
-        ensures answer { IfOk result (λ id. IsFunction self.new.table id (λ v. xor (means self.new.table f v) (means self.new.table g v))) }
+        ensures answer { IfOk result (λ id.
+            IsFunction self.new.table id (λ v. xor (means self.new.table f v) (means self.new.table g v))) }
         ensures requests { RisesByPairs self.old.table f g steps.old steps.new }
         ensures nodes { RisesByPairs self.old.table f g (kept self.old.table) (kept self.new.table) }
-        ensures remembered { AreTwoNodes f g → IfOk result (Remembers self.new (operation.Xor (smaller f g) (larger f g))) }
+        ensures remembered { AreTwoNodes f g →
+            IfOk result (Remembers self.new (operation.Xor (smaller f g) (larger f g))) }
 
         // A remembered result is answered again. That takes no memory and makes no request.
         ensures again { (id : Id) → Remembers self.old (operation.Xor (smaller f g) (larger f g)) id → result ≡ Ok id }
-        ensures again_same { (id : Id) → Remembers self.old (operation.Xor (smaller f g) (larger f g)) id → self.new.table ≡ self.old.table }
-        ensures again_free { (id : Id) → Remembers self.old (operation.Xor (smaller f g) (larger f g)) id → steps.new ≡ steps.old }
+        ensures again_same { (id : Id) → Remembers self.old (operation.Xor (smaller f g) (larger f g)) id →
+            self.new.table ≡ self.old.table }
+        ensures again_free { (id : Id) → Remembers self.old (operation.Xor (smaller f g) (larger f g)) id →
+            steps.new ≡ steps.old }
     {
         self.binary(Connective::Xor, f, g, steps)
     }
@@ -108,13 +120,17 @@ impl Manager {
 
         ensures manager { IsManager self.new }
         ensures grows { Grows self.old self.new }
-        ensures answer { IfOk result (λ id. IsFunction self.new.table id (λ v. connective_value connective (means self.new.table f v) (means self.new.table g v))) }
+        ensures answer { IfOk result (λ id.
+            IsFunction self.new.table id (λ v.
+            connective_value connective (means self.new.table f v) (means self.new.table g v))) }
         ensures requests { RisesByPairs self.old.table f g steps.old steps.new }
         ensures nodes { RisesByPairs self.old.table f g (kept self.old.table) (kept self.new.table) }
         ensures remembered { AreTwoNodes f g → IfOk result (Remembers self.new (connective_operation connective f g)) }
         ensures again { (id : Id) → Remembers self.old (connective_operation connective f g) id → result ≡ Ok id }
-        ensures again_same { (id : Id) → Remembers self.old (connective_operation connective f g) id → self.new.table ≡ self.old.table }
-        ensures again_free { (id : Id) → Remembers self.old (connective_operation connective f g) id → steps.new ≡ steps.old }
+        ensures again_same { (id : Id) → Remembers self.old (connective_operation connective f g) id →
+            self.new.table ≡ self.old.table }
+        ensures again_free { (id : Id) → Remembers self.old (connective_operation connective f g) id →
+            steps.new ≡ steps.old }
     {
         prove!(self.cache.len() <= ROOM);
         let choice = connective.choice(f, g);

@@ -37,8 +37,10 @@ pub(crate) fn remember(
 ) -> Result<(), AllocError>
     requires absent { (other : Id) → ¬ Contains cache.old.entries (operation, other) }
     ensures there { OnOk result (Contains cache.new.entries (operation, id)) }
-    ensures kept { (e : Key × Id) → Contains cache.old.entries e → Contains cache.new.entries e ⊎ (length cache.new.entries ≡ cache.new.cap) }
-    ensures only { (e : Key × Id) → Contains cache.new.entries e → Contains cache.old.entries e ⊎ (e ≡ (operation, id)) }
+    ensures kept { (e : Key × Id) → Contains cache.old.entries e →
+        Contains cache.new.entries e ⊎ (length cache.new.entries ≡ cache.new.cap) }
+    ensures only { (e : Key × Id) → Contains cache.new.entries e →
+        Contains cache.old.entries e ⊎ (e ≡ (operation, id)) }
     ensures refused { OnErr result (cache.new ≡ cache.old) }
     ensures capacity { cache.new.cap ≡ cache.old.cap }
     ensures once { AllPairs (λ a b. a.0 ≢ b.0) cache.new.entries }

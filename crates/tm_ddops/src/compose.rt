@@ -27,7 +27,9 @@ impl Manager {
 
         ensures manager { IsManager self.new }
         ensures grows { Grows self.old self.new }
-        ensures answer { IfOk result (λ id. IsFunction self.new.table id (λ v. means self.new.table f (substituted self.new.table parts.now v))) }
+        ensures answer { IfOk result (λ id.
+            IsFunction self.new.table id (λ v.
+            means self.new.table f (substituted self.new.table parts.now v))) }
         ensures remembered { IfOk result (Remembers self.new (operation.Compose f parts.now)) }
     {
         let composition = Operation::Compose(f, Parts::from_slice(self.alloc, parts)?);
@@ -186,7 +188,8 @@ fn by_level(
     parts: &[(u32, NodeId)],
 ) -> Result<Vec<Option<NodeId>>, AllocError>
     ensures len { IfOk result (λ table. length table.items ≡ count) }
-    ensures parts { IfOk result (λ table. (k : ℕ) → k < count → part_at table.items k ≡ lookup (λ l. l == k) parts.now) }
+    ensures parts { IfOk result (λ table. (k : ℕ) → k < count →
+        part_at table.items k ≡ lookup (λ l. l == k) parts.now) }
 {
     let mut table = vec![in alloc; None; count as usize]?;
     for (level, part) in parts {
@@ -197,7 +200,9 @@ fn by_level(
 
 /// Puts a function in the place of a level that is in the table and has none.
 fn set_first(table: &mut [Option<NodeId>], level: u32, part: NodeId)
-    ensures { (k : ℕ) → k < length table.old → part_at table.new k ≡ (if level == k then first_of (part_at table.old k) (Some part) else part_at table.old k) }
+    ensures { (k : ℕ) → k < length table.old →
+        part_at table.new k
+        ≡ (if level == k then first_of (part_at table.old k) (Some part) else part_at table.old k) }
 {
     let place = level as usize;
     if place < table.len() && table[place].is_none() {

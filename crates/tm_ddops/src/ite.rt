@@ -21,7 +21,9 @@ impl Manager {
 
         ensures manager { IsManager self.new }
         ensures grows { Grows self.old self.new }
-        ensures answer { IfOk result (λ id. IsFunction self.new.table id (λ v. if means self.new.table f v then means self.new.table g v else means self.new.table h v)) }
+        ensures answer { IfOk result (λ id.
+            IsFunction self.new.table id (λ v.
+            if means self.new.table f v then means self.new.table g v else means self.new.table h v)) }
         ensures remembered { IfOk result (Remembers self.new (operation.Ite f g h)) }
         ensures again { (id : Id) → Remembers self.old (operation.Ite f g h) id → result ≡ Ok id }
         ensures again_same { (id : Id) → Remembers self.old (operation.Ite f g h) id → self.new.table ≡ self.old.table }

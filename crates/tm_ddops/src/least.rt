@@ -12,7 +12,8 @@ impl Manager {
     /// The least values of all levels that make `f` true, with false before true and level 0 first. `FALSE` has none.
     pub fn least(&self, f: NodeId) -> Result<Option<Vec<bool>>, AllocError>
         requires { Knows self.now.table f }
-        ensures { IfOk result (λ least. MatchOption least (f ≡ FALSE) (λ values. IsLeast self.now.table f values.items)) }
+        ensures { IfOk result (λ least.
+            MatchOption least (f ≡ FALSE) (λ values. IsLeast self.now.table f values.items)) }
     {
         if f == FALSE {
             return Ok(None);
@@ -24,7 +25,7 @@ impl Manager {
 }
 
 /// As many values as there are levels, all of them false.
-fn all_false(alloc: Global, count: u32) -> Result<Vec<bool>, AllocError>
+pub(crate) fn all_false(alloc: Global, count: u32) -> Result<Vec<bool>, AllocError>
     ensures { IfOk result (λ values. values.items ≡ replicate count false) }
 {
     vec![in alloc; false; count as usize]

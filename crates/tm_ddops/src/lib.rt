@@ -6,6 +6,7 @@ mod cache;
 mod choice;
 mod compose;
 mod connective;
+mod copy;
 mod descent;
 mod ite;
 mod least;
@@ -13,6 +14,7 @@ mod manager;
 mod operation;
 mod quantify;
 mod reached;
+mod support;
 #[cfg(test)]
 mod tests;
 mod walk;

@@ -26,7 +26,8 @@ pub(crate) const ROOM: usize = 65536;
 
 /// Boolean functions as decision diagrams, with operations on them (Bryant 1986; Brace, Rudell and Bryant 1990).
 ///
-/// A contract sees the nodes of its store, and the results of operations that it remembers, the one that was used last first.
+/// A contract sees the nodes of its store, and the results of operations that it remembers, the one that was used
+/// last first.
 /// An id means the same until `copy_roots`.
 #[derive(Drop)]
 pub struct Manager {
@@ -56,8 +57,7 @@ impl Manager {
         ensures manager { IfOk result IsManager }
     {
         let store = Store::new(alloc, levels)?;
-        let cache = LruCache::sparse(alloc, NonZeroUsize::MIN.saturating_add(ROOM - 1))?;
-        prove!(cache.len() <= ROOM);
+        let cache = empty_cache(alloc)?;
         Ok(Manager {
             alloc,
             store,
@@ -73,7 +73,8 @@ impl Manager {
         &self.store
     }
 
-    /// The function that is `hi` where the level's value is true, and `lo` where it is false, as `Store::make` gives it.
+    /// The function that is `hi` where the level's value is true, and `lo` where it is false, as `Store::make` gives
+    /// it.
     pub fn make<L>(
         &mut self,
         level: u32,
@@ -89,7 +90,9 @@ impl Manager {
 
         ensures manager { IsManager self.new }
         ensures grows { Grows self.old self.new }
-        ensures answer { IfOk result (λ id. IsFunction self.new.table id (λ v. if v level then means self.new.table hi v else means self.new.table lo v)) }
+        ensures answer { IfOk result (λ id.
+            IsFunction self.new.table id (λ v.
+            if v level then means self.new.table hi v else means self.new.table lo v)) }
         ensures deep { IfOk result (λ id. level ≤ level_of self.new.table id) }
         ensures counted { steps.new ≡ min (steps.old + 1) u64.MAX }
         ensures adds { kept self.new.table ≤ kept self.old.table + 1 }
@@ -151,8 +154,10 @@ impl Manager {
         ensures grows { Grows self.old self.new }
         ensures answer { IfOk result (IsResult self.new.table operation) }
         ensures remembered { IfOk result (Remembers self.new operation) }
-        ensures requests { (choices : List Met) → HasOpen self.new.table choice choices → steps.new ≤ steps.old + length choices }
-        ensures nodes { (choices : List Met) → HasOpen self.new.table choice choices → kept self.new.table ≤ kept self.old.table + length choices }
+        ensures requests { (choices : List Met) → HasOpen self.new.table choice choices →
+            steps.new ≤ steps.old + length choices }
+        ensures nodes { (choices : List Met) → HasOpen self.new.table choice choices →
+            kept self.new.table ≤ kept self.old.table + length choices }
     {
         let answer = walk(self.alloc, &mut self.store, choice, steps)?;
         remember(&mut self.cache, operation, answer)?;
@@ -174,8 +179,10 @@ impl Manager {
         ensures grows { Grows self.old self.new }
         ensures answer { IfOk result (IsResult self.new.table operation) }
         ensures remembered { IfOk result (Remembers self.new operation) }
-        ensures requests { (choices : List Met) → HasOpen self.new.table choice choices → steps.new ≤ steps.old + length choices }
-        ensures nodes { (choices : List Met) → HasOpen self.new.table choice choices → kept self.new.table ≤ kept self.old.table + length choices }
+        ensures requests { (choices : List Met) → HasOpen self.new.table choice choices →
+            steps.new ≤ steps.old + length choices }
+        ensures nodes { (choices : List Met) → HasOpen self.new.table choice choices →
+            kept self.new.table ≤ kept self.old.table + length choices }
 
         // A remembered result is answered again, and that makes no request.
         ensures again { (id : Id) → Remembers self.old operation id → result ≡ Ok id }
@@ -187,4 +194,12 @@ impl Manager {
         }
         self.walked(operation, choice, steps)
     }
+}
+
+/// A cache that remembers no result, and at most `ROOM` of them.
+pub(crate) fn empty_cache(alloc: Global) -> Result<Cache, AllocError>
+    ensures empty { IfOk result (λ cache. cache.entries ≡ []) }
+    ensures room { IfOk result (λ cache. cache.cap ≡ 65536) }
+{
+    LruCache::sparse(alloc, NonZeroUsize::MIN.saturating_add(ROOM - 1))
 }

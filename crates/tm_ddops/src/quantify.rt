@@ -137,7 +137,8 @@ impl Descent {
 /// Which of the levels below `count` are in the list.
 fn marked(alloc: Global, count: u32, levels: &[u32]) -> Result<Vec<bool>, AllocError>
     ensures len { IfOk result (λ marks. length marks.items ≡ count) }
-    ensures marked { IfOk result (λ marks. (k : ℕ) → k < count → is_marked_level marks.items k ≡ list_any (λ l. l == k) levels.now) }
+    ensures marked { IfOk result (λ marks. (k : ℕ) → k < count →
+        is_marked_level marks.items k ≡ list_any (λ l. l == k) levels.now) }
 {
     let mut marks = vec![in alloc; false; count as usize]?;
     for level in levels {

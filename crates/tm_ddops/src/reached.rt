@@ -20,7 +20,11 @@ impl Manager {
 }
 
 /// The ids of inner nodes that are reached from `f`.
-fn inner_nodes(alloc: Global, store: &Store, f: NodeId) -> Result<HashSet<NodeId>, AllocError>
+pub(crate) fn inner_nodes(
+    alloc: Global,
+    store: &Store,
+    f: NodeId,
+) -> Result<HashSet<NodeId>, AllocError>
     requires { Knows store.now f }
     ensures { IfOk result (λ inner. IsInnerNodes store.now f inner.keys) }
 {

@@ -30,8 +30,10 @@ pub(crate) fn walk<L>(
     ensures answer { IfOk result (IsChoice store.new choice) }
 
     // At most one request and one node for each open choice on the way down.
-    ensures requests { (choices : List Choice) → HasOpen store.new choice choices → steps.new ≤ steps.old + length choices }
-    ensures nodes { (choices : List Choice) → HasOpen store.new choice choices → kept store.new ≤ kept store.old + length choices }
+    ensures requests { (choices : List Choice) → HasOpen store.new choice choices →
+        steps.new ≤ steps.old + length choices }
+    ensures nodes { (choices : List Choice) → HasOpen store.new choice choices →
+        kept store.new ≤ kept store.old + length choices }
 {
     let mut memo = HashMap::new(alloc);
     let answer = choose(store, choice, &mut memo, steps);
@@ -109,7 +111,8 @@ fn join<L>(
     Ok(id)
 }
 
-/// The function that is `hi` where the level's value is true, and `lo` where it is false. It makes no request where both are equal.
+/// The function that is `hi` where the level's value is true, and `lo` where it is false. It makes no request where
+/// both are equal.
 pub(crate) fn branch<L>(
     store: &mut Store,
     level: u32,
@@ -128,7 +131,8 @@ pub(crate) fn branch<L>(
     ensures reduced { IsReduced store.new }
     ensures known { IfOk result (λ r. Knows store.new r) }
     ensures deep { IfOk result (λ r. level ≤ level_of store.new r) }
-    ensures meaning { IfOk result (λ r. (v : ℕ → Bool) → means store.new r v ≡ (if v level then means store.old hi v else means store.old lo v)) }
+    ensures meaning { IfOk result (λ r. (v : ℕ → Bool) →
+        means store.new r v ≡ (if v level then means store.old hi v else means store.old lo v)) }
     ensures requests { steps.new ≤ steps.old + 1 }
     ensures nodes { kept store.new ≤ kept store.old + 1 }
 {
