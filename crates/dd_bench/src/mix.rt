@@ -12,8 +12,11 @@ const FUNCTIONS: usize = 16;
 /// What the diagrams of all functions cost at the end.
 #[derive(Clone, Copy)]
 pub struct Counts {
+    /// The sum of the sizes.
     pub sum: u64,
+    /// The greatest size.
     pub most: u64,
+    /// The requests for nodes that were made.
     pub requests: u64,
 }
 

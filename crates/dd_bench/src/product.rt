@@ -11,6 +11,7 @@ pub struct Counts {
     pub together: u64,
     /// The size of the middle bit.
     pub middle: u64,
+    /// The requests for nodes that were made.
     pub requests: u64,
 }
 

@@ -70,6 +70,7 @@ impl Workbench {
         self.steps.count()
     }
 
+    /// Both of two functions.
     pub fn and(&mut self, f: Function, g: Function) -> Result<Function, AllocError> {
         let f = self.id(f);
         let g = self.id(g);
@@ -77,6 +78,7 @@ impl Workbench {
         self.number(both)
     }
 
+    /// At least one of two functions.
     pub fn or(&mut self, f: Function, g: Function) -> Result<Function, AllocError> {
         let f = self.id(f);
         let g = self.id(g);
@@ -84,6 +86,7 @@ impl Workbench {
         self.number(some)
     }
 
+    /// Exactly one of two functions.
     pub fn xor(&mut self, f: Function, g: Function) -> Result<Function, AllocError> {
         let f = self.id(f);
         let g = self.id(g);
@@ -91,18 +94,21 @@ impl Workbench {
         self.number(one)
     }
 
+    /// The complement of a function.
     pub fn not(&mut self, f: Function) -> Result<Function, AllocError> {
         let f = self.id(f);
         let opposite = self.manager.not(f)?;
         self.number(opposite)
     }
 
+    /// The function that is true where `f` is true for some values of the levels.
     pub fn exists(&mut self, f: Function, levels: &[u32]) -> Result<Function, AllocError> {
         let f = self.id(f);
         let some = self.manager.exists(f, levels)?;
         self.number(some)
     }
 
+    /// The function that is true where `f` is true for all values of the levels.
     pub fn forall(&mut self, f: Function, levels: &[u32]) -> Result<Function, AllocError> {
         let f = self.id(f);
         let all = self.manager.forall(f, levels)?;
