@@ -1,0 +1,27 @@
+//! Counts what operations on decision diagrams cost: each line of the input is a task, done in a manager of its own.
+#![tactic(auto)]
+
+mod mix;
+mod product;
+mod quantify;
+mod queens;
+mod task;
+mod workbench;
+
+use anyhow::{Context, Result};
+use std::alloc::Global;
+use task::Task;
+
+/// What the task of a line counts.
+fn answer(alloc: Global, line: &str) -> Result<String> {
+    let task = Task::from_line(line).with_context(|| "a line that is no task")?;
+    Ok(task.answer(alloc)?)
+}
+
+fn main(rt: HostRuntime) -> Result<()> {
+    for line in rt.lines(rt.alloc()) {
+        let text = answer(rt.alloc(), line?.as_str())?;
+        println!(rt; "{text}")?;
+    }
+    Ok(())
+}
