@@ -1,7 +1,6 @@
 //! Functions by number, in a manager of their own.
 ghost use Rattle.std.specs.Prelude.{All, IfOk};
 ghost use Rattle.tm_dd.specs.Table.{Knows};
-ghost use Rattle.tm_dd.specs.NodeId.{IsConstant};
 
 use std::alloc::{AllocError, Global};
 use std::collections::HashSet;
