@@ -5,11 +5,11 @@ use Rattle.tm_base.specs.Sink.{AppendsPrefix}
 use Rattle.tm_syntax.specs.Design.{DesignTree}
 use Rattle.tm_cir.specs.Tree.{BlockTree}
 use Rattle.termite.specs.declared.status.Status.{Status}
-use Rattle.termite.specs.declared.status.Status.TheVariants.{Usage, ReadFault, WriteFault, Memory, Unbuilt}
+use Rattle.termite.specs.declared.status.Status.TheVariants.{Usage, ReadFault, WriteFault, Memory}
 use Rattle.termite.specs.Script.{ScriptData}
 use Rattle.termite.specs.Words.{Command, run}
 use Rattle.termite.specs.Report.{status_text, usage_text}
-use Rattle.termite.specs.Inputs.{IsBuilt, IsFailedRead, Refused, Loads}
+use Rattle.termite.specs.Inputs.{IsFailedRead, Refused, Loads}
 use Rattle.termite.specs.Played.{Ends, IsPart}
 
 -- the files that a command reads, by name
@@ -91,14 +91,12 @@ IsFaultShown names reads old new writes old_out new_out (ReadFault name) = IsFai
 IsFaultShown names reads old new writes old_out new_out (WriteFault name) = (name ≡ []) × Rose writes old_out new_out
 IsFaultShown names reads old new writes old_out new_out _ = Unit {0}
 
--- each end that a command has, but that a file is in no language that is read so far, is the one that is answered;
--- before it may come a fault, want of memory, or such a file
+-- each end that a command has is the one that is answered; before it may come a fault or want of memory
 abbrev pub AnswersEnd : (List ℕ → Status → Type 0) → Status → Type 0
 AnswersEnd Ends Memory = Unit {0}
 AnswersEnd Ends (ReadFault name) = Unit {0}
 AnswersEnd Ends (WriteFault name) = Unit {0}
-AnswersEnd Ends (Unbuilt name) = Unit {0}
-AnswersEnd Ends result = (text : List ℕ) (end : Status) → Ends text end → IsBuilt end → result ≡ end
+AnswersEnd Ends result = (text : List ℕ) (end : Status) → Ends text end → result ≡ end
 
 -- no words without a reading
 abbrev pub IsUsageShown : Option Command → Status → Type 0

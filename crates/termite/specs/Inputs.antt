@@ -1,5 +1,5 @@
 -- What the files of `run` tell.
-use Rattle.std.specs.Prelude.{◌≡◌, ℕ, ◌≤◌, Bool, false, Option, Some, Ok, Err, List, length, IsTrue, IsSome, Contains, ◌∷◌, []}
+use Rattle.std.specs.Prelude.{◌≡◌, ℕ, ◌≤◌, Bool, false, Option, Some, Ok, Err, List, length, IsTrue, Contains, ◌∷◌, []}
 use Rattle.tm_base.specs.Count.{Rose, RoseBy}
 use Rattle.tm_base.specs.Files.{IsLonger}
 use Rattle.tm_syntax.specs.Design.{DesignTree}
@@ -30,6 +30,19 @@ pub record TellsBlocks
   pub told : Tells contents driver text
   pub spelled : IsSmallDriverText d text bs
 
+-- SPEC is there, and tells no design
+pub record TellsNoDesign (contents : List ℕ → Option (List ℕ)) (spec : List ℕ) : Type 0 where
+  pub text : List ℕ
+  pub told : Tells contents spec text
+  pub none : (d : DesignTree) → ¬ (IsSmallText text d)
+
+-- DRIVER is there and within its limit, and tells no blocks over a design
+pub record TellsNoBlocks (contents : List ℕ → Option (List ℕ)) (driver : List ℕ) (d : DesignTree) : Type 0 where
+  pub text : List ℕ
+  pub told : Tells contents driver text
+  pub short : length text ≤ 16777216
+  pub none : (bs : List BlockTree) → ¬ (IsSmallDriverText d text bs)
+
 -- CHOICES tells this start line and these steps over a design
 pub record TellsScript
     (contents : List ℕ → Option (List ℕ)) (choices : List ℕ) (d : DesignTree) (c : ScriptData) : Type 0 where
@@ -58,16 +71,15 @@ pub record OnlyReads
 -- a file was not read or has no reading: memory ran out; its reads failed, which their count shows; it is in no
 -- language that is read so far; it is too long; or it has this first bad line
 abbrev pub IsLoadRefusal :
-    Bool → Option ℕ → ℕ → ℕ → (List ℕ → Option (List ℕ)) → List ℕ → (ℕ → Type 0) → Status → Type 0
-IsLoadRefusal tells last old new contents name IsBadLine Memory = Unit {0}
-IsLoadRefusal tells last old new contents name IsBadLine (ReadFault n) = (n ≡ name) × Rose last old new
-IsLoadRefusal tells last old new contents name IsBadLine (Unbuilt n) =
-    (n ≡ name) × (IsTrue tells → IsSome (contents name))
-IsLoadRefusal tells last old new contents name IsBadLine (BadText n TooLong) =
+    Bool → Option ℕ → ℕ → ℕ → (List ℕ → Option (List ℕ)) → List ℕ → Type 0 → (ℕ → Type 0) → Status → Type 0
+IsLoadRefusal tells last old new contents name IsUnread IsBadLine Memory = Unit {0}
+IsLoadRefusal tells last old new contents name IsUnread IsBadLine (ReadFault n) = (n ≡ name) × Rose last old new
+IsLoadRefusal tells last old new contents name IsUnread IsBadLine (Unbuilt n) = (n ≡ name) × (IsTrue tells → IsUnread)
+IsLoadRefusal tells last old new contents name IsUnread IsBadLine (BadText n TooLong) =
     (n ≡ name) × (IsTrue tells → IsLonger (contents name) 16777216)
-IsLoadRefusal tells last old new contents name IsBadLine (BadText n (Choices k)) =
+IsLoadRefusal tells last old new contents name IsUnread IsBadLine (BadText n (Choices k)) =
     (n ≡ name) × (IsTrue tells → IsBadLine k)
-IsLoadRefusal tells last old new contents name IsBadLine _ = ⊥
+IsLoadRefusal tells last old new contents name IsUnread IsBadLine _ = ⊥
 
 -- the status of a file that is in no language that is read so far, or of want of memory for its name
 abbrev pub IsNamed : List ℕ → Status → Type 0
@@ -86,11 +98,6 @@ abbrev pub IsNoBadText : Status → Type 0
 IsNoBadText (BadText n why) = ⊥
 IsNoBadText _ = Unit {0}
 
--- no file was found to be in no language that is read so far
-abbrev pub IsBuilt : Status → Type 0
-IsBuilt (Unbuilt n) = ⊥
-IsBuilt _ = Unit {0}
-
 -- where files do not tell, one that is too long shows by the bytes that were taken
 abbrev pub TookTooMany : Bool → Option ℕ → ℕ → ℕ → Status → Type 0
 TookTooMany tells last old new (BadText n TooLong) = tells ≡ false → RoseBy last 16777217 old new
@@ -99,9 +106,9 @@ TookTooMany tells last old new _ = Unit {0}
 -- why the files of `run` are refused, the first one that is
 pub data Refused
     (contents : List ℕ → Option (List ℕ)) (spec driver choices : List ℕ) : Status → Type 0 where
-  unbuilt_spec : IsSome (contents spec) → Refused contents spec driver choices (Unbuilt spec)
-  unbuilt_driver : {d : DesignTree} →
-      TellsDesign contents spec d → IsSome (contents driver) → Refused contents spec driver choices (Unbuilt driver)
+  unbuilt_spec : TellsNoDesign contents spec → Refused contents spec driver choices (Unbuilt spec)
+  unbuilt_driver : {d : DesignTree} → TellsDesign contents spec d → TellsNoBlocks contents driver d →
+      Refused contents spec driver choices (Unbuilt driver)
   long_driver : {d : DesignTree} → TellsDesign contents spec d → IsLonger (contents driver) 16777216 →
       Refused contents spec driver choices (BadText driver TooLong)
   long_choices : {d : DesignTree} {bs : List BlockTree} →

@@ -6,7 +6,7 @@ ghost use Rattle.tm_syntax.specs.DesignView.{design_tree};
 ghost use Rattle.tm_cir.specs.View.{trees_of};
 ghost use Rattle.tm_cir.specs.Fit.{FitBlocks};
 ghost use Rattle.termite.specs.Advance.{IsPlayable};
-ghost use Rattle.termite.specs.Inputs.{TellsDesign, TellsBlocks, TellsScript, TellsBadLine, OnlyReads, IsLoadRefusal, IsNamed, IsBadFile, IsNoBadText, IsBuilt, TookTooMany, IsUnloaded, Loads};
+ghost use Rattle.termite.specs.Inputs.{TellsDesign, TellsNoDesign, TellsBlocks, TellsNoBlocks, TellsScript, TellsBadLine, OnlyReads, IsLoadRefusal, IsNamed, IsBadFile, IsNoBadText, TookTooMany, IsUnloaded, Loads};
 
 use crate::choices::{ScriptError, read_script};
 use crate::script::Script;
@@ -45,9 +45,8 @@ fn read_file<F: Files>(
         F.tells ≡ false → RoseBy F.last_count (limit + 1) (F.bytes_taken files.old) (F.bytes_taken files.new)) }
     ensures refused { IfErr result (IsLoadRefusal F.tells F.last_count
         (F.read_faults files.old name.now) (F.read_faults files.new name.now)
-        (F.contents files.old) name.now (λ _. ⊥)) }
+        (F.contents files.old) name.now ⊥ (λ _. ⊥)) }
     ensures never_bad { IfErr result IsNoBadText }
-    ensures built { IfErr result IsBuilt }
     ensures took { IfErr result (TookTooMany F.tells F.last_count (F.bytes_taken files.old) (F.bytes_taken files.new)) }
     ensures files { OnlyReads (F.read_faults files.old) (F.read_faults files.new)
         (F.write_faults files.old) (F.write_faults files.new) (F.bytes_taken files.old) (F.bytes_taken files.new)
@@ -87,7 +86,7 @@ fn load_design<F: Files>(alloc: Global, files: &mut F, spec: &str) -> Result<Des
     ensures playable { IfOk result (λ d. IsPlayable (design_tree d)) }
     ensures refused { IfErr result (IsLoadRefusal F.tells F.last_count
         (F.read_faults files.old spec.now) (F.read_faults files.new spec.now)
-        (F.contents files.old) spec.now (λ _. ⊥)) }
+        (F.contents files.old) spec.now (TellsNoDesign (F.contents files.old) spec.now) (λ _. ⊥)) }
     ensures never_bad { IfErr result IsNoBadText }
     ensures files { OnlyReads (F.read_faults files.old) (F.read_faults files.new)
         (F.write_faults files.old) (F.write_faults files.new) (F.bytes_taken files.old) (F.bytes_taken files.new)
@@ -114,7 +113,8 @@ fn load_blocks<F: Files>(
     ensures fits { IfOk result (λ b. FitBlocks (design_tree design.now) (trees_of b)) }
     ensures refused { IfErr result (IsLoadRefusal F.tells F.last_count
         (F.read_faults files.old driver.now) (F.read_faults files.new driver.now)
-        (F.contents files.old) driver.now (λ _. ⊥)) }
+        (F.contents files.old) driver.now
+        (TellsNoBlocks (F.contents files.old) driver.now (design_tree design.now)) (λ _. ⊥)) }
     ensures taken { IfErr result
         (TookTooMany F.tells F.last_count (F.bytes_taken files.old) (F.bytes_taken files.new)) }
     ensures files { OnlyReads (F.read_faults files.old) (F.read_faults files.new)
@@ -142,8 +142,7 @@ fn load_script<F: Files>(
         TellsScript (F.contents files.old) choices.now (design_tree design.now) script) }
     ensures refused { IfErr result (IsLoadRefusal F.tells F.last_count
         (F.read_faults files.old choices.now) (F.read_faults files.new choices.now) (F.contents files.old) choices.now
-        (TellsBadLine (F.contents files.old) choices.now (design_tree design.now))) }
-    ensures built { IfErr result IsBuilt }
+        ⊥ (TellsBadLine (F.contents files.old) choices.now (design_tree design.now))) }
     ensures taken { IfErr result
         (TookTooMany F.tells F.last_count (F.bytes_taken files.old) (F.bytes_taken files.new)) }
     ensures files { OnlyReads (F.read_faults files.old) (F.read_faults files.new)

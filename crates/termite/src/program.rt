@@ -99,7 +99,8 @@ pub fn termite<F: Files, O: Sink>(
         F.last_count (F.read_faults files.old) (F.read_faults files.new))
         (O.written out.old) (O.written out.new) result }
 
-    // An end that the command has is the one that is answered, so `Played` comes wherever each step has a next state.
+    // An end that the command has is the one that is answered, so `Played` comes wherever each step has a next state,
+    // and `Unbuilt` wherever a file that is there is the first of no form that is read so far.
     ensures complete { IsTrue F.tells →
         AnswersEnd (CommandEnds (F.contents files.old) (command_of (map string_bytes words.now))) result }
 

@@ -48,9 +48,15 @@ front_is d label ts b rest reads =
     subst (λ (x : List Token). IsFront x b rest) (sym reads.whole) (block_read d label rest reads.is)
 
 -- the closing brace is no block
-not_closing : (d : DesignTree) (label : ℕ) (b : BlockTree) (rest : List Token) →
+pub not_closing : (d : DesignTree) (label : ℕ) (b : BlockTree) (rest : List Token) →
     ReadsBlock d label (CloseBrace ∷ []) b rest → ⊥
 not_closing d label b rest reads = true≢false ((front_is d label (CloseBrace ∷ []) b rest reads).labelled)
+
+-- one list of tokens follows the block
+pub same_behind : (d : DesignTree) (label : ℕ) (ts : List Token) (b c : BlockTree) (rest others : List Token) →
+    ReadsBlock d label ts b rest → ReadsBlock d label ts c others → others ≡ rest
+same_behind d label ts b c rest others reads starts =
+    sym (front_is d label ts c others starts).behind ∙ (front_is d label ts b rest reads).behind
 
 same_blocks : (d : DesignTree) {label : ℕ} {ts : List Token} {one other : List BlockTree} →
     AreBlocks d label ts one → AreBlocks d label ts other → one ≡ other
@@ -62,11 +68,11 @@ same_blocks d (block {label = label} {ts = ts} {rest = rest} {b = b} reads are) 
     let one = front_is d label ts b rest reads in
     let other = front_is d label ts c others starts in
     let same : b ≡ c = sym one.is ∙ other.is in
-    let left : others ≡ rest = sym other.behind ∙ one.behind in
+    let left : others ≡ rest = same_behind d label ts b c rest others reads starts in
     ap₂ (λ (x : BlockTree) (xs : List BlockTree). x ∷ xs) same
     (same_blocks d are (subst (λ (x : List Token). AreBlocks d (label + 1) x cs) left come))
 
-same_function : (d : DesignTree) (ts : List Token) (one other : List BlockTree) →
+pub same_function : (d : DesignTree) (ts : List Token) (one other : List BlockTree) →
     IsFunction d ts one → IsFunction d ts other → one ≡ other
 same_function d ts one other first second =
     let body : second.body ≡ first.body =
@@ -74,11 +80,11 @@ same_function d ts one other first second =
     same_blocks d first.blocks (subst (λ (x : List Token). AreBlocks d 0 x other) body second.blocks)
 
 -- what stands behind the blanks in front
-abbrev past_blanks : List ℕ → List ℕ
+abbrev pub past_blanks : List ℕ → List ℕ
 past_blanks [] = []
 past_blanks (b ∷ bs) = cond (is_blank b) (past_blanks bs) (b ∷ bs)
 
-blanks_read : {text rest : List ℕ} → SkipsBlanks text rest → past_blanks rest ≡ rest → past_blanks text ≡ rest
+pub blanks_read : {text rest : List ℕ} → SkipsBlanks text rest → past_blanks rest ≡ rest → past_blanks text ≡ rest
 blanks_read none ends = ends
 blanks_read (skip {b = b} {text = text} is skips) ends =
     ap (λ (v : Bool). cond v (past_blanks text) (b ∷ text)) is ∙ blanks_read skips ends
@@ -94,7 +100,7 @@ line_read (tab ends) = line_read ends
 line_read carriage_return = refl
 line_read line_feed = refl
 
-same_body : (text one other : List ℕ) → HasInclude text one → HasInclude text other → one ≡ other
+pub same_body : (text one other : List ℕ) → HasInclude text one → HasInclude text other → one ≡ other
 same_body text one other first second =
     let behind : first.behind ≡ second.behind =
     append_cancel_left INCLUDE.now first.behind second.behind

@@ -8,7 +8,7 @@ use Rattle.tm_cir.specs.declared.small_token.Token.{Token}
 use Rattle.tm_cir.specs.SmallText.{token_text, BeginsWith, AreTokens, no_more, blank, token}
 use Rattle.tm_cir.proofs.TokenTexts.{same_inside, token_in_front, token_read}
 
-front_is : (d : DesignTree) (text rest : List ℕ) (t : Token) → BeginsWith d text t rest → token_in_front text ≡ Some t
+pub front_is : (d : DesignTree) (text rest : List ℕ) (t : Token) → BeginsWith d text t rest → token_in_front text ≡ Some t
 front_is d text rest t begins =
     ap token_in_front begins.whole ∙ token_read d t begins.bytes rest begins.small begins.spelled begins.ends
 
@@ -18,7 +18,7 @@ same_token : (d : DesignTree) (text rest others : List ℕ) (t u : Token) →
 same_token d text rest others t u one other =
     same_inside (sym (front_is d text rest t one) ∙ front_is d text others u other)
 
-same_rest : (d : DesignTree) (text rest others : List ℕ) (t u : Token) →
+pub same_rest : (d : DesignTree) (text rest others : List ℕ) (t u : Token) →
     BeginsWith d text t rest → BeginsWith d text u others → rest ≡ others
 same_rest d text rest others t u one other =
     let bytes : one.bytes ≡ other.bytes =
@@ -31,7 +31,7 @@ blank_as : (b n : ℕ) (text : List ℕ) → (b == n) ≡ true →
 blank_as b n text is reads = subst (λ (x : ℕ). token_in_front (x ∷ text) ≡ None) (sym ((Decides-eqb b n).0 is)) reads
 
 -- no token begins with a blank
-blank_read : (b : ℕ) (text : List ℕ) → is_blank b ≡ true → token_in_front (b ∷ text) ≡ None
+pub blank_read : (b : ℕ) (text : List ℕ) → is_blank b ≡ true → token_in_front (b ∷ text) ≡ None
 blank_read b text is = of (b == 32) (b == 9) (b == 13) (b == 10) refl refl refl refl is
   where
     of : (p q r s : Bool) → (b == 32) ≡ p → (b == 9) ≡ q → (b == 13) ≡ r → (b == 10) ≡ s →
@@ -42,7 +42,7 @@ blank_read b text is = of (b == 32) (b == 9) (b == 13) (b == 10) refl refl refl 
     of false false false true _ _ _ feed _ = blank_as b 10 text feed refl
     of false false false false _ _ _ _ wrong = absurd (true≢false (sym wrong))
 
-none_begins : (d : DesignTree) (text rest : List ℕ) (t : Token) →
+pub none_begins : (d : DesignTree) (text rest : List ℕ) (t : Token) →
     token_in_front text ≡ None → BeginsWith d text t rest → ⊥
 none_begins d text rest t none begins = let same : None ≡ Some t = sym none ∙ front_is d text rest t begins in cc
 

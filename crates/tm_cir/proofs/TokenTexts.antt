@@ -1,5 +1,5 @@
 -- A text begins with one token, so it is one list of tokens: the token is read back from the first bytes.
-use Rattle.std.proofs.Common.{◌≡◌, ℕ, ◌+◌, ◌*◌, ◌^◌, ◌<◌, Bool, true, false, cond, ltb, Option, None, Some, option_map, ◌==◌, ◌&&◌, ◌||◌, ◌⊎◌, List, [], ◌∷◌, ◌++◌, map, length, get_or, drop, codes, refl, ap, ap₂, sym, subst, ◌∙◌, ⊎_elim, true≢false, append_assoc, lt-ltb, ltb-true, le-leb, arith}
+use Rattle.std.proofs.Common.{◌≡◌, ℕ, ◌+◌, ◌*◌, ◌^◌, ◌<◌, Bool, true, false, cond, Option, None, Some, option_map, ◌==◌, ◌&&◌, ◌||◌, ◌⊎◌, List, [], ◌∷◌, ◌++◌, map, length, get_or, drop, codes, refl, ap, ap₂, sym, subst, ◌∙◌, ⊎_elim, true≢false, append_assoc, lt-ltb, ltb-true, le-leb, arith}
 use Rattle.std.specs.Fmt.{decimal}
 use Rattle.std.specs.Char.{digit_value}
 use Rattle.std.specs.Int.{is_in_range}
@@ -12,26 +12,11 @@ use Rattle.tm_syntax.specs.Tokens.{continues_name}
 use Rattle.tm_syntax.specs.Design.{DesignTree}
 use Rattle.tm_cir.specs.declared.small_token.Token.{Token}
 use Rattle.tm_cir.specs.declared.small_token.Token.TheVariants.{Void, DriverTurn, If, Else, Goto, Return, TermiteLeave, Label, Variable, Task, Constant, OpenParenthesis, CloseParenthesis, OpenBrace, CloseBrace, Colon, Semicolon}
+use Rattle.tm_cir.specs.Front.{is_digit, begins_digit, number_after, number_in_front}
 use Rattle.tm_cir.specs.SmallText.{name_byte, item_name, token_text, is_sign, token_number, BeginsNoWord}
 
-abbrev is_digit : ℕ → Bool
-is_digit b = ltb (digit_value b) 10
-
--- whether a digit stands in front
-abbrev begins_digit : List ℕ → Bool
-begins_digit [] = false
-begins_digit (b ∷ bs) = is_digit b
-
--- the number that the digits in front write behind those of n
-abbrev number_after : ℕ → List ℕ → ℕ
-number_after n [] = n
-number_after n (b ∷ bs) = cond (is_digit b) (number_after (n * 10 + digit_value b) bs) n
-
-abbrev number_in_front : List ℕ → ℕ
-number_in_front text = number_after 0 text
-
 -- the token that begins with this byte and no digit, by whether a digit follows and by the number that does
-abbrev sign_or_word : ℕ → Bool → ℕ → Option Token
+abbrev pub sign_or_word : ℕ → Bool → ℕ → Option Token
 sign_or_word b digit n =
     cond (b == 40) (Some OpenParenthesis)
     (cond (b == 41) (Some CloseParenthesis)
@@ -68,11 +53,11 @@ digit_is [] rest some digits = absurd (omega arith)
 digit_is (c ∷ cs) rest some digits = lt-ltb (digit_value c) 10 digits.0
 
 -- the number in front is the one whose digits stand there
-number_read : (k : ℕ) (rest : List ℕ) → k < 2 ^ 64 → begins_digit rest ≡ false → number_in_front (decimal k ++ rest) ≡ k
-number_read k rest small ends = let is = decimal_is_IsNumeral k small in number_is 0 (decimal k) rest is.0.1 ends ∙ is.1
+number_read : (k : ℕ) (rest : List ℕ) → k < 2 ^ 32 → begins_digit rest ≡ false → number_in_front (decimal k ++ rest) ≡ k
+number_read k rest small ends = let is = decimal_is_IsNumeral k (omega arith) in number_is 0 (decimal k) rest is.0.1 ends ∙ is.1
 
-digit_read : (k : ℕ) (rest : List ℕ) → k < 2 ^ 64 → begins_digit (decimal k ++ rest) ≡ true
-digit_read k rest small = let is = decimal_is_IsNumeral k small in digit_is (decimal k) rest is.0.0 is.0.1
+digit_read : (k : ℕ) (rest : List ℕ) → k < 2 ^ 32 → begins_digit (decimal k ++ rest) ≡ true
+digit_read k rest small = let is = decimal_is_IsNumeral k (omega arith) in digit_is (decimal k) rest is.0.0 is.0.1
 
 digit_continues : (b : ℕ) → digit_value b < 10 → continues_name b ≡ true
 digit_continues b small =
@@ -90,7 +75,7 @@ no_digit (b ∷ bs) ends = of (is_digit b) refl
     of false is = is
 
 -- what follows a number in one list with it
-numbered : (k : ℕ) (more rest : List ℕ) → k < 2 ^ 64 → begins_digit (more ++ rest) ≡ false →
+numbered : (k : ℕ) (more rest : List ℕ) → k < 2 ^ 32 → begins_digit (more ++ rest) ≡ false →
     (begins_digit ((decimal k ++ more) ++ rest) ≡ true) × (number_in_front ((decimal k ++ more) ++ rest) ≡ k)
 numbered k more rest small ends =
     subst (λ (text : List ℕ). (begins_digit text ≡ true) × (number_in_front text ≡ k))
@@ -111,7 +96,7 @@ word_ends rest ends = ⊎_elim (λ no. absurd (true≢false (sym no))) (λ none.
 
 -- an item's name gives the item's number
 item_read : {A : Type 0} (path : A → List ℕ) (letter k : ℕ) (item : Option A) (bytes rest : List ℕ) (t : Token) →
-    k < 2 ^ 64 → option_map (λ (a : A). item_name letter k (path a)) item ≡ Some bytes →
+    k < 2 ^ 32 → option_map (λ (a : A). item_name letter k (path a)) item ≡ Some bytes →
     ((more : List ℕ) → begins_digit more ≡ true → number_in_front more ≡ k → token_in_front (letter ∷ more) ≡ Some t) →
     token_in_front (bytes ++ rest) ≡ Some t
 item_read path letter k None bytes rest t small spelled reads = cc
@@ -121,7 +106,7 @@ item_read path letter k (Some a) bytes rest t small spelled reads =
     (reads ((decimal k ++ 95 ∷ map name_byte (path a)) ++ rest) behind.0 behind.1)
 
 -- the token that a text begins with is the one in front
-pub token_read : (d : DesignTree) (t : Token) (bytes rest : List ℕ) → token_number t < 2 ^ 64 →
+pub token_read : (d : DesignTree) (t : Token) (bytes rest : List ℕ) → token_number t < 2 ^ 32 →
     token_text d t ≡ Some bytes → (is_sign t ≡ true) ⊎ BeginsNoWord rest → token_in_front (bytes ++ rest) ≡ Some t
 token_read d Void bytes rest small spelled ends = spelled_so (codes "void") bytes rest Void spelled refl
 token_read d DriverTurn bytes rest small spelled ends =

@@ -65,11 +65,11 @@ token_number (Task k) = k
 token_number (Constant n) = n
 token_number _ = 0
 
--- the text begins with this token, whose number has at most 64 bits; a word or a constant ends where no further
+-- the text begins with this token, whose number has at most 32 bits; a word or a constant ends where no further
 -- letter, digit or `_` follows
 pub record BeginsWith (d : DesignTree) (text : List ℕ) (t : Token) (rest : List ℕ) : Type 0 where
   pub bytes : List ℕ
-  pub small : token_number t < 2 ^ 64
+  pub small : token_number t < 2 ^ 32
   pub spelled : token_text d t ≡ Some bytes
   pub ends : (is_sign t ≡ true) ⊎ BeginsNoWord rest
   pub whole : text ≡ bytes ++ rest

@@ -29,7 +29,8 @@ pub fn answers_are_determined()
         → Answers bs s goal one → Answers bs s goal other → one ≡ other }
 {}
 
-/// A text spells one list of blocks over a design, so what `read_small_driver` answers is all that the definitions allow.
+/// A text spells one list of blocks over a design, so what `read_small_driver` answers is all that the definitions
+/// allow.
 pub fn small_drivers_are_determined()
     ensures { (d : DesignTree) (text : List ℕ) (one other : List BlockTree)
         → IsSmallDriverText d text one → IsSmallDriverText d text other → one ≡ other }

@@ -1,14 +1,18 @@
 //! The reader of small drivers. Temporary, until the whole C reader is there.
-ghost use Rattle.std.specs.Prelude.{◌≡◌, ◌<◌, ◌++◌, ◌∷◌, [], length, IfOk, IfSome, IsTrue};
+ghost use Rattle.std.specs.Prelude.{◌≡◌, ◌≢◌, ℕ, List, ◌∷◌, [], Some, get_or, IfOk, IsNone, IsTrue, IfSome, MatchOption, ◌↔◌};
+ghost use Rattle.tm_syntax.specs.declared.design.Ty.TheVariants as types;
 ghost use Rattle.tm_syntax.specs.Design.{DesignTree};
 ghost use Rattle.tm_syntax.specs.DesignView.{design_tree};
-ghost use Rattle.tm_cir.specs.declared.small_token.Token.TheVariants.{CloseBrace};
+ghost use Rattle.tm_cir.specs.declared.small_token.Token.{Token};
+ghost use Rattle.tm_cir.specs.declared.small_token.Token.TheVariants.{Void, If, Return, Task, TermiteLeave, CloseBrace};
+ghost use Rattle.tm_cir.specs.Tree.{BlockTree};
 ghost use Rattle.tm_cir.specs.View.{block_tree, block_trees, trees_of};
-ghost use Rattle.tm_cir.specs.SmallText.{SkipsBlanks, EndsLine, HasInclude, IsBool, ReadsBlock, AreBlocks, IsFunction, IsSmallDriverText};
+ghost use Rattle.tm_cir.specs.SmallText.{token_number, SkipsBlanks, EndsLine, HasInclude, IsBool, ReadsBlock, IsFunction, IsSmallDriverText};
+ghost use Rattle.tm_cir.specs.Front.{IsBehind, BeginsNoBlank, is_space, BeginsNoSpace};
 
 use crate::block::{Block, Num64, Truth};
 use crate::blocks::Blocks;
-use crate::small_token::{Token, is_blank, parted, tokens_of};
+use crate::small_token::{Token, behind_byte, is_blank, parted, tokens_of};
 use std::alloc::{AllocError, Global};
 use tm_syntax::design::{Design, Ty};
 
@@ -21,15 +25,17 @@ pub const INCLUDE: &[u8] = b"#include \"termite.h\"";
 /// Temporary, until the whole C reader is there: the blocks of a text in which each test is
 /// `if (VARIABLE) goto LABEL; else goto LABEL;` over a bool variable of the design and calls have no arguments.
 ///
-/// `None` comes for every text of another form, and for one above 16,777,216 bytes; that it comes for these alone is
-/// not claimed.
+/// `None` comes for every text of another form, and for one above 16,777,216 bytes.
 pub fn read_small_driver(
     alloc: Global,
     design: &Design,
     text: &[u8],
 ) -> Result<Option<Blocks>, AllocError>
-    ensures { IfOk result (λ found.
+    ensures some { IfOk result (λ found.
         IfSome found (λ blocks. IsSmallDriverText (design_tree design.now) text.now (trees_of blocks))) }
+    // `None` is for the texts of no small driver over the design alone.
+    ensures none { IfOk result (λ found.
+        IsNone found → (bs : List BlockTree) → ¬ IsSmallDriverText (design_tree design.now) text.now bs) }
 {
     if text.len() > MOST_BYTES {
         return Ok(None);
@@ -47,13 +53,16 @@ pub fn read_small_driver(
 }
 
 fn behind_include(text: &[u8]) -> Option<&[u8]>
-    ensures { IfSome result (λ body. HasInclude text.now body.now) }
+    ensures { MatchOption result
+        ((body : List ℕ) → ¬ HasInclude text.now body)
+        (λ body. HasInclude text.now body.now) }
 {
     behind_line(behind_blanks(text).strip_prefix(INCLUDE)?)
 }
 
 fn behind_blanks(text: &[u8]) -> &[u8]
-    ensures { SkipsBlanks text.now result.now }
+    ensures skips { SkipsBlanks text.now result.now }
+    ensures ends { BeginsNoBlank result.now }
 {
     let mut rest = text;
     while let Some((first, behind)) = parted(rest) {
@@ -66,24 +75,36 @@ fn behind_blanks(text: &[u8]) -> &[u8]
 }
 
 fn behind_line(text: &[u8]) -> Option<&[u8]>
-    ensures { IfSome result (λ rest. EndsLine text.now rest.now) }
+    ensures { MatchOption result
+        ((rest : List ℕ) → ¬ EndsLine text.now rest)
+        (λ rest. EndsLine text.now rest.now) }
+{
+    let rest = behind_spaces(text);
+    let (first, behind) = parted(rest)?;
+    if first == b'\r' {
+        return behind_byte(behind, b'\n');
+    }
+    behind_byte(rest, b'\n')
+}
+
+fn behind_spaces(text: &[u8]) -> &[u8]
+    ensures same { (rest : List ℕ) → EndsLine result.now rest ↔ EndsLine text.now rest }
+    ensures ends { BeginsNoSpace result.now }
 {
     let mut rest = text;
     while let Some((first, behind)) = parted(rest) {
-        match first {
-            b' ' | b'\t' => rest = behind,
-            b'\r' => return behind_line_feed(behind),
-            _ => break,
+        if !is_space(first) {
+            break;
         }
+        rest = behind;
     }
-    behind_line_feed(rest)
+    rest
 }
 
-fn behind_line_feed(text: &[u8]) -> Option<&[u8]>
-    ensures { IfSome result (λ rest. text.now ≡ 10 ∷ rest.now) }
+fn is_space(byte: u8) -> bool
+    ensures { result ≡ is_space byte }
 {
-    let (first, behind) = parted(text)?;
-    if first == b'\n' { Some(behind) } else { None }
+    byte == b' ' || byte == b'\t'
 }
 
 fn blocks_of(
@@ -92,7 +113,8 @@ fn blocks_of(
     tokens: &[Token],
 ) -> Result<Option<Vec<Block>>, AllocError>
     ensures { IfOk result (λ found.
-        IfSome found (λ blocks. IsFunction (design_tree design.now) tokens.now (block_trees blocks.items))) }
+        MatchOption found ((bs : List BlockTree) → ¬ IsFunction (design_tree design.now) tokens.now bs)
+        (λ blocks. IsFunction (design_tree design.now) tokens.now (block_trees blocks.items))) }
 {
     let head = [
         Token::Void,
@@ -119,7 +141,7 @@ fn blocks_of(
 
 /// What follows these tokens, if the others begin with them.
 fn behind<'a>(tokens: &'a [Token], front: &[Token]) -> Option<&'a [Token]>
-    ensures { IfSome result (λ rest. tokens.now ≡ front.now ++ rest.now) }
+    ensures { IsBehind tokens.now front.now result }
 {
     if tokens.len() < front.len() {
         return None;
@@ -133,13 +155,13 @@ fn behind<'a>(tokens: &'a [Token], front: &[Token]) -> Option<&'a [Token]>
 }
 
 fn is_same(token: Token, other: Token) -> bool
-    ensures { IsTrue result → token ≡ other }
+    ensures { IsTrue result ↔ token ≡ other }
 {
     token == other
 }
 
 fn is_closing(tokens: &[Token]) -> bool
-    ensures { IsTrue result → tokens.now ≡ CloseBrace ∷ [] }
+    ensures { IsTrue result ↔ tokens.now ≡ CloseBrace ∷ [] }
 {
     match behind(tokens, &[Token::CloseBrace]) {
         Some(rest) => rest.is_empty(),
@@ -150,33 +172,56 @@ fn is_closing(tokens: &[Token]) -> bool
 fn first_block<'a>(
     alloc: Global,
     design: &Design,
-    label: usize,
+    place: usize,
     tokens: &'a [Token],
 ) -> Option<(Block, &'a [Token])>
-    ensures { IfSome result (λ p. ReadsBlock (design_tree design.now) label tokens.now (block_tree p.0) p.1.now) }
+    ensures { MatchOption result
+        ((b : BlockTree) (rest : List Token) → ¬ ReadsBlock (design_tree design.now) place tokens.now b rest)
+        (λ p. ReadsBlock (design_tree design.now) place tokens.now (block_tree p.0) p.1.now) }
 {
-    if label > u32::MAX as usize {
+    let label = number_at(tokens, 0);
+    if label as usize != place {
         return None;
     }
-    let label = label as u32;
-    match tokens.get(2)? {
+    match *tokens.get(2)? {
         Token::If => first_test(design, label, tokens),
-        Token::Task(task) => first_call(alloc, label, *task, tokens),
+        Token::Task(task) => first_call(alloc, label, task, tokens),
         Token::TermiteLeave => first_leave(label, tokens),
-        _ => first_idle(label, tokens),
+        Token::Return => first_idle(label, tokens),
+        _ => None,
+    }
+}
+
+/// The number in the token at this place, if it has one, and 0 otherwise.
+fn number_at(tokens: &[Token], place: usize) -> u32
+    ensures { result ≡ token_number (get_or tokens.now place Void) }
+{
+    match tokens.get(place) {
+        Some(token) => number_of(*token),
+        None => 0,
+    }
+}
+
+fn number_of(token: Token) -> u32
+    ensures { result ≡ token_number token }
+{
+    match token {
+        Token::Label(number) => number,
+        Token::Variable(number) => number,
+        Token::Task(number) => number,
+        Token::Constant(number) => number,
+        _ => 0,
     }
 }
 
 fn first_test<'a>(design: &Design, label: u32, tokens: &'a [Token]) -> Option<(Block, &'a [Token])>
-    ensures { IfSome result (λ p. ReadsBlock (design_tree design.now) label tokens.now (block_tree p.0) p.1.now) }
+    ensures some { IfSome result (λ p. ReadsBlock (design_tree design.now) label tokens.now (block_tree p.0) p.1.now) }
+    ensures none { IsNone result → get_or tokens.now 2 Void ≡ If → (b : BlockTree) (rest : List Token)
+        → ¬ ReadsBlock (design_tree design.now) label tokens.now b rest }
 {
-    let (Token::Variable(var), Token::Label(first), Token::Label(second)) = (
-        *tokens.get(4)?,
-        *tokens.get(7)?,
-        *tokens.get(11)?,
-    ) else {
-        return None;
-    };
+    let var = number_at(tokens, 4);
+    let first = number_at(tokens, 7);
+    let second = number_at(tokens, 11);
     if !is_bool(design, var) {
         return None;
     }
@@ -205,16 +250,27 @@ fn first_test<'a>(design: &Design, label: u32, tokens: &'a [Token]) -> Option<(B
 }
 
 fn is_bool(design: &Design, var: u32) -> bool
-    ensures { IsTrue result → IsBool (design_tree design.now) var }
+    ensures { IsTrue result ↔ IsBool (design_tree design.now) var }
 {
     match design.vars.get(var as usize) {
-        Some(var) => matches!(var.ty, Ty::Bool),
+        Some(var) => is_bool_type(&var.ty),
         None => false,
     }
 }
 
+fn is_bool_type(ty: &Ty) -> bool
+    ensures { IsTrue result ↔ ty.now ≡ types.Bool }
+{
+    match ty {
+        Ty::Bool => true,
+        Ty::Uint(_) | Ty::Enum(_) => false,
+    }
+}
+
 fn first_call(alloc: Global, label: u32, task: u32, tokens: &[Token]) -> Option<(Block, &[Token])>
-    ensures { (d : DesignTree) → IfSome result (λ p. ReadsBlock d label tokens.now (block_tree p.0) p.1.now) }
+    ensures some { (d : DesignTree) → IfSome result (λ p. ReadsBlock d label tokens.now (block_tree p.0) p.1.now) }
+    ensures none { IsNone result → get_or tokens.now 2 Void ≡ Task task →
+        (d : DesignTree) (b : BlockTree) (rest : List Token) → ¬ ReadsBlock d label tokens.now b rest }
 {
     let rest = behind(
         tokens,
@@ -233,14 +289,11 @@ fn first_call(alloc: Global, label: u32, task: u32, tokens: &[Token]) -> Option<
 }
 
 fn first_leave(label: u32, tokens: &[Token]) -> Option<(Block, &[Token])>
-    ensures { (d : DesignTree) → IfSome result (λ p. ReadsBlock d label tokens.now (block_tree p.0) p.1.now) }
+    ensures some { (d : DesignTree) → IfSome result (λ p. ReadsBlock d label tokens.now (block_tree p.0) p.1.now) }
+    ensures none { IsNone result → get_or tokens.now 2 Void ≡ TermiteLeave →
+        (d : DesignTree) (b : BlockTree) (rest : List Token) → ¬ ReadsBlock d label tokens.now b rest }
 {
-    let Token::Constant(number) = *tokens.get(4)? else {
-        return None;
-    };
-    if number > u64::from(u32::MAX) {
-        return None;
-    }
+    let process = number_at(tokens, 4);
     let rest = behind(
         tokens,
         &[
@@ -248,18 +301,20 @@ fn first_leave(label: u32, tokens: &[Token]) -> Option<(Block, &[Token])>
             Token::Colon,
             Token::TermiteLeave,
             Token::OpenParenthesis,
-            Token::Constant(number),
+            Token::Constant(process),
             Token::CloseParenthesis,
             Token::Semicolon,
             Token::Return,
             Token::Semicolon,
         ],
     )?;
-    Some((Block::Leave(number as u32), rest))
+    Some((Block::Leave(process), rest))
 }
 
 fn first_idle(label: u32, tokens: &[Token]) -> Option<(Block, &[Token])>
-    ensures { (d : DesignTree) → IfSome result (λ p. ReadsBlock d label tokens.now (block_tree p.0) p.1.now) }
+    ensures some { (d : DesignTree) → IfSome result (λ p. ReadsBlock d label tokens.now (block_tree p.0) p.1.now) }
+    ensures none { IsNone result → get_or tokens.now 2 Void ≡ Return →
+        (d : DesignTree) (b : BlockTree) (rest : List Token) → ¬ ReadsBlock d label tokens.now b rest }
 {
     let rest = behind(
         tokens,

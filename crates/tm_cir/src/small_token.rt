@@ -1,11 +1,12 @@
 //! The tokens of a small driver's text. Temporary, until the whole C reader is there.
-ghost use Rattle.std.specs.Prelude.{◌≡◌, ◌^◌, ◌<◌, ◌≤◌, Some, ◌++◌, ◌∷◌, [], true, length, map, drop, IfOk, IfSome, IsTrue, MatchOption};
+ghost use Rattle.std.specs.Prelude.{◌≡◌, ◌≢◌, ◌^◌, ◌<◌, ◌↔◌, Some, ℕ, ◌∷◌, ◌++◌, [], List, length, map, codes, IfOk, IfSome, IsTrue, MatchOption};
 ghost use Rattle.std.specs.Fmt.{decimal};
-ghost use Rattle.std.specs.List.{prefix_len};
 ghost use Rattle.tm_syntax.specs.Tokens.{is_blank, continues_name};
 ghost use Rattle.tm_syntax.specs.Design.{DesignTree};
 ghost use Rattle.tm_syntax.specs.DesignView.{design_tree};
-ghost use Rattle.tm_cir.specs.SmallText.{name_byte, item_name, token_text, is_sign, token_number, BeginsNoWord, AreTokens, BeginsWith};
+ghost use Rattle.tm_cir.specs.declared.small_token.Token.TheVariants.{Variable, Task};
+ghost use Rattle.tm_cir.specs.SmallText.{name_byte, item_name, token_text, is_sign, BeginsNoWord, token_number, AreTokens, BeginsWith};
+ghost use Rattle.tm_cir.specs.Front.{begins_digit, IsBehind, number_in_front, IsSpelled, IsOnlyToken};
 
 use std::alloc::{AllocError, Global};
 use tm_syntax::design::Design;
@@ -24,7 +25,7 @@ pub enum Token {
     Label(u32),
     Variable(u32),
     Task(u32),
-    Constant(u64),
+    Constant(u32),
     OpenParenthesis,
     CloseParenthesis,
     OpenBrace,
@@ -39,7 +40,9 @@ pub fn tokens_of(
     design: &Design,
     text: &[u8],
 ) -> Result<Option<Vec<Token>>, AllocError>
-    ensures { IfOk result (λ found. IfSome found (λ tokens. AreTokens (design_tree design.now) text.now tokens.items)) }
+    ensures { IfOk result (λ found.
+        MatchOption found ((ts : List Token) → ¬ AreTokens (design_tree design.now) text.now ts)
+        (λ tokens. AreTokens (design_tree design.now) text.now tokens.items)) }
 {
     let mut tokens = Vec::new(alloc);
     let mut rest = text;
@@ -72,51 +75,100 @@ pub fn is_blank(byte: u8) -> bool
 }
 
 fn first_token<'a>(design: &Design, text: &'a [u8]) -> Option<(Token, &'a [u8])>
-    ensures begins { IfSome result (λ p. BeginsWith (design_tree design.now) text.now p.0 p.1.now) }
+    ensures exact { MatchOption result
+        ((t : Token) (rest : List ℕ) → ¬ BeginsWith (design_tree design.now) text.now t rest)
+        (λ p. BeginsWith (design_tree design.now) text.now p.0 p.1.now) }
     ensures shorter { IfSome result (λ p. length p.1.now < length text.now) }
 {
-    let (first, behind) = parted(text)?;
-    if let Some(token) = sign_token(first) {
-        return Some((token, behind));
+    let token = token_in_front(text)?;
+    let rest = behind_token(design, token, text)?;
+    if is_sign(token) {
+        return Some((token, rest));
     }
-    let (word, rest) = word_and_rest(text);
-    if word.is_empty() {
-        return None;
+    if begins_no_word(rest) {
+        Some((token, rest))
+    } else {
+        None
     }
-    Some((word_token(design, word)?, rest))
 }
 
-fn sign_token(byte: u8) -> Option<Token>
-    ensures text { (d : DesignTree) → IfSome result (λ t. token_text d t ≡ Some (byte ∷ [])) }
-    ensures sign { IfSome result (λ t. is_sign t ≡ true) }
-    ensures small { IfSome result (λ t. token_number t < 2 ^ 64) }
+/// The one token that can stand in front, as the first bytes tell it.
+fn token_in_front(text: &[u8]) -> Option<Token>
+    ensures only { IsOnlyToken text.now result }
+    ensures small { IfSome result (λ t. token_number t < 2 ^ 32) }
 {
-    match byte {
+    if begins_digit(text) {
+        return Some(Token::Constant(number_in_front(text)));
+    }
+    let (first, behind) = parted(text)?;
+    match first {
         b'(' => Some(Token::OpenParenthesis),
         b')' => Some(Token::CloseParenthesis),
         b'{' => Some(Token::OpenBrace),
         b'}' => Some(Token::CloseBrace),
         b':' => Some(Token::Colon),
         b';' => Some(Token::Semicolon),
+        b'd' => Some(Token::DriverTurn),
+        b'i' => Some(Token::If),
+        b'e' => Some(Token::Else),
+        b'g' => Some(Token::Goto),
+        b'r' => Some(Token::Return),
+        b'L' => Some(Token::Label(number_in_front(behind))),
+        b'v' => Some(variable_or_void(behind)),
+        b't' => Some(task_or_leave(behind)),
         _ => None,
     }
 }
 
-/// The letters, digits and `_` at the front, and what follows them.
-fn word_and_rest(text: &[u8]) -> (&[u8], &[u8])
-    ensures whole { text.now ≡ result.0.now ++ result.1.now }
-    ensures ends { BeginsNoWord result.1.now }
+fn variable_or_void(behind: &[u8]) -> Token
+    ensures only { IsOnlyToken (118 ∷ behind.now) (Some result) }
+    ensures small { token_number result < 2 ^ 32 }
 {
-    text.split_at(word_len(text))
+    if begins_digit(behind) {
+        Token::Variable(number_in_front(behind))
+    } else {
+        Token::Void
+    }
 }
 
-fn word_len(text: &[u8]) -> usize
-    ensures value { result ≡ prefix_len continues_name text.now }
-    ensures within { result ≤ length text.now }
+fn task_or_leave(behind: &[u8]) -> Token
+    ensures only { IsOnlyToken (116 ∷ behind.now) (Some result) }
+    ensures small { token_number result < 2 ^ 32 }
 {
-    text.iter()
-        .take_while(|byte| continues_name(**byte))
-        .count()
+    if begins_digit(behind) {
+        Token::Task(number_in_front(behind))
+    } else {
+        Token::TermiteLeave
+    }
+}
+
+fn begins_digit(text: &[u8]) -> bool
+    ensures { result ≡ begins_digit text.now }
+{
+    match parted(text) {
+        Some((first, _)) => char::from(first).is_digit(10),
+        None => false,
+    }
+}
+
+fn is_sign(token: Token) -> bool
+    ensures { result ≡ is_sign token }
+{
+    match token {
+        Token::OpenParenthesis | Token::CloseParenthesis => true,
+        Token::OpenBrace | Token::CloseBrace => true,
+        Token::Colon | Token::Semicolon => true,
+        _ => false,
+    }
+}
+
+fn begins_no_word(text: &[u8]) -> bool
+    ensures { IsTrue result ↔ BeginsNoWord text.now }
+{
+    match parted(text) {
+        Some((first, _)) => !continues_name(first),
+        None => true,
+    }
 }
 
 fn continues_name(byte: u8) -> bool
@@ -125,138 +177,110 @@ fn continues_name(byte: u8) -> bool
     byte.is_ascii_alphanumeric() || byte == b'_'
 }
 
-fn word_token(design: &Design, word: &[u8]) -> Option<Token>
-    ensures text { IfSome result (λ t. token_text (design_tree design.now) t ≡ Some word.now) }
-    ensures small { IfSome result (λ t. token_number t < 2 ^ 64) }
+/// The number that the digits in front write, or the greatest one where it is too large.
+fn number_in_front(text: &[u8]) -> u32
+    ensures { number_in_front text.now < 2 ^ 32 → result ≡ number_in_front text.now }
 {
-    if let Some(token) = keyword(word) {
-        return Some(token);
-    }
-    match *word.first()? {
-        b'L' => label(word),
-        b'v' => variable(design, word),
-        b't' => task(design, word),
-        _ => constant(word),
-    }
-}
-
-fn keyword(word: &[u8]) -> Option<Token>
-    ensures text { (d : DesignTree) → IfSome result (λ t. token_text d t ≡ Some word.now) }
-    ensures small { IfSome result (λ t. token_number t < 2 ^ 64) }
-{
-    if word == b"void".as_slice() {
-        Some(Token::Void)
-    } else if word == b"driver_turn".as_slice() {
-        Some(Token::DriverTurn)
-    } else if word == b"if".as_slice() {
-        Some(Token::If)
-    } else if word == b"else".as_slice() {
-        Some(Token::Else)
-    } else if word == b"goto".as_slice() {
-        Some(Token::Goto)
-    } else if word == b"return".as_slice() {
-        Some(Token::Return)
-    } else if word == b"termite_leave".as_slice() {
-        Some(Token::TermiteLeave)
-    } else {
-        None
-    }
-}
-
-fn label(word: &[u8]) -> Option<Token>
-    ensures text { (d : DesignTree) → IfSome result (λ t. token_text d t ≡ Some word.now) }
-    ensures small { IfSome result (λ t. token_number t < 2 ^ 64) }
-{
-    let digits = word.strip_prefix(b"L")?;
-    let number = u32::try_from(leading_number(digits)).ok()?;
-    if is_decimal(digits, u64::from(number)) {
-        Some(Token::Label(number))
-    } else {
-        None
-    }
-}
-
-fn constant(word: &[u8]) -> Option<Token>
-    ensures text { (d : DesignTree) → IfSome result (λ t. token_text d t ≡ Some word.now) }
-    ensures small { IfSome result (λ t. token_number t < 2 ^ 64) }
-{
-    let digits = word.strip_suffix(b"ULL")?;
-    let number = leading_number(digits);
-    if is_decimal(digits, number) {
-        Some(Token::Constant(number))
-    } else {
-        None
-    }
-}
-
-fn variable(design: &Design, word: &[u8]) -> Option<Token>
-    ensures text { IfSome result (λ t. token_text (design_tree design.now) t ≡ Some word.now) }
-    ensures small { IfSome result (λ t. token_number t < 2 ^ 64) }
-{
-    let (_, behind) = parted(word)?;
-    let number = u32::try_from(leading_number(behind)).ok()?;
-    let var = design.vars.get(number as usize)?;
-    if is_item_name(word, b'v', number, var.path.as_bytes()) {
-        Some(Token::Variable(number))
-    } else {
-        None
-    }
-}
-
-fn task(design: &Design, word: &[u8]) -> Option<Token>
-    ensures text { IfSome result (λ t. token_text (design_tree design.now) t ≡ Some word.now) }
-    ensures small { IfSome result (λ t. token_number t < 2 ^ 64) }
-{
-    let (_, behind) = parted(word)?;
-    let number = u32::try_from(leading_number(behind)).ok()?;
-    let task = design.tasks.get(number as usize)?;
-    if is_item_name(word, b't', number, task.path.as_bytes()) {
-        Some(Token::Task(number))
-    } else {
-        None
-    }
-}
-
-/// The number that the digits at the front spell, or some greater one where it is too large.
-fn leading_number(text: &[u8]) -> u64 {
-    let mut number: u64 = 0;
-    for byte in text {
-        if !byte.is_ascii_digit() {
+    let mut number: u32 = 0;
+    let mut rest = text;
+    while let Some((first, behind)) = parted(rest) {
+        let Some(digit) = char::from(first).to_digit(10) else {
             break;
-        }
-        number = number
-            .saturating_mul(10)
-            .saturating_add(u64::from(*byte - b'0'));
+        };
+        number = number.saturating_mul(10).saturating_add(digit);
+        rest = behind;
     }
     number
 }
 
-fn is_item_name(word: &[u8], letter: u8, number: u32, path: &[u8]) -> bool
-    ensures { IsTrue result → word.now ≡ item_name letter number path.now }
+/// What follows the bytes of the token, if the text begins with them.
+fn behind_token<'a>(design: &Design, token: Token, text: &'a [u8]) -> Option<&'a [u8]>
+    ensures { MatchOption result
+        ((rest : List ℕ) → ¬ IsSpelled (design_tree design.now) text.now token rest)
+        (λ rest. IsSpelled (design_tree design.now) text.now token rest.now) }
 {
-    let Some((first, behind)) = parted(word) else {
-        return false;
-    };
-    let length = behind.iter().take_while(|byte| **byte != b'_').count();
-    let (digits, tail) = behind.split_at(length);
-    let Some((mark, name)) = parted(tail) else {
-        return false;
-    };
-    first == letter && mark == b'_' && is_decimal(digits, u64::from(number)) && is_path(name, path)
+    match token {
+        Token::Void => behind_bytes(text, b"void"),
+        Token::DriverTurn => behind_bytes(text, b"driver_turn"),
+        Token::If => behind_bytes(text, b"if"),
+        Token::Else => behind_bytes(text, b"else"),
+        Token::Goto => behind_bytes(text, b"goto"),
+        Token::Return => behind_bytes(text, b"return"),
+        Token::TermiteLeave => behind_bytes(text, b"termite_leave"),
+        Token::Label(number) => behind_label(text, number),
+        Token::Variable(number) => behind_variable(design, number, text),
+        Token::Task(number) => behind_task(design, number, text),
+        Token::Constant(number) => behind_constant(text, number),
+        Token::OpenParenthesis => behind_byte(text, b'('),
+        Token::CloseParenthesis => behind_byte(text, b')'),
+        Token::OpenBrace => behind_byte(text, b'{'),
+        Token::CloseBrace => behind_byte(text, b'}'),
+        Token::Colon => behind_byte(text, b':'),
+        Token::Semicolon => behind_byte(text, b';'),
+    }
 }
 
-fn is_path(name: &[u8], path: &[u8]) -> bool
-    ensures { IsTrue result → name.now ≡ map name_byte path.now }
+fn behind_bytes<'a>(text: &'a [u8], front: &[u8]) -> Option<&'a [u8]>
+    ensures { IsBehind text.now front.now result }
 {
-    if name.len() != path.len() {
-        return false;
+    text.strip_prefix(front)
+}
+
+pub fn behind_byte(text: &[u8], byte: u8) -> Option<&[u8]>
+    ensures { IsBehind text.now (byte ∷ []) result }
+{
+    let (first, behind) = parted(text)?;
+    if first == byte { Some(behind) } else { None }
+}
+
+fn behind_label(text: &[u8], number: u32) -> Option<&[u8]>
+    ensures { IsBehind text.now (codes "L" ++ decimal number) result }
+{
+    behind_number(behind_byte(text, b'L')?, number)
+}
+
+fn behind_constant(text: &[u8], number: u32) -> Option<&[u8]>
+    ensures { IsBehind text.now (decimal number ++ codes "ULL") result }
+{
+    behind_bytes(behind_number(text, number)?, b"ULL")
+}
+
+fn behind_variable<'a>(design: &Design, number: u32, text: &'a [u8]) -> Option<&'a [u8]>
+    ensures { MatchOption result
+        ((rest : List ℕ) → ¬ IsSpelled (design_tree design.now) text.now (Variable number) rest)
+        (λ rest. IsSpelled (design_tree design.now) text.now (Variable number) rest.now) }
+{
+    let var = design.vars.get(number as usize)?;
+    behind_item(text, b'v', number, var.path.as_bytes())
+}
+
+fn behind_task<'a>(design: &Design, number: u32, text: &'a [u8]) -> Option<&'a [u8]>
+    ensures { MatchOption result
+        ((rest : List ℕ) → ¬ IsSpelled (design_tree design.now) text.now (Task number) rest)
+        (λ rest. IsSpelled (design_tree design.now) text.now (Task number) rest.now) }
+{
+    let task = design.tasks.get(number as usize)?;
+    behind_item(text, b't', number, task.path.as_bytes())
+}
+
+fn behind_item<'a>(text: &'a [u8], letter: u8, number: u32, path: &[u8]) -> Option<&'a [u8]>
+    ensures { IsBehind text.now (item_name letter number path.now) result }
+{
+    let digits = behind_byte(text, letter)?;
+    let mark = behind_number(digits, number)?;
+    behind_path(behind_byte(mark, b'_')?, path)
+}
+
+fn behind_path<'a>(text: &'a [u8], path: &[u8]) -> Option<&'a [u8]>
+    ensures { IsBehind text.now (map name_byte path.now) result }
+{
+    let mut rest = text;
+    let mut left = path;
+    while let Some((byte, others)) = parted(left) {
+        rest = behind_byte(rest, name_byte(byte))?;
+        left = others;
     }
-    for (k, byte) in path.iter().enumerate() {
-        if name[k] != name_byte(*byte) {
-            return false;
-        }
-    }
-    true
+    Some(rest)
 }
 
 fn name_byte(byte: u8) -> u8
@@ -265,19 +289,13 @@ fn name_byte(byte: u8) -> u8
     if byte == b'.' { b'_' } else { byte }
 }
 
-/// Whether the bytes are the decimal digits of the number, without leading zeros.
-fn is_decimal(digits: &[u8], number: u64) -> bool
-    ensures { IsTrue result → digits.now ≡ decimal number }
+/// What follows the decimal digits of the number, without leading zeros, if the text begins with them.
+fn behind_number(text: &[u8], number: u32) -> Option<&[u8]>
+    ensures { IsBehind text.now (decimal number) result }
 {
-    let Some((last, front)) = digits.split_last() else {
-        return false;
-    };
-    if *last != b'0' + (number % 10) as u8 {
-        return false;
-    }
     if number < 10 {
-        front.is_empty()
-    } else {
-        is_decimal(front, number / 10)
+        return behind_byte(text, b'0' + number as u8);
     }
+    let last = behind_number(text, number / 10)?;
+    behind_byte(last, b'0' + (number % 10) as u8)
 }

@@ -22,13 +22,14 @@ pub record IsNode (s : Table) (id : NodeId) (n : Node) : Type 0 where
   pub differ : n.lo ≢ n.hi
   pub meaning : MeansNode s id n
 
--- each known id that is no constant has a node, constants stand below all levels, a function depends on levels from its own on alone,
--- and known ids that mean the same are equal
+-- each known id that is no constant has a node, constants stand below all levels, a function depends on levels from
+-- its own on alone, and known ids that mean the same are equal
 pub record IsReduced (s : Table) : Type 0 where
   pub nodes : (id : NodeId) → Knows s id → ¬ IsConstant id → IsNode s id (node_of s id)
   pub constants : (id : NodeId) → IsConstant id → level_of s id ≡ s.levels
   pub within : (id : NodeId) → Knows s id → level_of s id ≤ s.levels
-  pub independent : (id : NodeId) → Knows s id → (v w : ℕ → Bool) → ((k : ℕ) → level_of s id ≤ k → k < s.levels → v k ≡ w k) → means s id v ≡ means s id w
+  pub independent : (id : NodeId) → Knows s id → (v w : ℕ → Bool) →
+      ((k : ℕ) → level_of s id ≤ k → k < s.levels → v k ≡ w k) → means s id v ≡ means s id w
   pub canonical : (f g : NodeId) → Knows s f → Knows s g → ((v : ℕ → Bool) → means s f v ≡ means s g v) → f ≡ g
 
 -- what the old store knew the new one knows, at the same level, with the same node and meaning

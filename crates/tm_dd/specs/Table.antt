@@ -1,4 +1,5 @@
--- What contracts see of a store, and the meaning of its ids (Bryant 1986; complement marks by Brace, Rudell and Bryant 1990).
+-- What contracts see of a store, and the meaning of its ids (Bryant 1986; complement marks by Brace, Rudell and Bryant
+-- 1990).
 use Rattle.std.specs.Prelude.{ℕ, ◌+◌, ◌*◌, ◌<◌, Bool, false, not, List, [], ◌∷◌, ◌++◌, length, fold, slice_index_or, if◌then◌else◌}
 use Rattle.tm_dd.specs.declared.node.Node.{Node}
 use Rattle.tm_dd.specs.declared.node.NodeId.{NodeId}
@@ -54,7 +55,8 @@ id_value values id = marked_value (is_marked id) (slice_index_or values (positio
 abbrev pub node_value : (ℕ → Bool) → List Bool → Node → Bool
 node_value v values n = if v n.level then id_value values n.hi else id_value values n.lo
 
--- the values of the kept functions by position, where v gives each level's value: of the constant, which is false, and then of each node
+-- the values of the kept functions by position, where v gives each level's value: of the constant, which is false, and
+-- then of each node
 unfoldable pub values_of : Table → (ℕ → Bool) → List Bool
 values_of s v = fold (λ values n. values ++ node_value v values n ∷ []) (false ∷ []) s.nodes
 

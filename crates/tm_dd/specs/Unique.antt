@@ -4,7 +4,8 @@ use Rattle.tm_dd.specs.declared.node.Node.{Node}
 use Rattle.tm_dd.specs.NodeId.{position_of, is_marked}
 use Rattle.tm_dd.specs.Table.{Table, kept, entry_at, level_of}
 
--- a node at a position: its children stand at smaller positions and on greater levels, they differ, and `lo` is unmarked
+-- a node at a position: its children stand at smaller positions and on greater levels, they differ, and `lo` is
+-- unmarked
 pub record IsEntry (s : Table) (position : ℕ) (n : Node) : Type 0 where
   pub below : n.level < s.levels
   pub lo_before : position_of n.lo < position

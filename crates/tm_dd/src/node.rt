@@ -3,9 +3,11 @@ ghost use Rattle.std.specs.Prelude.{◌≡◌, ◌↔◌, ◌<◌, ◌^◌, ℕ,
 ghost use Rattle.tm_dd.specs.NodeId.{complement, is_marked, IsConstant, position_of};
 ghost use Rattle.tm_dd.specs.Table.{Knows, level_of, means, Table};
 
-/// The id of a Boolean function in a store: twice the position of a kept function, plus 1 where it is that function's complement.
+/// The id of a Boolean function in a store: twice the position of a kept function, plus 1 where it is that function's
+/// complement.
 ///
-/// The complement marks are those of Brace, Rudell and Bryant (1990). An id means something only in the store that gave it.
+/// The complement marks are those of Brace, Rudell and Bryant (1990). An id means something only in the store that gave
+/// it.
 #[derive(Clone, Copy, PartialEq, Eq, PartialOrd, Ord, Hash, Debug)]
 pub struct NodeId(u64);
 
@@ -68,7 +70,8 @@ impl NodeId {
     /// The id of the complement where `marked` holds, and else the id itself.
     pub fn complement_if(self, marked: bool) -> NodeId
         ensures value { result ≡ (if marked then complement self else self) }
-        ensures meaning { (s : Table) (v : ℕ → Bool) → means s result v ≡ (if marked then not (means s self v) else means s self v) }
+        ensures meaning { (s : Table) (v : ℕ → Bool)
+            → means s result v ≡ (if marked then not (means s self v) else means s self v) }
         ensures level { (s : Table) → level_of s result ≡ level_of s self }
         ensures known { (s : Table) → Knows s self → Knows s result }
     {

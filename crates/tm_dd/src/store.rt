@@ -11,8 +11,8 @@ use std::alloc::{AllocError, Global};
 use std::marker::Model;
 use tm_base::Steps;
 
-/// Boolean functions of the values of some levels, kept as a reduced ordered binary decision diagram with complement marks
-/// (Bryant 1986; Brace, Rudell and Bryant 1990).
+/// Boolean functions of the values of some levels, kept as a reduced ordered binary decision diagram with complement
+/// marks (Bryant 1986; Brace, Rudell and Bryant 1990).
 ///
 /// Ids are equal exactly where their functions are equal. An id means the same from the call that gave it on.
 #[derive(Drop)]
@@ -82,7 +82,8 @@ impl Store {
         self.entry(id.position()).level
     }
 
-    /// The node of an id that is no constant. That of a marked id has the complements of the kept children. It takes no memory.
+    /// The node of an id that is no constant. That of a marked id has the complements of the kept children. It takes no
+    /// memory.
     pub fn node(&self, id: NodeId) -> Node
         requires known { Knows self.now id }
         requires inner { ¬ IsConstant id }
@@ -121,8 +122,8 @@ impl Store {
 
     /// The function that is `hi` where the level's value is true, and `lo` where it is false. It counts one step.
     ///
-    /// It takes no memory where the store knows the function, and is the only call that adds a node. After a refusal the store
-    /// is as it was.
+    /// It takes no memory where the store knows the function, and is the only call that adds a node. After a refusal
+    /// the store is as it was.
     pub fn make<L>(
         &mut self,
         level: u32,
@@ -144,15 +145,21 @@ impl Store {
         // The answer is known, on this level or a deeper one, and means what was asked for.
         ensures known { IfOk result (λ r. Knows self.new r) }
         ensures deep { IfOk result (λ r. level ≤ level_of self.new r) }
-        ensures meaning { IfOk result (λ r. (v : ℕ → Bool) → means self.new r v ≡ (if v level then means self.old hi v else means self.old lo v)) }
-        ensures node { IfOk result (λ r. ¬ (lo ≡ hi) → node_of self.new r ≡ record { level = level; lo = lo; hi = hi }) }
+        ensures meaning { IfOk result (λ r. (v : ℕ → Bool)
+            → means self.new r v ≡ (if v level then means self.old hi v else means self.old lo v)) }
+        ensures node { IfOk result (λ r. ¬ (lo ≡ hi)
+            → node_of self.new r ≡ record { level = level; lo = lo; hi = hi }) }
 
-        // A function that was known has its id, and nothing is added for it. Another one adds one node, for itself and its complement.
+        // A function that was known has its id, and nothing is added for it. Another one adds one node, for itself and
+        // its complement.
         ensures equal { lo ≡ hi → result ≡ Ok lo }
-        ensures found { (id : NodeId) → Knows self.old id → MeansNode self.old id (record { level = level; lo = lo; hi = hi }) → result ≡ Ok id }
-        ensures unchanged { (id : NodeId) → Knows self.old id → MeansNode self.old id (record { level = level; lo = lo; hi = hi }) → self.new ≡ self.old }
+        ensures found { (id : NodeId) → Knows self.old id
+            → MeansNode self.old id (record { level = level; lo = lo; hi = hi }) → result ≡ Ok id }
+        ensures unchanged { (id : NodeId) → Knows self.old id
+            → MeansNode self.old id (record { level = level; lo = lo; hi = hi }) → self.new ≡ self.old }
         ensures adds { kept self.new ≤ kept self.old + 1 }
-        ensures added { IfOk result (λ r. (id : NodeId) → Knows self.new id → Knows self.old id ⊎ ((id ≡ r) ⊎ (id ≡ complement r))) }
+        ensures added { IfOk result (λ r. (id : NodeId)
+            → Knows self.new id → Knows self.old id ⊎ ((id ≡ r) ⊎ (id ≡ complement r))) }
     {
         prove!(level < self.levels);
         steps.tick();

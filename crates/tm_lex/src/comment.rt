@@ -8,8 +8,8 @@ ghost use Rattle.tm_lex.specs.Front.{IsFirstPiece};
 
 use crate::class::Class;
 
-/// The length of the comment at the front of bytes that begin with `/`, if one begins there. A `/*` that is never closed
-/// begins none.
+/// The length of the comment at the front of bytes that begin with `/`, if one begins there. A `/*` that is never
+/// closed begins none.
 pub fn comment_len(bytes: &[u8]) -> Option<usize>
     requires some { 0 < length bytes.now }
     requires slash { class_of (slice_index bytes.now 0) ≡ Class.Slash }

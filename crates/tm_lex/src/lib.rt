@@ -29,8 +29,8 @@ pub const MAX_TEXT_LEN: usize = 1_048_576;
 /// The tokens of a text, in its order, by longest match (as in ISO/IEC 9899:2011, 6.4). A token keeps its span, and a
 /// number is not valued.
 ///
-/// `Faulty` is `F1`, at the first byte that begins no token and no gap, and comes exactly where there is one. `Memory` is
-/// want of memory.
+/// `Faulty` is `F1`, at the first byte that begins no token and no gap, and comes exactly where there is one. `Memory`
+/// is want of memory.
 pub fn lex(alloc: Global, text: &[u8]) -> Result<Vec<Token>, FrontError>
     requires { length text.now ≤ MAX_TEXT_LEN }
     ensures ok { IfOk result (λ tokens. AreTokens text.now tokens.items) }

@@ -10,7 +10,8 @@ use crate::class::Class;
 use crate::piece::Piece;
 use tm_syntax::token::{Sign, TokenKind};
 
-/// The longest sign at the front of bytes that begin with no blank, slash, letter, `_` or digit, if a sign begins there.
+/// The longest sign at the front of bytes that begin with no blank, slash, letter, `_` or digit, if a sign begins
+/// there.
 pub fn sign(bytes: &[u8]) -> Option<Piece>
     requires some { 0 < length bytes.now }
     requires mark { class_of (slice_index bytes.now 0) ≡ Class.Mark }

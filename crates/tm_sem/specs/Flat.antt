@@ -48,5 +48,10 @@ pub record IsJob (d : DesignTree) (s : StateData) (move : Move) (stmts : List St
   pub body : BodyName
   pub who : last < 2 + length d.processes
   pub work : work d s move
-      ≡ Some (record { items = map (perform (main_scope body) []) stmts; memory = memory_of s; mover = mover; last = last })
+      ≡ Some (record {
+        items = map (perform (main_scope body) []) stmts;
+        memory = memory_of s;
+        mover = mover;
+        last = last;
+      })
   pub is_small : AllByRecursion IsSmallStmt stmts

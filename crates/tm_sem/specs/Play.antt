@@ -17,7 +17,8 @@ abbrev pub goal_expr : DesignTree → Item → Option ExprTree
 goal_expr d item =
     option_and_then
     (λ k.
-    option_and_then (λ at. option_map (λ (g : NamedTree). g.expr) (slice_get at.template.goals k)) (site d item.instance))
+    option_and_then (λ at. option_map (λ (g : NamedTree). g.expr) (slice_get at.template.goals k))
+    (site d item.instance))
     item.index
 
 -- whether the goal of this number holds; one without an expression always does
@@ -25,7 +26,8 @@ abbrev pub goal_holds : DesignTree → StateData → ℕ → Bool
 goal_holds d s g =
     option_map_or
     (λ item.
-    option_map_or (holds_in d (record { instance = item.instance; body = outside }) (memory_of s)) (goal_expr d item) true)
+    option_map_or (holds_in d (record { instance = item.instance; body = outside }) (memory_of s))
+    (goal_expr d item) true)
     (slice_get d.goals g) true
 
 -- the goal after this one, in a circle

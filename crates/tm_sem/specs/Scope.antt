@@ -164,7 +164,8 @@ task_called d at k =
       scope = record { instance = at.number; body = task_body k };
       params = filter_map
           (λ p.
-          slot_cell d (record { instance = at.number; body = task_body k }) at (task_code d at.template task) (param_slot p))
+          slot_cell d (record { instance = at.number; body = task_body k }) at (task_code d at.template task)
+          (param_slot p))
           task.params;
       body = task.body;
     }) (slice_get at.template.tasks k)

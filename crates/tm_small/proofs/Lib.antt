@@ -4,5 +4,10 @@ pub mod Determined
 pub mod Distinct
 pub mod Forms
 pub mod FormsAgree
+pub mod NoSmallText
 pub mod Numbered
+pub mod Refusals
+pub mod RefusedForms
+pub mod RefusedRows
+pub mod RefusedSpec
 pub mod SmallForms

@@ -19,12 +19,14 @@ pub record IsMark (kind : TokenKind) (at : Place) (tokens rest : List Token) : T
   pub is : first.kind ≡ kind
   pub here : first.place ≡ at
 
--- NAME: the bytes of its token, at most 63
+-- NAME: the bytes of its token, which stand in the text, and are at most 63
 pub record IsName (text : List ℕ) (name : Ident) (tokens rest : List Token) : Type 0 where
   pub first : Token
   pub whole : tokens ≡ first ∷ rest
   pub is : first.kind ≡ token.Name
   pub here : first.place ≡ name.place
+  pub ordered : first.start ≤ first.end
+  pub within : first.end ≤ length text
   pub bytes : name.text ≡ slice_range text first.start first.end
   pub short : length name.text ≤ 63
 

@@ -1,3 +1,4 @@
 pub mod Grammar
 pub mod Main
+pub mod Refusal
 pub mod SmallText

@@ -1,12 +1,14 @@
 //! A temporary reader of small specifications, until the whole language is read.
 #![tactic(auto)]
 
-ghost use Rattle.std.specs.Prelude.{◌≡◌, ◌<◌, ◌≤◌, ℕ, List, length, map, count_by, AllPairs, IfOk, IfSome};
+ghost use Rattle.std.specs.Prelude.{◌≡◌, ◌<◌, ◌≤◌, ℕ, List, length, map, count_by, All, AllPairs, Err, IsNone, IfOk, IfSome};
+ghost use Rattle.tm_syntax.specs.declared.token.Token.{Token};
 ghost use Rattle.tm_syntax.specs.Tokens.{AreTokens};
 ghost use Rattle.tm_syntax.specs.View.{template_tree};
 ghost use Rattle.tm_syntax.specs.Design.{DesignTree};
 ghost use Rattle.tm_syntax.specs.DesignView.{design_tree};
 ghost use Rattle.tm_syntax.specs.Small.{IsSmall};
+ghost use Rattle.tm_small.specs.declared.stop.Stop.TheVariants.{Form};
 ghost use Rattle.tm_small.specs.SmallText.{IsSmallText, is_star, declared_names};
 
 mod main_design;
@@ -67,10 +69,14 @@ fn design(alloc: Global, text: &[u8], tokens: &[Token]) -> Result<Design, Stop>
     requires tokens { AreTokens text.now tokens.now }
     ensures spelled { IfOk result (λ d. IsSmallText text.now (design_tree d)) }
     ensures small { IfOk result (λ d. IsSmall (design_tree d)) }
+    ensures refused { result ≡ Err Form → (d : DesignTree) → ¬ IsSmallText text.now d }
 {
     let template = template(alloc, text, tokens)?;
     let names = declared_names(alloc, &template)?;
-    if !are_distinct(&names) || star_count(tokens) > STARS {
+    if !are_distinct(&names) {
+        return Err(Stop::Form);
+    }
+    if star_count(tokens) > STARS {
         return Err(Stop::Form);
     }
     Ok(main_design(alloc, template)?)
@@ -78,11 +84,13 @@ fn design(alloc: Global, text: &[u8], tokens: &[Token]) -> Result<Design, Stop>
 
 /// The design of a text of the small form: one template `main` of bools, controllable tasks without parameters, one
 /// process and at most one goal. `None` is for every other text, as one that is too long, that has a byte that begins
-/// no token, or that is above a limit. No contract rules it out for a text of the form: tests alone show what is read.
-/// The error is want of memory.
+/// no token, or that is above a limit. The error is want of memory.
 pub fn read_small(alloc: Global, text: &[u8]) -> Result<Option<Design>, AllocError>
     ensures spelled { IfOk result (λ found. IfSome found (λ d. IsSmallText text.now (design_tree d))) }
     ensures small { IfOk result (λ found. IfSome found (λ d. IsSmall (design_tree d))) }
+
+    // `None` is for the texts of no small design alone.
+    ensures none { IfOk result (λ found. IsNone found → (d : DesignTree) → ¬ IsSmallText text.now d) }
     ensures long { 1048576 < length text.now → result ≡ Ok None }
 {
     if text.len() > BYTES {
@@ -99,6 +107,12 @@ pub fn read_small(alloc: Global, text: &[u8]) -> Result<Option<Design>, AllocErr
         Err(Stop::Memory) => Err(AllocError),
     }
 }
+
+/// Each token of a text has a span in it, so that the small grammar asks no more of a name than its bytes.
+pub fn tokens_stand_in_their_text()
+    ensures { (text : List ℕ) (tokens : List Token) → AreTokens text tokens
+        → All (λ (t : Token). (t.start ≤ t.end) × (t.end ≤ length text)) tokens }
+{}
 
 /// A text spells one design, so what `read_small` answers is all that the definitions allow.
 pub fn small_designs_are_determined()

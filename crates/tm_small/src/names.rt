@@ -69,7 +69,7 @@ pub fn names_of<D: Declares>(alloc: Global, declarations: &[D]) -> Result<Vec<Na
 
 /// Whether a name is `main`.
 pub fn is_main(name: &Name) -> bool
-    ensures { OnTrue result (name.now ≡ codes "main") }
+    ensures { IsTrue result ↔ (name.now ≡ codes "main") }
 {
     let main: &[u8] = b"main";
     name.as_bytes() == main
@@ -84,7 +84,7 @@ pub fn is_among(name: &Name, names: &[Name]) -> bool
 
 /// Whether no name stands twice.
 pub fn are_distinct(names: &[Name]) -> bool
-    ensures { OnTrue result (AllPairs (λ x y. x ≢ y) names.now) }
+    ensures { IsTrue result ↔ AllPairs (λ x y. x ≢ y) names.now }
 {
     for (i, name) in names.iter().enumerate() {
         if is_among(name, &names[..i]) {

@@ -1,9 +1,18 @@
 //! Readers of the small grammar, one for each form. Each answers what it read, and the tokens behind it.
 #![tactic(auto, using(crate::proofs::Forms::forms, tm_syntax::proofs::Views::views))]
 
-ghost use Rattle.std.specs.Prelude.{true, ◌≡◌, ◌+◌, ◌≤◌, [], map, codes, IfOk, IfSome, OnOk, vec_len};
+ghost use Rattle.std.specs.Prelude.{true, None, Err, IsNone, ◌≡◌, ◌≢◌, ◌⊎◌, ◌<◌, List, length, ◌+◌, ◌≤◌, [], map, codes, IfOk, IfSome, OnOk, vec_len};
+ghost use Rattle.tm_base.specs.declared.place.Place.{Place};
+ghost use Rattle.tm_syntax.specs.declared.token.Token.{Token};
+ghost use Rattle.tm_syntax.specs.declared.token.TokenKind.TheVariants as token;
+ghost use Rattle.tm_syntax.specs.declared.token.Word.TheVariants as word;
+ghost use Rattle.tm_syntax.specs.declared.token.Sign.TheVariants as sign;
+ghost use Rattle.tm_syntax.specs.declared.tree.Ident.{Ident};
+ghost use Rattle.tm_syntax.specs.Tree.{ExprTree, ValueTree, StmtTree, assign, assert, magic, BodyTree, VarTree, NamedTree, ProcessTree, TaskTree, TemplateTree};
 ghost use Rattle.tm_syntax.specs.View.{expr_tree, value_tree, stmt_tree, stmt_trees, body_tree, var_tree, named_tree, process_tree, task_tree, template_tree};
 ghost use Rattle.tm_small.specs.Grammar.{IsMark, IsName, AreEach, IsTruth, IsVariable, IsAtom, IsLit, IsValue, IsStmt, IsBody, IsVar, IsTask, IsProcess, AreGoals, IsSpec};
+ghost use Rattle.tm_small.specs.declared.stop.Stop.TheVariants.{Form};
+ghost use Rattle.tm_small.specs.Refusal.{BeginsNone};
 ghost use Rattle.tm_small.specs.SmallText.{stmt_count, IsWithinLimits};
 
 use crate::names::{is_among, is_main, names_of};
@@ -27,7 +36,8 @@ const STATEMENTS: usize = 1_000;
 
 /// The place of a first token of this kind.
 fn mark(tokens: &[Token], kind: TokenKind) -> Option<(Place, &[Token])>
-    ensures { IfSome result (λ r. IsMark kind r.0 tokens.now r.1.now) }
+    ensures spelled { IfSome result (λ r. IsMark kind r.0 tokens.now r.1.now) }
+    ensures refused { IsNone result → BeginsNone (IsMark kind) tokens.now }
 {
     let (first, rest) = tokens.split_first()?;
     if first.kind == kind {
@@ -39,14 +49,16 @@ fn mark(tokens: &[Token], kind: TokenKind) -> Option<(Place, &[Token])>
 
 /// The place of the first token, which has to be of this kind.
 fn need(tokens: &[Token], kind: TokenKind) -> Result<(Place, &[Token]), Stop>
-    ensures { IfOk result (λ r. IsMark kind r.0 tokens.now r.1.now) }
+    ensures spelled { IfOk result (λ r. IsMark kind r.0 tokens.now r.1.now) }
+    ensures refused { result ≡ Err Form → BeginsNone (IsMark kind) tokens.now }
 {
     mark(tokens, kind).ok_or(Stop::Form)
 }
 
 /// A name.
 fn name<'a>(alloc: Global, text: &[u8], tokens: &'a [Token]) -> Result<(Ident, &'a [Token]), Stop>
-    ensures { IfOk result (λ r. IsName text.now r.0 tokens.now r.1.now) }
+    ensures spelled { IfOk result (λ r. IsName text.now r.0 tokens.now r.1.now) }
+    ensures refused { result ≡ Err Form → BeginsNone (IsName text.now) tokens.now }
 {
     let (first, rest) = tokens.split_first().ok_or(Stop::Form)?;
     let bytes = text
@@ -67,7 +79,8 @@ fn name<'a>(alloc: Global, text: &[u8], tokens: &'a [Token]) -> Result<(Ident, &
 
 /// A truth.
 fn truth(tokens: &[Token]) -> Option<(Expr, &[Token])>
-    ensures { IfSome result (λ r. IsTruth (expr_tree r.0) tokens.now r.1.now) }
+    ensures spelled { IfSome result (λ r. IsTruth (expr_tree r.0) tokens.now r.1.now) }
+    ensures refused { IsNone result → BeginsNone IsTruth tokens.now }
 {
     if let Some((at, rest)) = mark(tokens, TokenKind::Word(Word::True)) {
         return Some((Expr::Truth(at, true), rest));
@@ -83,7 +96,8 @@ fn variable<'a>(
     known: &[Name],
     tokens: &'a [Token],
 ) -> Result<(Path, &'a [Token]), Stop>
-    ensures { IfOk result (λ r. IsVariable text.now known.now r.0.names.items tokens.now r.1.now) }
+    ensures spelled { IfOk result (λ r. IsVariable text.now known.now r.0.names.items tokens.now r.1.now) }
+    ensures refused { result ≡ Err Form → BeginsNone (IsVariable text.now known.now) tokens.now }
 {
     let (name, rest) = name(alloc, text, tokens)?;
     if !is_among(&name.text, known) {
@@ -101,7 +115,8 @@ fn atom<'a>(
     known: &[Name],
     tokens: &'a [Token],
 ) -> Result<(Expr, &'a [Token]), Stop>
-    ensures { IfOk result (λ r. IsAtom text.now known.now (expr_tree r.0) tokens.now r.1.now) }
+    ensures spelled { IfOk result (λ r. IsAtom text.now known.now (expr_tree r.0) tokens.now r.1.now) }
+    ensures refused { result ≡ Err Form → BeginsNone (IsAtom text.now known.now) tokens.now }
 {
     if let Some((constant, rest)) = truth(tokens) {
         return Ok((constant, rest));
@@ -117,7 +132,8 @@ fn literal<'a>(
     known: &[Name],
     tokens: &'a [Token],
 ) -> Result<(Expr, &'a [Token]), Stop>
-    ensures { IfOk result (λ r. IsLit text.now known.now (expr_tree r.0) tokens.now r.1.now) }
+    ensures spelled { IfOk result (λ r. IsLit text.now known.now (expr_tree r.0) tokens.now r.1.now) }
+    ensures refused { result ≡ Err Form → BeginsNone (IsLit text.now known.now) tokens.now }
 {
     let Some((at, rest)) = mark(tokens, TokenKind::Sign(Sign::Bang)) else {
         return atom(alloc, text, known, tokens);
@@ -134,7 +150,8 @@ fn value<'a>(
     known: &[Name],
     tokens: &'a [Token],
 ) -> Result<(Value, &'a [Token]), Stop>
-    ensures { IfOk result (λ r. IsValue text.now known.now (value_tree r.0) tokens.now r.1.now) }
+    ensures spelled { IfOk result (λ r. IsValue text.now known.now (value_tree r.0) tokens.now r.1.now) }
+    ensures refused { result ≡ Err Form → BeginsNone (IsValue text.now known.now) tokens.now }
 {
     if let Some((at, rest)) = mark(tokens, TokenKind::Sign(Sign::Star)) {
         return Ok((Value::Star(at), rest));
@@ -151,7 +168,9 @@ fn assignment<'a>(
     in_process: bool,
     tokens: &'a [Token],
 ) -> Result<(Stmt, &'a [Token]), Stop>
-    ensures { IfOk result (λ r. IsStmt text.now known.now in_process (stmt_tree r.0) tokens.now r.1.now) }
+    ensures spelled { IfOk result (λ r. IsStmt text.now known.now in_process (stmt_tree r.0) tokens.now r.1.now) }
+    ensures refused { result ≡ Err Form → (names : List Ident) (v : ValueTree) (behind : List Token)
+        → ¬ IsStmt text.now known.now in_process (assign names None v) tokens.now behind }
 {
     let (target, rest) = variable(alloc, text, known, tokens)?;
     let (_, rest) = need(rest, TokenKind::Sign(Sign::Assign))?;
@@ -168,7 +187,9 @@ fn assertion<'a>(
     in_process: bool,
     tokens: &'a [Token],
 ) -> Result<(Stmt, &'a [Token]), Stop>
-    ensures { IfOk result (λ r. IsStmt text.now known.now in_process (stmt_tree r.0) tokens.now r.1.now) }
+    ensures spelled { IfOk result (λ r. IsStmt text.now known.now in_process (stmt_tree r.0) tokens.now r.1.now) }
+    ensures refused { result ≡ Err Form → (at : Place) (test : ExprTree) (behind : List Token)
+        → ¬ IsStmt text.now known.now in_process (assert at test) tokens.now behind }
 {
     let (at, rest) = need(tokens, TokenKind::Word(Word::Assert))?;
     let (_, rest) = need(rest, TokenKind::Sign(Sign::OpenParenthesis))?;
@@ -180,7 +201,9 @@ fn assertion<'a>(
 
 /// A magic block.
 fn magic<'a>(text: &[u8], known: &[Name], tokens: &'a [Token]) -> Result<(Stmt, &'a [Token]), Stop>
-    ensures { IfOk result (λ r. IsStmt text.now known.now true (stmt_tree r.0) tokens.now r.1.now) }
+    ensures spelled { IfOk result (λ r. IsStmt text.now known.now true (stmt_tree r.0) tokens.now r.1.now) }
+    ensures refused { result ≡ Err Form → (at : Place) (behind : List Token)
+        → ¬ IsStmt text.now known.now true (magic at) tokens.now behind }
 {
     let (at, rest) = need(tokens, TokenKind::Sign(Sign::Ellipsis))?;
     let (_, rest) = need(rest, TokenKind::Sign(Sign::Semicolon))?;
@@ -195,7 +218,8 @@ fn stmt<'a>(
     in_process: bool,
     tokens: &'a [Token],
 ) -> Result<(Stmt, &'a [Token]), Stop>
-    ensures { IfOk result (λ r. IsStmt text.now known.now in_process (stmt_tree r.0) tokens.now r.1.now) }
+    ensures spelled { IfOk result (λ r. IsStmt text.now known.now in_process (stmt_tree r.0) tokens.now r.1.now) }
+    ensures refused { result ≡ Err Form → BeginsNone (IsStmt text.now known.now in_process) tokens.now }
 {
     if in_process && mark(tokens, TokenKind::Sign(Sign::Ellipsis)).is_some() {
         return magic(text, known, tokens);
@@ -218,6 +242,10 @@ fn stmts<'a>(
     ensures spelled { IfOk result (λ r.
         AreEach (IsStmt text.now known.now in_process) (stmt_trees r.0.items) tokens.now r.1.now) }
     ensures within { IfOk result (λ r. vec_len r.0 ≤ room) }
+    ensures refused { result ≡ Err Form → (xs : List StmtTree) (behind : List Token)
+        → AreEach (IsStmt text.now known.now in_process) xs tokens.now behind
+        → BeginsNone (IsMark (token.Sign sign.CloseBrace)) behind }
+    ensures full { IfOk result (λ r. BeginsNone (IsMark (token.Sign sign.CloseBrace)) r.1.now → vec_len r.0 ≡ room) }
 {
     let mut stmts = Vec::new(alloc);
     let mut rest = tokens;
@@ -243,6 +271,8 @@ fn body<'a>(
 ) -> Result<(Body, &'a [Token]), Stop>
     ensures spelled { IfOk result (λ r. IsBody text.now known.now in_process (body_tree r.0) tokens.now r.1.now) }
     ensures within { IfOk result (λ r. vec_len r.0.stmts ≤ room) }
+    ensures refused { result ≡ Err Form → (x : BodyTree) (behind : List Token)
+        → IsBody text.now known.now in_process x tokens.now behind → room < length x.stmts }
 {
     let (_, rest) = need(tokens, TokenKind::Sign(Sign::OpenBrace))?;
     let (stmts, rest) = stmts(alloc, text, known, in_process, room, rest)?;
@@ -259,7 +289,8 @@ fn body<'a>(
 
 /// A variable with its initial truth.
 fn var<'a>(alloc: Global, text: &[u8], tokens: &'a [Token]) -> Result<(VarDef, &'a [Token]), Stop>
-    ensures { IfOk result (λ r. IsVar text.now (var_tree r.0) tokens.now r.1.now) }
+    ensures spelled { IfOk result (λ r. IsVar text.now (var_tree r.0) tokens.now r.1.now) }
+    ensures refused { result ≡ Err Form → BeginsNone (IsVar text.now) tokens.now }
 {
     let (at, rest) = need(tokens, TokenKind::Word(Word::Bool))?;
     let (name, rest) = name(alloc, text, rest)?;
@@ -285,6 +316,9 @@ fn vars<'a>(
 ) -> Result<(Vec<VarDef>, &'a [Token]), Stop>
     ensures spelled { IfOk result (λ r. AreEach (IsVar text.now) (map var_tree r.0.items) tokens.now r.1.now) }
     ensures within { IfOk result (λ r. vec_len r.0 ≤ 200) }
+    ensures refused { result ≡ Err Form → (xs : List VarTree) (behind : List Token)
+        → AreEach (IsVar text.now) xs tokens.now behind → ¬ BeginsNone (IsMark (token.Word word.Bool)) behind }
+    ensures full { IfOk result (λ r. BeginsNone (IsMark (token.Word word.Bool)) r.1.now ⊎ (vec_len r.0 ≡ 200)) }
 {
     let mut vars = Vec::new(alloc);
     let mut rest = tokens;
@@ -309,6 +343,8 @@ fn task<'a>(
 ) -> Result<(TaskDef, &'a [Token]), Stop>
     ensures spelled { IfOk result (λ r. IsTask text.now known.now (task_tree r.0) tokens.now r.1.now) }
     ensures within { IfOk result (λ r. vec_len r.0.body.stmts ≤ room) }
+    ensures refused { result ≡ Err Form → (x : TaskTree) (behind : List Token)
+        → IsTask text.now known.now x tokens.now behind → room < length x.body.stmts }
 {
     let (_, rest) = need(tokens, TokenKind::Word(Word::Task))?;
     let (_, rest) = need(rest, TokenKind::Word(Word::Controllable))?;
@@ -338,6 +374,10 @@ fn tasks<'a>(
         AreEach (IsTask text.now known.now) (map task_tree r.0.items) tokens.now r.2.now) }
     ensures within { IfOk result (λ r. vec_len r.0 ≤ 64) }
     ensures room { IfOk result (λ r. stmt_count (map task_tree r.0.items) + r.1 ≡ 1000) }
+    ensures refused { result ≡ Err Form → (xs : List TaskTree) (behind : List Token)
+        → AreEach (IsTask text.now known.now) xs tokens.now behind → BeginsNone (IsMark (token.Word word.Task)) behind
+        → 1000 < stmt_count xs }
+    ensures full { IfOk result (λ r. BeginsNone (IsMark (token.Word word.Task)) r.2.now ⊎ (vec_len r.0 ≡ 64)) }
 {
     let mut tasks = Vec::new(alloc);
     let mut room = STATEMENTS;
@@ -364,6 +404,8 @@ fn process<'a>(
 ) -> Result<(ProcessDef, &'a [Token]), Stop>
     ensures spelled { IfOk result (λ r. IsProcess text.now known.now (process_tree r.0) tokens.now r.1.now) }
     ensures within { IfOk result (λ r. vec_len r.0.body.stmts ≤ room) }
+    ensures refused { result ≡ Err Form → (x : ProcessTree) (behind : List Token)
+        → IsProcess text.now known.now x tokens.now behind → room < length x.body.stmts }
 {
     let (_, rest) = need(tokens, TokenKind::Word(Word::Process))?;
     let (name, rest) = name(alloc, text, rest)?;
@@ -385,7 +427,10 @@ fn goals<'a>(
     known: &[Name],
     tokens: &'a [Token],
 ) -> Result<(Vec<Named>, &'a [Token]), Stop>
-    ensures { IfOk result (λ r. AreGoals text.now known.now (map named_tree r.0.items) tokens.now r.1.now) }
+    ensures spelled { IfOk result (λ r. AreGoals text.now known.now (map named_tree r.0.items) tokens.now r.1.now) }
+    ensures refused { result ≡ Err Form → (xs : List NamedTree) (behind : List Token)
+        → AreGoals text.now known.now xs tokens.now behind → BeginsNone (IsMark (token.Word word.EndTemplate)) behind }
+    ensures full { IfOk result (λ r. BeginsNone (IsMark (token.Word word.Goal)) r.1.now ⊎ (vec_len r.0 ≡ 1)) }
 {
     let mut goals = Vec::new(alloc);
     let Some((_, rest)) = mark(tokens, TokenKind::Word(Word::Goal)) else {
@@ -407,6 +452,8 @@ fn main_name<'a>(
 ) -> Result<(Ident, &'a [Token]), Stop>
     ensures spelled { IfOk result (λ r. IsName text.now r.0 tokens.now r.1.now) }
     ensures main { IfOk result (λ r. r.0.text ≡ codes "main") }
+    ensures refused { result ≡ Err Form → (name : Ident) (behind : List Token)
+        → IsName text.now name tokens.now behind → name.text ≢ codes "main" }
 {
     let (name, rest) = name(alloc, text, tokens)?;
     if is_main(&name.text) {
@@ -418,7 +465,8 @@ fn main_name<'a>(
 
 /// The end of the tokens.
 fn end(tokens: &[Token]) -> Result<(), Stop>
-    ensures { OnOk result (tokens.now ≡ []) }
+    ensures spelled { OnOk result (tokens.now ≡ []) }
+    ensures refused { result ≡ Err Form → tokens.now ≢ [] }
 {
     match tokens.first() {
         None => Ok(()),
@@ -430,6 +478,8 @@ fn end(tokens: &[Token]) -> Result<(), Stop>
 pub fn template(alloc: Global, text: &[u8], tokens: &[Token]) -> Result<Template, Stop>
     ensures spelled { IfOk result (λ t. IsSpec text.now (template_tree t) tokens.now []) }
     ensures within { IfOk result (λ t. IsWithinLimits (template_tree t)) }
+    ensures refused { result ≡ Err Form → (t : TemplateTree)
+        → IsSpec text.now t tokens.now [] → ¬ IsWithinLimits t }
 {
     let (_, rest) = need(tokens, TokenKind::Word(Word::Template))?;
     let (name, rest) = main_name(alloc, text, rest)?;

@@ -48,11 +48,14 @@ joined (b ∷ bs) name = (b ∷ bs) ++ 46 ∷ name
 -- the instance that a name of an instance's template stands for: one that it holds, or a port
 abbrev pub neighbor : InstanceNode → TemplateTree → List ℕ → Option ℕ
 neighbor node t name =
-    slice_get (filter_map (λ k. slice_get node.children k) (option_to_list (position (λ i. is_spelled name i.name) t.instances))
-    ++ filter_map (λ k. slice_get node.ports k) (option_to_list (position (λ p. is_spelled name p.name) t.ports))) 0
+    slice_get (filter_map (λ k. slice_get node.children k)
+    (option_to_list (position (λ i. is_spelled name i.name) t.instances))
+    ++ filter_map (λ k. slice_get node.ports k)
+    (option_to_list (position (λ p. is_spelled name p.name) t.ports))) 0
 
 -- an instance as its template's text declares it, within another one
-pub record IsDeclared (spec : SpecTree) (parent : InstanceNode) (t : TemplateTree) (declared : InstanceTree) (child : InstanceNode) : Type 0 where
+pub record IsDeclared (spec : SpecTree) (parent : InstanceNode) (t : TemplateTree) (declared : InstanceTree)
+    (child : InstanceNode) : Type 0 where
   pub path : child.path ≡ joined parent.path declared.name.text
   pub template : template_number spec declared.template.text ≡ Some child.template
   pub ports : map (λ a. neighbor parent t a.text) declared.args ≡ map Some child.ports
@@ -64,9 +67,11 @@ mutual
         slice_get nodes at ≡ Some node → slice_get spec.templates node.template ≡ Some t →
         IsForest spec nodes node t t.instances node.children (at + 1) end → IsSubtree spec nodes at end
 
-  pub data IsForest (spec : SpecTree) (nodes : List InstanceNode) : InstanceNode → TemplateTree → List InstanceTree → List ℕ → ℕ → ℕ → Type 0 where
+  pub data IsForest (spec : SpecTree) (nodes : List InstanceNode) :
+      InstanceNode → TemplateTree → List InstanceTree → List ℕ → ℕ → ℕ → Type 0 where
     none_left : {parent : InstanceNode} {t : TemplateTree} {end : ℕ} → IsForest spec nodes parent t [] [] end end
-    one_more : {parent child : InstanceNode} {t : TemplateTree} {first : InstanceTree} {others : List InstanceTree} {children : List ℕ} {at middle end : ℕ} →
+    one_more : {parent child : InstanceNode} {t : TemplateTree} {first : InstanceTree} {others : List InstanceTree}
+        {children : List ℕ} {at middle end : ℕ} →
         slice_get nodes at ≡ Some child → IsDeclared spec parent t first child →
         IsSubtree spec nodes at middle → IsForest spec nodes parent t others children middle end →
         IsForest spec nodes parent t (first ∷ others) (at ∷ children) at end
@@ -114,7 +119,8 @@ process_vars i base p = map (λ l. kept_var i (joined base p.name.text) l.ty l.n
 abbrev pub task_vars : SpecTree → TemplateTree → ℕ → List ℕ → TaskTree → List Var
 task_vars spec t i base k =
     if is_uncontrollable k.kind && may_pause spec t k
-    then (map (λ p. kept_var i (joined base k.name.text) p.ty p.name) k.params ++ map (λ l. kept_var i (joined base k.name.text) l.ty l.name) k.body.locals)
+    then (map (λ p. kept_var i (joined base k.name.text) p.ty p.name) k.params
+    ++ map (λ l. kept_var i (joined base k.name.text) l.ty l.name) k.body.locals)
     else []
   where
     is_uncontrollable : TaskKind → Bool
@@ -133,13 +139,19 @@ instance_vars spec i =
     ++ flat_map (task_vars spec t i.0 i.1.path) t.tasks) (template_of spec i.1)
 
 -- the items of one sort of an instance: those of its template that count, by their places there
-abbrev pub instance_items : {X : Type 0} → (TemplateTree → List X) → (X → Bool) → (X → Ident) → SpecTree → ℕ × InstanceNode → List Item
+abbrev pub instance_items : {X : Type 0} → (TemplateTree → List X) → (X → Bool) → (X → Ident) → SpecTree →
+    ℕ × InstanceNode → List Item
 instance_items sort counts name spec i =
-    flat_map (λ t. filter_map (λ x. then_some (counts x.1) (record { path = joined i.1.path (name x.1).text; instance = i.0; index = Some x.0 })) (enumerate_from 0 (sort t)))
+    flat_map (λ t. filter_map (λ x. then_some (counts x.1) (record {
+      path = joined i.1.path (name x.1).text;
+      instance = i.0;
+      index = Some x.0;
+    })) (enumerate_from 0 (sort t)))
     (template_of spec i.1)
 
 -- the items of one sort, instance by instance
-abbrev pub all_items : {X : Type 0} → (TemplateTree → List X) → (X → Bool) → (X → Ident) → SpecTree → List InstanceNode → List Item
+abbrev pub all_items : {X : Type 0} → (TemplateTree → List X) → (X → Bool) → (X → Ident) → SpecTree →
+    List InstanceNode → List Item
 all_items sort counts name spec nodes = flat_map (instance_items sort counts name spec) (enumerate_from 0 nodes)
 
 -- a design without a goal gets one, named `true`
@@ -159,7 +171,8 @@ is_controllable k = is_controllable_kind k.kind
 pub record IsDesign (d : DesignTree) : Type 0 where
   pub instances : AreInstances d.spec d.instances
   pub vars : d.vars ≡ flat_map (instance_vars d.spec) (enumerate_from 0 d.instances)
-  pub processes : d.processes ≡ all_items (λ t. t.processes) (λ _. true) (λ (p : ProcessTree). p.name) d.spec d.instances
+  pub processes : d.processes
+      ≡ all_items (λ t. t.processes) (λ _. true) (λ (p : ProcessTree). p.name) d.spec d.instances
   pub tasks : d.tasks ≡ all_items (λ t. t.tasks) is_controllable (λ (k : TaskTree). k.name) d.spec d.instances
   pub goals : d.goals ≡ with_goal (all_items (λ t. t.goals) (λ _. true) (λ (g : NamedTree). g.name) d.spec d.instances)
   pub fairs : d.fairs ≡ all_items (λ t. t.fairs) (λ _. true) (λ (f : NamedTree). f.name) d.spec d.instances

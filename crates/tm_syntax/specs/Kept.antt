@@ -1,4 +1,5 @@
--- Which tasks may pause: those that hold a location, or call one that does. Their parameters and locals are kept in the state.
+-- Which tasks may pause: those that hold a location, or call one that does. Their parameters and locals are kept in
+-- the state.
 use Rattle.std.specs.Prelude.{ℕ, zero, suc, Bool, true, false, Option, None, Some, List, [], ◌∷◌, ◌||◌, find, length, sum_by}
 use Rattle.std.specs.Option.{option_and_then, option_map_or}
 use Rattle.std.specs.List.{list_any}
@@ -39,14 +40,18 @@ abbrev mutual
 abbrev pub task_reached : SpecTree → TemplateTree → List Ident → Option (TemplateTree × TaskTree)
 task_reached spec t [] = None
 task_reached spec t (name ∷ []) = option_and_then (λ k. Some (t, k)) (find (λ k. is_spelled name.text k.name) t.tasks)
-task_reached spec t (name ∷ next ∷ path) = option_and_then (λ n. task_reached spec n (next ∷ path)) (neighbor_template spec t name.text)
+task_reached spec t (name ∷ next ∷ path) =
+    option_and_then (λ n. task_reached spec n (next ∷ path)) (neighbor_template spec t name.text)
 
 -- whether a body holds a location or a call that may pause, where calls nest at most so deep
 abbrev pub body_pauses : ℕ → SpecTree → TemplateTree → BodyTree → Bool
 body_pauses zero spec t body = false
 body_pauses (suc depth) spec t body =
-    list_any (λ l. value_pauses (λ path. option_map_or (λ k. body_pauses depth spec k.0 k.1.body) (task_reached spec t path) false) l.value) body.locals
-    || list_any (stmt_pauses (λ path. option_map_or (λ k. body_pauses depth spec k.0 k.1.body) (task_reached spec t path) false)) body.stmts
+    list_any (λ l. value_pauses
+    (λ path. option_map_or (λ k. body_pauses depth spec k.0 k.1.body) (task_reached spec t path) false)
+    l.value) body.locals
+    || list_any (stmt_pauses
+    (λ path. option_map_or (λ k. body_pauses depth spec k.0 k.1.body) (task_reached spec t path) false)) body.stmts
 
 -- whether a task may pause: no body reaches itself by calls, so calls nest at most as deep as there are bodies
 abbrev pub may_pause : SpecTree → TemplateTree → TaskTree → Bool

@@ -32,4 +32,5 @@ constant_value spec name = slice_get (filter_map (λ e. position (is_spelled nam
 abbrev pub neighbor_template : SpecTree → TemplateTree → List ℕ → Option TemplateTree
 neighbor_template spec t name =
     option_and_then (λ known. template_named spec known.text)
-    (slice_get (filter_map (λ i. then_some (is_spelled name i.name) i.template) t.instances ++ filter_map (λ p. then_some (is_spelled name p.name) p.template) t.ports) 0)
+    (slice_get (filter_map (λ i. then_some (is_spelled name i.name) i.template) t.instances
+    ++ filter_map (λ p. then_some (is_spelled name p.name) p.template) t.ports) 0)

@@ -106,7 +106,8 @@ IsDecimal bytes = (0 < length bytes) × AllPass is_ascii_digit bytes
 
 -- `0x`, and one or more hexadecimal digits of either case
 abbrev pub IsHexadecimal : List ℕ → Type 0
-IsHexadecimal bytes = (digits : List ℕ) × (0 < length digits) × AllPass is_ascii_hexdigit digits × (bytes ≡ codes "0x" ++ digits)
+IsHexadecimal bytes =
+    (digits : List ℕ) × (0 < length digits) × AllPass is_ascii_hexdigit digits × (bytes ≡ codes "0x" ++ digits)
 
 -- one blank
 abbrev pub IsBlank : List ℕ → Type 0
@@ -139,7 +140,9 @@ joined pieces = flat_map (λ p. p.bytes) pieces
 
 -- in front of `rest`, no piece that begins where the bytes do is longer than they are
 abbrev pub IsLongest : List ℕ → List ℕ → Type 0
-IsLongest bytes rest = (kind : Option TokenKind) (longer after : List ℕ) → IsPiece kind longer → bytes ++ rest ≡ longer ++ after → length longer ≤ length bytes
+IsLongest bytes rest =
+    (kind : Option TokenKind) (longer after : List ℕ) → IsPiece kind longer →
+    bytes ++ rest ≡ longer ++ after → length longer ≤ length bytes
 
 -- pieces in a row, in front of `rest`: each is of its kind, and the longest that begins where it stands
 abbrev pub ArePieces : List Piece → List ℕ → Type 0
@@ -153,11 +156,20 @@ pub record Splits (text : List ℕ) (pieces : List Piece) (rest : List ℕ) : Ty
 
 -- the place of the byte behind `front`: a line ends at a line feed, and columns count bytes
 abbrev pub place_after : List ℕ → Place
-place_after front = record { line = 1 + count_by is_line_feed front; column = 1 + suffix_len (λ b. not (is_line_feed b)) front }
+place_after front = record {
+  line = 1 + count_by is_line_feed front;
+  column = 1 + suffix_len (λ b. not (is_line_feed b)) front;
+}
 
 -- the token that a piece behind `front` is, if it is one
 abbrev pub token_behind : List ℕ → Piece → Option Token
-token_behind front p = option_map (λ kind. record { kind = kind; start = length front; end = length front + length p.bytes; place = place_after front }) p.kind
+token_behind front p =
+    option_map (λ kind. record {
+      kind = kind;
+      start = length front;
+      end = length front + length p.bytes;
+      place = place_after front;
+    }) p.kind
 
 -- the tokens among pieces that stand behind `front`
 abbrev pub tokens_behind : List ℕ → List Piece → List Token

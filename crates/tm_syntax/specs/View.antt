@@ -69,7 +69,11 @@ local_tree d = record { ty = d.ty; name = d.name; value = value_tree d.value }
 
 -- a body
 abbrev pub body_tree : Body → BodyTree
-body_tree b = record { locals = map local_tree b.locals.items; stmts = stmt_trees b.stmts.items; answer = option_map expr_tree b.answer }
+body_tree b = record {
+  locals = map local_tree b.locals.items;
+  stmts = stmt_trees b.stmts.items;
+  answer = option_map expr_tree b.answer;
+}
 
 -- a template variable
 abbrev pub var_tree : VarDef → VarTree

@@ -52,5 +52,13 @@ pub struct Design {
     pub tasks: Vec<Item>,
     pub goals: Vec<Item>,
     pub fairs: Vec<Item>,
-    pub ghost numbered: { ∥ IsDesign (record { spec = spec_tree spec; instances = map instance_node instances.items; vars = vars.items; processes = processes.items; tasks = tasks.items; goals = goals.items; fairs = fairs.items }) ∥₁ },
+    pub ghost numbered: { ∥ IsDesign (record {
+      spec = spec_tree spec;
+      instances = map instance_node instances.items;
+      vars = vars.items;
+      processes = processes.items;
+      tasks = tasks.items;
+      goals = goals.items;
+      fairs = fairs.items;
+    }) ∥₁ },
 }

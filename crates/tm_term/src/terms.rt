@@ -79,8 +79,8 @@ impl Terms {
         self.kept[id.0 as usize]
     }
 
-    /// The term of a known id: `mk` of it answers this id. Its parts are smaller ids, so a walk down the parts ends, and
-    /// the value of the id is that of the term over its parts. Takes no memory and constant time.
+    /// The term of a known id: `mk` of it answers this id. Its parts are smaller ids, so a walk down the parts ends,
+    /// and the value of the id is that of the term over its parts. Takes no memory and constant time.
     pub fn term(&self, id: TermId) -> Term
         requires { IsKnown self.now id }
         ensures term { term_of self.now id ≡ Some result }
@@ -146,14 +146,15 @@ impl Terms {
 
     /// The id of a term, which is a new one where the table does not have the term. So equal terms get equal ids.
     ///
-    /// `AllocError` is want of memory, which a term that is there never meets. After it the table is as it was. In every
-    /// case each earlier id means what it meant. Takes constant time, but for the growth of the table.
+    /// `AllocError` is want of memory, which a term that is there never meets. After it the table is as it was. In
+    /// every case each earlier id means what it meant. Takes constant time, but for the growth of the table.
     pub fn mk(&mut self, term: Term) -> Result<TermId, AllocError>
         requires { Fits self.old term }
         ensures known { IfOk result (λ id. IsKnown self.new id) }
         ensures term { IfOk result (λ id. term_of self.new id ≡ Some term) }
         ensures width { IfOk result (λ id. width_of self.new id ≡ term_width self.old term) }
-        ensures value { IfOk result (λ id. (values : List ℕ) → value_of self.new values id ≡ term_value self.old values term) }
+        ensures value { IfOk result (λ id.
+            (values : List ℕ) → value_of self.new values id ≡ term_value self.old values term) }
         ensures equal { (id : TermId) → term_of self.old id ≡ Some term → (result ≡ Ok id) × (self.new ≡ self.old) }
         ensures count { count_of self.new ≤ count_of self.old + 1 }
         ensures earlier { Extends self.old self.new }
@@ -214,8 +215,8 @@ impl Terms {
 
     /// Fills a table with the values of the first ids, as many as it has places, over the values of the inputs.
     ///
-    /// Takes no memory, no recursion, and time linear in the length of the table, however deep and shared the terms are:
-    /// so the values of all terms of a step, whose ids are below the length, cost one pass.
+    /// Takes no memory, no recursion, and time linear in the length of the table, however deep and shared the terms
+    /// are: so the values of all terms of a step, whose ids are below the length, cost one pass.
     pub fn eval_into(&self, values: &[u64], table: &mut [u64])
         requires inputs { AreInputs self.now values.now }
         requires within { length table.old ≤ count_of self.now }

@@ -40,7 +40,12 @@ fn ident(alloc: Global, text: &[u8]) -> Result<Ident, AllocError>
 }
 
 fn var(alloc: Global, ty: TypeName, name: &[u8], length: Option<Num>) -> Result<VarDef, AllocError>
-    ensures { IfOk result (λ v. var_tree v ≡ record { ty = ty; name = record { text = name.now; place = PLACE }; size = length; init = None }) }
+    ensures { IfOk result (λ v. var_tree v ≡ record {
+      ty = ty;
+      name = record { text = name.now; place = PLACE };
+      size = length;
+      init = None;
+    }) }
 {
     Ok(VarDef {
         ty,
@@ -51,7 +56,11 @@ fn var(alloc: Global, ty: TypeName, name: &[u8], length: Option<Num>) -> Result<
 }
 
 fn process(alloc: Global, name: &[u8]) -> Result<ProcessDef, AllocError>
-    ensures { IfOk result (λ p. process_tree p ≡ record { lazy = false; name = record { text = name.now; place = PLACE }; body = record { locals = []; stmts = []; answer = None } }) }
+    ensures { IfOk result (λ p. process_tree p ≡ record {
+      lazy = false;
+      name = record { text = name.now; place = PLACE };
+      body = record { locals = []; stmts = []; answer = None };
+    }) }
 {
     Ok(ProcessDef {
         lazy: false,
@@ -65,7 +74,12 @@ fn process(alloc: Global, name: &[u8]) -> Result<ProcessDef, AllocError>
 }
 
 fn task(alloc: Global, name: &[u8], params: Vec<Param>) -> Result<TaskDef, AllocError>
-    ensures { IfOk result (λ t. task_tree t ≡ record { kind = Controllable; name = record { text = name.now; place = PLACE }; params = params.items; body = record { locals = []; stmts = []; answer = None } }) }
+    ensures { IfOk result (λ t. task_tree t ≡ record {
+      kind = Controllable;
+      name = record { text = name.now; place = PLACE };
+      params = params.items;
+      body = record { locals = []; stmts = []; answer = None };
+    }) }
 {
     Ok(TaskDef {
         kind: TaskKind::Controllable,
@@ -85,7 +99,16 @@ fn template(
     processes: Vec<ProcessDef>,
     tasks: Vec<TaskDef>,
 ) -> Result<Template, AllocError>
-    ensures { IfOk result (λ t. template_tree t ≡ record { name = record { text = codes "main"; place = PLACE }; ports = []; instances = []; vars = map var_tree vars.items; goals = []; fairs = []; processes = map process_tree processes.items; tasks = map task_tree tasks.items }) }
+    ensures { IfOk result (λ t. template_tree t ≡ record {
+      name = record { text = codes "main"; place = PLACE };
+      ports = [];
+      instances = [];
+      vars = map var_tree vars.items;
+      goals = [];
+      fairs = [];
+      processes = map process_tree processes.items;
+      tasks = map task_tree tasks.items;
+    }) }
 {
     Ok(Template {
         name: ident(alloc, b"main")?,
@@ -131,7 +154,8 @@ fn item(alloc: Global, path: &[u8], index: Option<u32>) -> Result<Item, AllocErr
     })
 }
 
-// `template main uint<8> b; bool a[2]; process p {} process q {} task controllable set() {} task controllable write(uint<8> v) {} endtemplate`
+// `template main uint<8> b; bool a[2]; process p {} process q {}
+// task controllable set() {} task controllable write(uint<8> v) {} endtemplate`
 fn spec(alloc: Global) -> Result<Spec, AllocError>
     ensures { IfOk result (λ s.
         let at = (λ (text : List ℕ). let i : Ident = record { text = text; place = PLACE } in i) in
@@ -142,11 +166,19 @@ fn spec(alloc: Global) -> Result<Spec, AllocError>
             name = at (codes "main");
             ports = [];
             instances = [];
-            vars = record { ty = written.Uint PLACE BYTE; name = at (codes "b"); size = None; init = None } ∷ record { ty = written.Bool PLACE; name = at (codes "a"); size = Some TWO; init = None } ∷ [];
+            vars = record { ty = written.Uint PLACE BYTE; name = at (codes "b"); size = None; init = None }
+                ∷ record { ty = written.Bool PLACE; name = at (codes "a"); size = Some TWO; init = None } ∷ [];
             goals = [];
             fairs = [];
-            processes = record { lazy = false; name = at (codes "p"); body = nothing } ∷ record { lazy = false; name = at (codes "q"); body = nothing } ∷ [];
-            tasks = record { kind = Controllable; name = at (codes "set"); params = []; body = nothing } ∷ record { kind = Controllable; name = at (codes "write"); params = record { ty = written.Uint PLACE BYTE; name = at (codes "v") } ∷ []; body = nothing } ∷ [];
+            processes = record { lazy = false; name = at (codes "p"); body = nothing }
+                ∷ record { lazy = false; name = at (codes "q"); body = nothing } ∷ [];
+            tasks = record { kind = Controllable; name = at (codes "set"); params = []; body = nothing }
+                ∷ record {
+                  kind = Controllable;
+                  name = at (codes "write");
+                  params = record { ty = written.Uint PLACE BYTE; name = at (codes "v") } ∷ [];
+                  body = nothing;
+                } ∷ [];
           } ∷ [];
         }) }
 {
@@ -168,8 +200,10 @@ fn spec(alloc: Global) -> Result<Spec, AllocError>
 
 fn vars(alloc: Global) -> Result<Vec<Var>, AllocError>
     ensures { IfOk result (λ v.
-        let kept = (λ (path : List ℕ) (ty : Ty). let v : Var = record { path = path; ty = ty; init = None; instance = 0 } in v) in
-        v.items ≡ kept (codes "b") (types.Uint 8) ∷ kept (codes "a.0") types.Bool ∷ kept (codes "a.1") types.Bool ∷ []) }
+        let kept = (λ (path : List ℕ) (ty : Ty).
+        let v : Var = record { path = path; ty = ty; init = None; instance = 0 } in v) in
+        v.items ≡ kept (codes "b") (types.Uint 8)
+        ∷ kept (codes "a.0") types.Bool ∷ kept (codes "a.1") types.Bool ∷ []) }
 {
     let byte = kept(alloc, b"b", Ty::Uint(8))?;
     let first = kept(alloc, b"a.0", Ty::Bool)?;
@@ -178,7 +212,8 @@ fn vars(alloc: Global) -> Result<Vec<Var>, AllocError>
 }
 
 fn two_items(alloc: Global, first: &[u8], second: &[u8]) -> Result<Vec<Item>, AllocError>
-    ensures { IfOk result (λ v. v.items ≡ record { path = first.now; instance = 0; index = Some 0 } ∷ record { path = second.now; instance = 0; index = Some 1 } ∷ []) }
+    ensures { IfOk result (λ v. v.items ≡ record { path = first.now; instance = 0; index = Some 0 }
+        ∷ record { path = second.now; instance = 0; index = Some 1 } ∷ []) }
 {
     Ok(Vec::from_array(
         alloc,

@@ -1,6 +1,9 @@
-use Rattle.std.proofs.Common.{sym, ap, subst, arith, rules}
+use Rattle.std.proofs.Common.{◌≢◌, sym, ap, ◌∙◌, subst, arith, rules}
+use Rattle.std.specs.List.{AllPairs}
+use Rattle.std.proofs.lemmas.Bool.{false≢true}
 use Rattle.tm_syntax.specs.Design.{DesignTree, IsDesign}
 use Rattle.tm_syntax.specs.Small.{IsSmall}
+use Rattle.tm_small.proofs.NoSmallText.{no_template, names_twice, many_stars}
 use Rattle.tm_small.proofs.Numbered.{main_is_design, main_is_small}
 use Rattle.tm_small.proofs.SmallForms.{spec_small}
 use Rattle.tm_small.proofs.design.Goals as goal
@@ -28,3 +31,16 @@ pub returns-clause-small : goal.returns-clause-small
 returns-clause-small c =
     subst IsSmall (sym c.in_ok-main_design.ensures)
     (main_is_small _ (spec_small c.in_ok-template.ensures.spelled c.in_ok-template.ensures.within))
+
+pub returns-in_err-template-clause-refused : goal.returns-in_err-template-clause-refused
+returns-in_err-template-clause-refused c is = no_template c.requires.tokens (c.in_err-template.ensures.refused (search rules))
+
+pub returns-then-not-are_distinct-clause-refused : goal.returns-then-not-are_distinct-clause-refused
+returns-then-not-are_distinct-clause-refused c is =
+    names_twice c.requires.tokens c.in_ok-template.ensures.spelled
+    (λ distinct. false≢true (c.if-not-are_distinct.ensures.1
+    (subst (AllPairs (λ x y. x ≢ y)) (sym (c.deref.ensures.value ∙ c.in_ok-names.ensures)) distinct)))
+
+pub returns-then-star_count-gt-STARS-clause-refused : goal.returns-then-star_count-gt-STARS-clause-refused
+returns-then-star_count-gt-STARS-clause-refused c is =
+    many_stars c.requires.tokens (omega (arith, c.star_count.ensures, c.if-star_count-gt-STARS.true))

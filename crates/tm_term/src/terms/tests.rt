@@ -11,8 +11,8 @@ const Y: TermId = TermId(1);
 const TEST: TermId = TermId(2);
 
 // The values of terms at the widths 1 to 4, a hexadecimal digit for each: over all tests, with each of them over all x,
-// and with each of these over all y, but over no more tests and no more x than the term reads. They were made from lists
-// of bits by another program.
+// and with each of these over all y, but over no more tests and no more x than the term reads. They were made from
+// lists of bits by another program.
 const ONE: [(Term, &str); 15] = [
     (Term::Not(Y), "10"),
     (Term::And(X, Y), "0001"),

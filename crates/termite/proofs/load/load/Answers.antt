@@ -23,4 +23,4 @@ returns-in-Err-load_script-clause-refused g c =
     (design_tree c.in-Ok.design) (trees_of c.in-Ok-load_blocks.blocks) c.in-Err-load_script.no_script c.in-Ok.ensures.told
     (λ told. subst (λ (f : List ℕ → Option (List ℕ)). TellsBlocks f c.args.driver.now (design_tree c.in-Ok.design) (trees_of c.in-Ok-load_blocks.blocks)) c.load_design.ensures.files.same_contents (c.in-Ok-load_blocks.ensures.told told))
     (c.load_blocks.ensures.files.same_contents ∙ c.load_design.ensures.files.same_contents)
-    (λ n. omega (arith, c.load_design.ensures.files.no_fewer_faults n, c.load_blocks.ensures.files.no_fewer_faults n)) c.in-Err-load_script.ensures.refused c.in-Err-load_script.ensures.built
+    (λ n. omega (arith, c.load_design.ensures.files.no_fewer_faults n, c.load_blocks.ensures.files.no_fewer_faults n)) c.in-Err-load_script.ensures.refused

@@ -1,5 +1,6 @@
 use Rattle.std.proofs.Common.{◌≡◌, ◌∷◌, sym, subst, ◌∙◌}
 use Rattle.tm_cir.specs.SmallText.{SkipsBlanks, none, skip}
+use Rattle.tm_cir.specs.Front.{BeginsNoBlank}
 use Rattle.tm_cir.proofs.small_driver.behind_blanks.Goals as goal
 
 pub loop-first-preserved : goal.loop-first-preserved
@@ -8,7 +9,10 @@ loop-first-preserved c = λ rest skips.
     c.loop-first.invariant rest (subst (λ t. SkipsBlanks t rest) (sym whole) (skip (sym c.is_blank.ensures ∙ c.if-not-is_blank.false) skips))
 
 pub returns-then-not-is_blank : goal.returns-then-not-is_blank
-returns-then-not-is_blank c = c.loop-first.invariant c.loop-first.rest.now none
+returns-then-not-is_blank c = record {
+  skips = c.loop-first.invariant c.loop-first.rest.now none;
+  ends = subst BeginsNoBlank (sym c.in-Some.ensures) (sym c.is_blank.ensures ∙ c.if-not-is_blank.true);
+}
 
-pub returns-in_default : goal.returns-in_default
-returns-in_default c = c.loop-first.invariant c.loop-first.rest.now none
+pub returns-in_default-clause-skips : goal.returns-in_default-clause-skips
+returns-in_default-clause-skips c = c.loop-first.invariant c.loop-first.rest.now none

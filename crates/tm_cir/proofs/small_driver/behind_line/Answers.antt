@@ -1,28 +1,17 @@
-use Rattle.std.proofs.Common.{◌≡◌, ◌∷◌, inl, inr, sym, subst, ap, ◌∙◌}
-use Rattle.tm_cir.specs.SmallText.{EndsLine, space, tab, carriage_return, line_feed}
-use Rattle.tm_cir.proofs.SmallLemmas.{if_some}
+use Rattle.tm_cir.proofs.Refusals.{no_line_left, returned_line, fed_line}
 use Rattle.tm_cir.proofs.small_driver.behind_line.Goals as goal
 
-pub loop-first-preserved : goal.loop-first-preserved
-loop-first-preserved c = λ rest ends.
-    let whole : c.loop-first.rest.now ≡ c.in-Some.first ∷ c.in-Some.behind.now = c.in-Some.ensures in
-    let here : EndsLine (c.in-Some.first ∷ c.in-Some.behind.now) rest =
-    elim c.in-32.is [
-      | inl e ↦ subst (λ b. EndsLine (b ∷ c.in-Some.behind.now) rest) (sym e) (tab ends)
-      | inr e ↦ subst (λ b. EndsLine (b ∷ c.in-Some.behind.now) rest) (sym e) (space ends)
-    ] in
-    c.loop-first.invariant rest (subst (λ t. EndsLine t rest) (sym whole) here)
+pub returns-in_err-first : goal.returns-in_err-first
+returns-in_err-first c =
+    rw c.from_residual.ensures
+    (no_line_left c.args.text.now c.behind_spaces-rest.result.now c.behind_spaces-rest.ensures.same c.in_err-first.ensures)
 
-pub returns-in-13 : goal.returns-in-13
-returns-in-13 c =
-    let whole : c.loop-first.rest.now ≡ c.in-Some.first ∷ c.in-Some.behind.now = c.in-Some.ensures in
-    if_some (λ rest. c.in-Some.behind.now ≡ 10 ∷ rest.now) (λ rest. EndsLine c.args.text.now rest.now) c.behind_line_feed.result
-    (λ rest feed. c.loop-first.invariant rest.now
-    (subst (λ t. EndsLine t rest.now) (sym (whole ∙ ap (λ b. b ∷ c.in-Some.behind.now) c.in-13.is ∙ ap (λ t. 13 ∷ t) feed)) carriage_return))
-    c.behind_line_feed.ensures
+pub returns-then-first-eq13 : goal.returns-then-first-eq13
+returns-then-first-eq13 c =
+    returned_line c.args.text.now c.behind_spaces-rest.result.now c.in_ok-first.behind.now c.in_ok-first.first c.behind_byte.result
+    c.in_ok-first.ensures c.if-first-eq13.true c.behind_spaces-rest.ensures.same c.behind_byte.ensures
 
 pub returns : goal.returns
 returns c =
-    if_some (λ rest. c.loop-first.rest.now ≡ 10 ∷ rest.now) (λ rest. EndsLine c.args.text.now rest.now) c.behind_line_feed-2.result
-    (λ rest feed. c.loop-first.invariant rest.now (subst (λ t. EndsLine t rest.now) (sym feed) line_feed))
-    c.behind_line_feed-2.ensures
+    fed_line c.args.text.now c.behind_spaces-rest.result.now c.in_ok-first.behind.now c.in_ok-first.first c.behind_byte-2.result
+    c.in_ok-first.ensures c.behind_spaces-rest.ensures.ends c.if-first-eq13.false c.behind_spaces-rest.ensures.same c.behind_byte-2.ensures

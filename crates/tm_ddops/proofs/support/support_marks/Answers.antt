@@ -1,8 +1,7 @@
-use Rattle.std.proofs.Common.{◌≡◌, ℕ, eqb, length-set, ap, subst, sym, ◌∙◌, arith}
+use Rattle.std.proofs.Common.{eqb, length-set, ap, ◌∙◌, arith}
 use Rattle.std.proofs.lemmas.Map.Iter.{iter_end}
 use Rattle.std.specs.List.{list_any}
 use Rattle.std.specs.Map.Iter.{deref}
-use Rattle.std.specs.Prelude.{Contains}
 use Rattle.tm_dd.specs.Table.{level_of}
 use Rattle.tm_ddops.proofs.Supports.{any-map, item_there, known_reached, marked_more, support_exact}
 use Rattle.tm_ddops.proofs.support.support_marks.Goals as goal

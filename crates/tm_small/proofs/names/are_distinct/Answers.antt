@@ -1,8 +1,8 @@
-use Rattle.std.proofs.Common.{◌≡◌, ◌≢◌, length, take, sym, ap, ◌∙◌, subst, arith}
+use Rattle.std.proofs.Common.{◌≡◌, ◌≢◌, length, take, refl, sym, ap, ◌∙◌, subst, arith}
 use Rattle.std.specs.List.{AllPairs, Contains}
 use Rattle.std.proofs.lemmas.Bool.{false≢true}
 use Rattle.std.proofs.Math.Seq.{take-length}
-use Rattle.tm_small.proofs.Distinct.{distinct_more}
+use Rattle.tm_small.proofs.Distinct.{distinct_more, stands_before}
 use Rattle.tm_small.proofs.names.are_distinct.Goals as goal
 
 pub loop-i-preserved : goal.loop-i-preserved
@@ -16,4 +16,10 @@ pub returns : goal.returns
 returns c =
     let names = c.args.names.now in
     let all : c.loop-i.i ≡ length names = omega arith in
-    subst (AllPairs ◌≢◌) (ap (λ n. take n names) all ∙ take-length names) c.loop-i.invariant
+    ((λ _. subst (AllPairs ◌≢◌) (ap (λ n. take n names) all ∙ take-length names) c.loop-i.invariant), (λ _. refl))
+
+pub returns-then-is_among : goal.returns-then-is_among
+returns-then-is_among c = (
+  (λ same. absurd (false≢true same)),
+  (λ distinct. absurd (stands_before c.args.names.now c.loop-i.i c.index-names-i.result c.loop-i-test.true c.index-names-i.is (c.if-is_among.ensures.0 refl) distinct)),
+)
