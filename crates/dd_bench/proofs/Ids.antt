@@ -10,9 +10,13 @@ pub known_later : (s t : Table) → Extends s t → (ids : List NodeId) → All 
 known_later s t e ids known = λ k d below. omega (arith, known k d below, e.rises)
 
 -- one more known id
-pub known_more : (s t : Table) → Extends s t → (ids more : List NodeId) (id : NodeId) → more ≡ ids ++ id ∷ [] → All (Knows s) ids → Knows t id → All (Knows t) more
-known_more s t e ids more id is known new = subst (All (Knows t)) (sym is) (All-push (Knows t) ids id (known_later s t e ids known) new)
+pub known_more : (s t : Table) → Extends s t → (ids more : List NodeId) (id : NodeId) → more ≡ ids ++ id ∷ [] →
+    All (Knows s) ids → Knows t id → All (Knows t) more
+known_more s t e ids more id is known new =
+    subst (All (Knows t)) (sym is) (All-push (Knows t) ids id (known_later s t e ids known) new)
 
 -- the ids of the parts of a substitution
-pub known_parts : (s : Table) (parts : List (ℕ × NodeId)) → All (λ p. Knows s p.1) parts → (g : NodeId) → Contains (map (λ p. p.1) parts) g → Knows s g
-known_parts s parts known g there = All-contains (Knows s) (map (λ p. p.1) parts) g (All-map (Knows s) (λ p. p.1) parts known) there
+pub known_parts : (s : Table) (parts : List (ℕ × NodeId)) → All (λ p. Knows s p.1) parts → (g : NodeId) →
+    Contains (map (λ p. p.1) parts) g → Knows s g
+known_parts s parts known g there =
+    All-contains (Knows s) (map (λ p. p.1) parts) g (All-map (Knows s) (λ p. p.1) parts known) there

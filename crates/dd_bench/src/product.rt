@@ -47,8 +47,8 @@ fn add_row(bench: &mut Workbench, sum: &mut [Function], width: u8, i: u8) -> Res
     Ok(())
 }
 
-/// The bits of the product of two factors, the least significant first. The factors are the levels in order, each with its most
-/// significant bit first.
+/// The bits of the product of two factors, the least significant first. The factors are the levels in order, each with
+/// its most significant bit first.
 pub fn bits(alloc: Global, bench: &mut Workbench, width: u8) -> Result<Vec<Function>, AllocError>
     ensures { IfOk result (λ sum. length sum.items ≡ 2 * width) }
 {

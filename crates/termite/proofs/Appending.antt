@@ -4,7 +4,8 @@ use Rattle.std.proofs.Common.{◌≡◌, ℕ, ◌⊎◌, List, [], ◌∷◌, �
 use Rattle.std.proofs.lemmas.List.{append-nil}
 use Rattle.std.specs.List.{flat_map, zip}
 
-zip_empty : {A B : Type 0} (f : A × B → List ℕ) (xs : List A) (ys : List B) → (xs ≡ []) ⊎ (ys ≡ []) → flat_map f (zip xs ys) ≡ []
+zip_empty : {A B : Type 0} (f : A × B → List ℕ) (xs : List A) (ys : List B) → (xs ≡ []) ⊎ (ys ≡ []) →
+    flat_map f (zip xs ys) ≡ []
 zip_empty f xs ys (inl e) = ap (λ zs. flat_map f (zip zs ys)) e
 zip_empty f [] ys (inr e) = refl
 zip_empty f (x ∷ xs) ys (inr e) = ap (λ zs. flat_map f (zip (x ∷ xs) zs)) e

@@ -23,7 +23,8 @@ use Rattle.termite.specs.Advance.{Begins, Advances, IsPosition}
 use Rattle.termite.proofs.Reaching.{reaches_first, reaches_next}
 
 -- the play has so many steps and its lines are put
-pub record Playing (d : DesignTree) (bs : List BlockTree) (c : ScriptData) (tells : Bool) (n : ℕ) (p : Position) (before now : List ℕ) (old_faults new_faults : ℕ) : Type 0 where
+pub record Playing (d : DesignTree) (bs : List BlockTree) (c : ScriptData) (tells : Bool) (n : ℕ) (p : Position)
+    (before now : List ℕ) (old_faults new_faults : ℕ) : Type 0 where
   pub text : List ℕ
   pub reaches : Reaches d bs c n p.state p.goal text
   pub valid : IsState d p.state
@@ -37,13 +38,16 @@ cut_nothing before = (0, sym (append-nil before))
 
 -- all was put
 pub cut_whole : (before now text : List ℕ) → now ≡ before ++ text → AppendsPrefix text before now
-cut_whole before now text whole = (length text, whole ∙ ap (λ t. before ++ t) (sym (take_all (length text) text (omega arith))))
+cut_whole before now text whole =
+    (length text, whole ∙ ap (λ t. before ++ t) (sym (take_all (length text) text (omega arith))))
 
 -- all of one part was put, and some first part of a line
-pub cut_more : (before mid now text line : List ℕ) → mid ≡ before ++ text → AppendsPrefix line mid now → AppendsPrefix (text ++ line) before now
+pub cut_more : (before mid now text line : List ℕ) → mid ≡ before ++ text → AppendsPrefix line mid now →
+    AppendsPrefix (text ++ line) before now
 cut_more before mid now text line whole part = (
   length text + part.0,
-  part.1 ∙ ap (λ m. m ++ take part.0 line) whole ∙ append_assoc before text (take part.0 line) ∙ ap (λ t. before ++ t) (sym (take-append-add text line part.0)),
+  part.1 ∙ ap (λ m. m ++ take part.0 line) whole ∙ append_assoc before text (take part.0 line)
+      ∙ ap (λ t. before ++ t) (sym (take-append-add text line part.0)),
 )
 
 -- what stands behind an error, whichever result it is
@@ -58,13 +62,16 @@ item_at (y ∷ ys) zero x within is = ap Some (sym is)
 item_at (y ∷ ys) (suc i) x within is = item_at ys i x (omega arith) is
 
 -- choices that give no first state
-pub none_begins : (d : DesignTree) (choices start : List ℕ) (p : Option Position) → Begins d choices p → p ≡ None → choices ≡ start → (s : StateData) → ¬ (IsFirst d start s)
+pub none_begins : (d : DesignTree) (choices start : List ℕ) (p : Option Position) → Begins d choices p → p ≡ None →
+    choices ≡ start → (s : StateData) → ¬ (IsFirst d start s)
 none_begins d choices start (Some p) begins is same = cc
 none_begins d choices start None begins is same = λ s first. begins s (subst (λ cs. IsFirst d cs s) (sym same) first)
 
 -- a position with which a play begins
-pub begun : (d : DesignTree) (bs : List BlockTree) (c : ScriptData) (choices : List ℕ) (p : Option Position) (begin : Position) →
-    Begins d choices p → p ≡ Some begin → choices ≡ c.start → Reaches d bs c 0 begin.state begin.goal (state_line d 0 None begin.state begin.goal)
+pub begun : (d : DesignTree) (bs : List BlockTree) (c : ScriptData) (choices : List ℕ) (p : Option Position)
+    (begin : Position) →
+    Begins d choices p → p ≡ Some begin → choices ≡ c.start →
+    Reaches d bs c 0 begin.state begin.goal (state_line d 0 None begin.state begin.goal)
 begun d bs c choices None begin begins is same = cc
 begun d bs c choices (Some p) begin begins is same =
     let at : p ≡ begin = cc in
@@ -72,24 +79,35 @@ begun d bs c choices (Some p) begin begins is same =
     reaches_first d bs c begin.state begin.goal (subst (λ cs. IsFirst d cs begin.state) same here.0) here.1 here.2.goal
 
 -- a step that leads on
-pub led_on : (d : DesignTree) (bs : List BlockTree) (c : ScriptData) (n : ℕ) (p : Position) (text : List ℕ) (turns : List TurnData) (t : TurnData) (o : TurnOutcome) (m : Move) (next : Position) →
-    Reaches d bs c n p.state p.goal text → turns ≡ c.turns → n < length turns → t ≡ get_or turns n t → Advances d bs p.state p.goal t o → o ≡ To m next →
-    Reaches d bs c (n + 1) next.state next.goal (text ++ state_line d (n + 1) (Some m) next.state next.goal) × IsPosition d p.goal next
+pub led_on : (d : DesignTree) (bs : List BlockTree) (c : ScriptData) (n : ℕ) (p : Position) (text : List ℕ)
+    (turns : List TurnData) (t : TurnData) (o : TurnOutcome) (m : Move) (next : Position) →
+    Reaches d bs c n p.state p.goal text → turns ≡ c.turns → n < length turns → t ≡ get_or turns n t →
+    Advances d bs p.state p.goal t o → o ≡ To m next →
+    Reaches d bs c (n + 1) next.state next.goal (text ++ state_line d (n + 1) (Some m) next.state next.goal)
+    × IsPosition d p.goal next
 led_on d bs c n p text turns t (Stop why) m next reaches same within is advances to = cc
 led_on d bs c n p text turns t (To action behind) m next reaches same within is advances to =
     let moved : action ≡ m = cc in
     let left : behind ≡ next = cc in
-    let led : Advances d bs p.state p.goal t (To m next) = subst (λ a. Advances d bs p.state p.goal t (To a next)) moved (subst (λ b. Advances d bs p.state p.goal t (To action b)) left advances) in
-    (reaches_next d bs c n p.state p.goal text t m next.state next.goal reaches (ap (λ ts. slice_get ts n) (sym same) ∙ item_at turns n t within is) led.0 led.1 led.2.goal, led.2)
+    let led : Advances d bs p.state p.goal t (To m next) =
+    subst (λ a. Advances d bs p.state p.goal t (To a next)) moved
+    (subst (λ b. Advances d bs p.state p.goal t (To action b)) left advances) in (
+      reaches_next d bs c n p.state p.goal text t m next.state next.goal reaches
+          (ap (λ ts. slice_get ts n) (sym same) ∙ item_at turns n t within is) led.0 led.1 led.2.goal,
+      led.2,
+    )
 
 -- a step that leads to no state
-pub led_nowhere : (d : DesignTree) (bs : List BlockTree) (c : ScriptData) (n : ℕ) (p : Position) (text : List ℕ) (turns : List TurnData) (t : TurnData) (o : TurnOutcome) (why : StopWhy) →
-    Reaches d bs c n p.state p.goal text → turns ≡ c.turns → n < length turns → t ≡ get_or turns n t → Advances d bs p.state p.goal t o → o ≡ Stop why →
+pub led_nowhere : (d : DesignTree) (bs : List BlockTree) (c : ScriptData) (n : ℕ) (p : Position) (text : List ℕ)
+    (turns : List TurnData) (t : TurnData) (o : TurnOutcome) (why : StopWhy) →
+    Reaches d bs c n p.state p.goal text → turns ≡ c.turns → n < length turns → t ≡ get_or turns n t →
+    Advances d bs p.state p.goal t o → o ≡ Stop why →
     Ends d bs c text (Stopped (n + 1) why)
 led_nowhere d bs c n p text turns t (To action behind) why reaches same within is advances to = cc
 led_nowhere d bs c n p text turns t (Stop other) why reaches same within is advances to =
     let led : other ≡ why = cc in
-    stops reaches (ap (λ ts. slice_get ts n) (sym same) ∙ item_at turns n t within is) (subst (Stops d bs p.state p.goal t) led advances)
+    stops reaches (ap (λ ts. slice_get ts n) (sym same) ∙ item_at turns n t within is)
+    (subst (Stops d bs p.state p.goal t) led advances)
 
 -- a play of all the steps
 pub played_all : (d : DesignTree) (bs : List BlockTree) (c : ScriptData) (n count : ℕ) (p : Position) (text : List ℕ) →
@@ -98,14 +116,17 @@ played_all d bs c n count p text reaches all is =
     rw is (plays (subst (λ k. Reaches d bs c k p.state p.goal text) all reaches))
 
 -- some first part of a text is one of a longer text
-pub cut_longer : (before now text rest : List ℕ) → AppendsPrefix text before now → AppendsPrefix (text ++ rest) before now
+pub cut_longer : (before now text rest : List ℕ) → AppendsPrefix text before now →
+    AppendsPrefix (text ++ rest) before now
 cut_longer before now text rest part = (
   min part.0 (length text),
-  part.1 ∙ ap (λ t. before ++ t) (sym (take_min part.0 text) ∙ sym (take-append-le (min part.0 (length text)) text rest (omega arith))),
+  part.1 ∙ ap (λ t. before ++ t)
+      (sym (take_min part.0 text) ∙ sym (take-append-le (min part.0 (length text)) text rest (omega arith))),
 )
 
 -- the parts of a list, joined, split at one of them
-pub split_at : {A : Type 0} (f : A → List ℕ) (xs : List A) (i : ℕ) (d : A) (line : List ℕ) → i < length xs → line ≡ f (get_or xs i d) →
+pub split_at : {A : Type 0} (f : A → List ℕ) (xs : List A) (i : ℕ) (d : A) (line : List ℕ) → i < length xs →
+    line ≡ f (get_or xs i d) →
     flat_map f xs ≡ (flat_map f (take i xs) ++ line) ++ flat_map f (drop (suc i) xs)
 split_at f [] i d line within is = absurd (omega arith)
 split_at f (y ∷ ys) zero d line within is = ap (λ z. z ++ flat_map f ys) (sym is)
@@ -115,8 +136,10 @@ split_at f (y ∷ ys) (suc i) d line within is =
     ∙ ap (λ z. z ++ flat_map f (drop (suc i) ys)) (sym (append_assoc (f y) (flat_map f (take i ys)) line))
 
 -- several parts were put, and some first part of the next one
-pub cut_within : {A : Type 0} (f : A → List ℕ) (xs : List A) (i : ℕ) (d : A) (line before mid now : List ℕ) → i < length xs → line ≡ f (get_or xs i d) →
+pub cut_within : {A : Type 0} (f : A → List ℕ) (xs : List A) (i : ℕ) (d : A) (line before mid now : List ℕ) →
+    i < length xs → line ≡ f (get_or xs i d) →
     mid ≡ before ++ flat_map f (take i xs) → AppendsPrefix line mid now → AppendsPrefix (flat_map f xs) before now
 cut_within f xs i d line before mid now within is whole cut =
     subst (λ t. AppendsPrefix t before now) (sym (split_at f xs i d line within is))
-    (cut_longer before now (flat_map f (take i xs) ++ line) (flat_map f (drop (suc i) xs)) (cut_more before mid now (flat_map f (take i xs)) line whole cut))
+    (cut_longer before now (flat_map f (take i xs) ++ line) (flat_map f (drop (suc i) xs))
+    (cut_more before mid now (flat_map f (take i xs)) line whole cut))

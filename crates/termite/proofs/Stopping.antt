@@ -13,8 +13,10 @@ use Rattle.termite.specs.Played.{IsMoveOf, Stops}
 use Rattle.termite.specs.Advance.{IsWhyNone}
 
 -- a move without an outcome stops the play
-pub none_stops : (d : DesignTree) (bs : List BlockTree) (s : StateData) (g : ℕ) (t : TurnData) (m : Move) (why : StopWhy) →
-    IsMoveOf d bs s g t.actor m → Step d s m t.choices outcomes.NoOutcome → IsWhyNone d s t.actor m why → Stops d bs s g t why
+pub none_stops : (d : DesignTree) (bs : List BlockTree) (s : StateData) (g : ℕ) (t : TurnData) (m : Move)
+    (why : StopWhy) →
+    IsMoveOf d bs s g t.actor m → Step d s m t.choices outcomes.NoOutcome → IsWhyNone d s t.actor m why →
+    Stops d bs s g t why
 none_stops d bs s g t m Error moved step reason = elim reason [ ]
 none_stops d bs s g t m Forbidden moved step reason = (m, reason.0, moved, reason.1)
 none_stops d bs s g t m Illegal moved step reason = inr (m, moved, step, reason)

@@ -64,7 +64,8 @@ same_blocks d closed closed = refl
 same_blocks d (closed {label = label}) (block {rest = rest} {b = b} reads are) =
     absurd (not_closing d label b rest reads)
 same_blocks d (block {label = label} {rest = rest} {b = b} reads are) closed = absurd (not_closing d label b rest reads)
-same_blocks d (block {label = label} {ts = ts} {rest = rest} {b = b} reads are) (block {rest = others} {b = c} {bs = cs} starts come) =
+same_blocks d (block {label = label} {ts = ts} {rest = rest} {b = b} reads are)
+    (block {rest = others} {b = c} {bs = cs} starts come) =
     let one = front_is d label ts b rest reads in
     let other = front_is d label ts c others starts in
     let same : b ≡ c = sym one.is ∙ other.is in

@@ -92,7 +92,8 @@ pub as_token : (d : DesignTree) (found t : Token) (text : List ℕ) (r : Option 
     MatchOption r ((rest : List ℕ) → IsSpelled d text t rest → ⊥) (λ rest. IsSpelled d text t rest.now) →
     MatchOption r ((rest : List ℕ) → IsSpelled d text found rest → ⊥) (λ rest. IsSpelled d text found rest.now)
 as_token d found t text r is spells =
-    subst (λ (u : Token). MatchOption r ((rest : List ℕ) → IsSpelled d text u rest → ⊥) (λ rest. IsSpelled d text u rest.now))
+    subst (λ (u : Token). MatchOption r ((rest : List ℕ) → IsSpelled d text u rest → ⊥)
+    (λ rest. IsSpelled d text u rest.now))
     (sym is) spells
 
 pub no_text : (d : DesignTree) (t : Token) (text : List ℕ) → token_text d t ≡ None →
@@ -100,10 +101,12 @@ pub no_text : (d : DesignTree) (t : Token) (text : List ℕ) → token_text d t 
 no_text d t text none rest s = let same : None ≡ Some s.bytes = sym none ∙ s.spelled in cc
 
 -- the name of an item that the code reads at a place, or of none
-pub no_item : {A : Type 0} (path : A → List ℕ) (letter k : ℕ) (items seen : List A) → seen ≡ items → false ≡ ltb k (length seen) →
+pub no_item : {A : Type 0} (path : A → List ℕ) (letter k : ℕ) (items seen : List A) → seen ≡ items →
+    false ≡ ltb k (length seen) →
     option_map (λ (a : A). item_name letter k (path a)) (slice_get items k) ≡ None
 no_item path letter k items seen is past =
-    ap (λ o. option_map (λ a. item_name letter k (path a)) o) (ap (λ xs. slice_get xs k) (sym is) ∙ slice_get_past seen k (ltb-false k (length seen) (sym past)))
+    ap (λ o. option_map (λ a. item_name letter k (path a)) o)
+    (ap (λ xs. slice_get xs k) (sym is) ∙ slice_get_past seen k (ltb-false k (length seen) (sym past)))
 
 pub some_item : {A : Type 0} (path : A → List ℕ) (letter k : ℕ) (items seen : List A) (a : A) (bytes : List ℕ) →
     seen ≡ items → k < length seen → a ≡ get_or seen k a → bytes ≡ path a →
@@ -218,7 +221,8 @@ none_ends d text behind found only s no_sign no_end t rest begins =
     ⊎_elim (λ is. no_sign (ap is_sign (same_inside (only d t rest begins)) ∙ is))
     (λ none. no_end (subst BeginsNoWord left none)) begins.ends
 
-pub token_shorter : (d : DesignTree) (text rest : List ℕ) (t : Token) → BeginsWith d text t rest → length rest < length text
+pub token_shorter : (d : DesignTree) (text rest : List ℕ) (t : Token) → BeginsWith d text t rest →
+    length rest < length text
 token_shorter d text rest t begins = of begins.bytes begins.spelled begins.whole
   where
     of : (bytes : List ℕ) → token_text d t ≡ Some bytes → text ≡ bytes ++ rest → length rest < length text

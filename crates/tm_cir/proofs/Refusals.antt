@@ -30,7 +30,8 @@ behind_blank d {b = b} {text = text} is (token {t = t} {rest = rest} begins are)
 
 pub none_blank : (d : DesignTree) (b : ℕ) (text whole : List ℕ) → whole ≡ b ∷ text → is_blank b ≡ true →
     NoTokens d text → NoTokens d whole
-none_blank d b text whole here is never ts are = never ts (behind_blank d is (subst (λ (x : List ℕ). AreTokens d x ts) here are))
+none_blank d b text whole here is never ts are =
+    never ts (behind_blank d is (subst (λ (x : List ℕ). AreTokens d x ts) here are))
 
 pub none_token : (d : DesignTree) {text : List ℕ} (rest : List ℕ) (t : Token) → BeginsWith d text t rest →
     NoTokens d rest → {ts : List Token} → AreTokens d text ts → ⊥
@@ -57,7 +58,8 @@ pub too_short : {A : Type 0} (xs ys : List A) → length xs < length ys → (res
 too_short xs ys short rest whole =
     let long : length xs ≡ length (ys ++ rest) = ap length whole in omega (arith, length-append ys rest)
 
-pub other_place : {A : Type 0} (xs ys : List A) (k : ℕ) (a b e : A) → k < length ys → a ≡ get_or xs k e → b ≡ get_or ys k e →
+pub other_place : {A : Type 0} (xs ys : List A) (k : ℕ) (a b e : A) → k < length ys → a ≡ get_or xs k e →
+    b ≡ get_or ys k e →
     (a ≡ b → ⊥) → (rest : List A) → xs ≢ ys ++ rest
 other_place xs ys k a b e below here there other rest whole =
     other (here ∙ ap (λ l. get_or l k e) whole ∙ get_or_append_left ys rest e k below ∙ sym there)
@@ -70,7 +72,8 @@ pub none_later : (d : DesignTree) {label : ℕ} {ts : List Token} (rest : List T
     ReadsBlock d label ts b rest → NoBlocks d (label + 1) rest → {bs : List BlockTree} → AreBlocks d label ts bs → ⊥
 none_later d {label = label} rest b reads never closed = not_closing d label b rest reads
 none_later d {label = label} {ts = ts} rest b reads never (block {rest = others} {b = c} {bs = cs} starts come) =
-    never cs (subst (λ (x : List Token). AreBlocks d (label + 1) x cs) (same_behind d label ts b c rest others reads starts) come)
+    never cs (subst (λ (x : List Token). AreBlocks d (label + 1) x cs)
+    (same_behind d label ts b c rest others reads starts) come)
 
 pub none_here : (d : DesignTree) {label : ℕ} {ts : List Token} → (ts ≡ CloseBrace ∷ [] → ⊥) →
     ((b : BlockTree) (rest : List Token) → ReadsBlock d label ts b rest → ⊥) →
@@ -140,7 +143,8 @@ front_of d label rest (calls {k = k}) = record {
   long = omega arith;
   bool = λ e. cc;
   test = λ e. cc;
-  call = λ j e. ap (λ (t : Token). Label label ∷ Colon ∷ t ∷ OpenParenthesis ∷ CloseParenthesis ∷ Semicolon ∷ Return ∷ Semicolon ∷ rest) e;
+  call = λ j e. ap (λ (t : Token).
+      Label label ∷ Colon ∷ t ∷ OpenParenthesis ∷ CloseParenthesis ∷ Semicolon ∷ Return ∷ Semicolon ∷ rest) e;
   leave = λ e. cc;
   idle = λ e. cc;
   other = λ _ a _ _. a k refl;
@@ -189,7 +193,8 @@ pub no_bool : (d : DesignTree) (label var : ℕ) (ts : List Token) → var ≡ n
 no_bool d label var ts is differs third b rest reads =
     differs (subst (IsBool d) (sym is) ((has_front d label ts b rest reads).bool third))
 
-pub no_test : (d : DesignTree) (label var first second : ℕ) (ts : List Token) → var ≡ number ts 4 → first ≡ number ts 7 →
+pub no_test : (d : DesignTree) (label var first second : ℕ) (ts : List Token) → var ≡ number ts 4 →
+    first ≡ number ts 7 →
     second ≡ number ts 11 → ((rest : List Token) → ts ≢ test_tokens label var first second ++ rest) →
     at ts 2 ≡ If → NoBlock d label ts
 no_test d label var first second ts a e f differs third b rest reads =
@@ -214,9 +219,11 @@ no_idle d label ts differs third b rest reads = differs rest ((has_front d label
 pub other_third : (d : DesignTree) (place : ℕ) (third : Token) (ts : List Token) → third ≡ at ts 2 → (third ≡ If → ⊥) →
     ((k : ℕ) → third ≡ Task k → ⊥) → (third ≡ TermiteLeave → ⊥) → (third ≡ Return → ⊥) → NoBlock d place ts
 other_third d place third ts is a e f g b rest reads =
-    (has_front d place ts b rest reads).other (λ s. a (is ∙ s)) (λ k s. e k (is ∙ s)) (λ s. f (is ∙ s)) (λ s. g (is ∙ s))
+    (has_front d place ts b rest reads).other (λ s. a (is ∙ s)) (λ k s. e k (is ∙ s)) (λ s. f (is ∙ s))
+    (λ s. g (is ∙ s))
 
-pub block_or_none : (d : DesignTree) (label place : ℕ) (ts : List Token) (r : Option (Block × Bor (List Token))) → label ≡ place →
+pub block_or_none : (d : DesignTree) (label place : ℕ) (ts : List Token) (r : Option (Block × Bor (List Token))) →
+    label ≡ place →
     IfSome r (λ p. ReadsBlock d label ts (block_tree p.0) p.1.now) → (IsNone r → NoBlock d label ts) →
     MatchOption r (NoBlock d place ts) (λ p. ReadsBlock d place ts (block_tree p.0) p.1.now)
 block_or_none d label place ts None is some none = subst (λ (k : ℕ). NoBlock d k ts) is (none refl)
@@ -242,7 +249,8 @@ space_before b text rest is ends = of (b == 32) (b == 9) refl refl is
     of false false _ _ wrong = absurd (true≢false (sym wrong))
 
 pub past_space : (whole text now : List ℕ) (b : ℕ) → now ≡ b ∷ text → is_space b ≡ true →
-    ((rest : List ℕ) → EndsLine now rest ↔ EndsLine whole rest) → (rest : List ℕ) → EndsLine text rest ↔ EndsLine whole rest
+    ((rest : List ℕ) → EndsLine now rest ↔ EndsLine whole rest) → (rest : List ℕ) →
+    EndsLine text rest ↔ EndsLine whole rest
 past_space whole text now b here is same rest = (
   (λ ends. (same rest).0 (subst (λ (x : List ℕ). EndsLine x rest) (sym here) (space_before b text rest is ends))),
   λ ends. line_behind is (subst (λ (x : List ℕ). EndsLine x rest) here ((same rest).1 ends)),
@@ -296,7 +304,8 @@ blanks_end : (rest : List ℕ) → BeginsNoBlank rest → past_blanks rest ≡ r
 blanks_end [] ends = refl
 blanks_end (b ∷ bs) ends = ap (λ (v : Bool). cond v (past_blanks bs) (b ∷ bs)) ends
 
-pub blanks_are : (text one other : List ℕ) → SkipsBlanks text one → BeginsNoBlank one → SkipsBlanks text (INCLUDE.now ++ other) →
+pub blanks_are : (text one other : List ℕ) → SkipsBlanks text one → BeginsNoBlank one →
+    SkipsBlanks text (INCLUDE.now ++ other) →
     one ≡ INCLUDE.now ++ other
 blanks_are text one other first ends second =
     sym (blanks_read first (blanks_end one ends)) ∙ blanks_read second refl
@@ -309,7 +318,8 @@ pub no_line : (text one behind : List ℕ) → SkipsBlanks text one → BeginsNo
     ((rest : List ℕ) → EndsLine behind rest → ⊥) → (body : List ℕ) → HasInclude text body → ⊥
 no_line text one behind skips ends here never body has =
     let same : has.behind ≡ behind =
-    append_cancel_left INCLUDE.now has.behind behind (sym (blanks_are text one has.behind skips ends has.include) ∙ here) in
+    append_cancel_left INCLUDE.now has.behind behind
+    (sym (blanks_are text one has.behind skips ends has.include) ∙ here) in
     never body (subst (λ (x : List ℕ). EndsLine x body) same has.line)
 
 pub included : (text one behind : List ℕ) (r : Option (Bor (List ℕ))) → SkipsBlanks text one → BeginsNoBlank one →
@@ -332,7 +342,8 @@ none_included d text never bs is = never is.body is.include
 pub none_spelled : (d : DesignTree) (text body : List ℕ) → HasInclude text body → NoTokens d body →
     (bs : List BlockTree) → IsSmallDriverText d text bs → ⊥
 none_spelled d text body has never bs is =
-    never is.tokens (subst (λ (x : List ℕ). AreTokens d x is.tokens) (same_body text is.body body is.include has) is.spelled)
+    never is.tokens (subst (λ (x : List ℕ). AreTokens d x is.tokens) (same_body text is.body body is.include has)
+    is.spelled)
 
 tokens_are : (d : DesignTree) (text body : List ℕ) (ts : List Token) (bs : List BlockTree) → HasInclude text body →
     AreTokens d body ts → IsSmallDriverText d text bs → IsFunction d ts bs
@@ -341,11 +352,13 @@ tokens_are d text body ts bs has are is =
     let same : is.tokens ≡ ts = same_tokens d (subst (λ (x : List ℕ). AreTokens d x is.tokens) here is.spelled) are in
     subst (λ (x : List Token). IsFunction d x bs) same is.function
 
-pub none_function : (d : DesignTree) (text body : List ℕ) (ts : List Token) → HasInclude text body → AreTokens d body ts →
+pub none_function : (d : DesignTree) (text body : List ℕ) (ts : List Token) → HasInclude text body →
+    AreTokens d body ts →
     ((bs : List BlockTree) → IsFunction d ts bs → ⊥) → (bs : List BlockTree) → IsSmallDriverText d text bs → ⊥
 none_function d text body ts has are never bs is = never bs (tokens_are d text body ts bs has are is)
 
-pub none_fits : (d : DesignTree) (text body : List ℕ) (ts : List Token) (blocks : List BlockTree) → HasInclude text body →
+pub none_fits : (d : DesignTree) (text body : List ℕ) (ts : List Token) (blocks : List BlockTree) →
+    HasInclude text body →
     AreTokens d body ts → IsFunction d ts blocks → (FitBlocks d blocks → ⊥) →
     (bs : List BlockTree) → IsSmallDriverText d text bs → ⊥
 none_fits d text body ts blocks has are function never bs is =

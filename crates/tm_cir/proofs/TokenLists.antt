@@ -8,7 +8,8 @@ use Rattle.tm_cir.specs.declared.small_token.Token.{Token}
 use Rattle.tm_cir.specs.SmallText.{token_text, BeginsWith, AreTokens, no_more, blank, token}
 use Rattle.tm_cir.proofs.TokenTexts.{same_inside, token_in_front, token_read}
 
-pub front_is : (d : DesignTree) (text rest : List ℕ) (t : Token) → BeginsWith d text t rest → token_in_front text ≡ Some t
+pub front_is : (d : DesignTree) (text rest : List ℕ) (t : Token) → BeginsWith d text t rest →
+    token_in_front text ≡ Some t
 front_is d text rest t begins =
     ap token_in_front begins.whole ∙ token_read d t begins.bytes rest begins.small begins.spelled begins.ends
 
@@ -57,7 +58,8 @@ same_tokens d (blank {b = b} {text = text} is one) (token {t = t} {rest = rest} 
 same_tokens d (token {t = t} {rest = rest} begins are) no_more = absurd (none_begins d [] rest t refl begins)
 same_tokens d (token {t = t} {rest = rest} begins are) (blank {b = b} {text = text} is other) =
     absurd (none_begins d (b ∷ text) rest t (blank_read b text is) begins)
-same_tokens d (token {t = t} {text = text} {rest = rest} begins are) (token {t = u} {rest = others} {ts = us} starts come) =
+same_tokens d (token {t = t} {text = text} {rest = rest} begins are)
+    (token {t = u} {rest = others} {ts = us} starts come) =
     let behind : others ≡ rest = sym (same_rest d text rest others t u begins starts) in
     ap₂ (λ (x : Token) (xs : List Token). x ∷ xs) (same_token d text rest others t u begins starts)
     (same_tokens d are (subst (λ (x : List ℕ). AreTokens d x us) behind come))

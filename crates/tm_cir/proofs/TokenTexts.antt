@@ -54,7 +54,8 @@ digit_is (c ∷ cs) rest some digits = lt-ltb (digit_value c) 10 digits.0
 
 -- the number in front is the one whose digits stand there
 number_read : (k : ℕ) (rest : List ℕ) → k < 2 ^ 32 → begins_digit rest ≡ false → number_in_front (decimal k ++ rest) ≡ k
-number_read k rest small ends = let is = decimal_is_IsNumeral k (omega arith) in number_is 0 (decimal k) rest is.0.1 ends ∙ is.1
+number_read k rest small ends = let is = decimal_is_IsNumeral k (omega arith) in
+    number_is 0 (decimal k) rest is.0.1 ends ∙ is.1
 
 digit_read : (k : ℕ) (rest : List ℕ) → k < 2 ^ 32 → begins_digit (decimal k ++ rest) ≡ true
 digit_read k rest small = let is = decimal_is_IsNumeral k (omega arith) in digit_is (decimal k) rest is.0.0 is.0.1

@@ -6,7 +6,7 @@ use Rattle.tm_cir.specs.declared.block.ShiftOperator.{ShiftOperator}
 use Rattle.tm_cir.specs.declared.block.Comparison.{Comparison}
 use Rattle.tm_cir.specs.declared.block.Junction.{Junction}
 
--- a number, and what stands where C tests for zero
+-- a number
 mutual
   pub data NumTree : Type 0 where
     constant : ℕ → NumTree
@@ -19,6 +19,7 @@ mutual
     shift : ShiftOperator → NumTree → ℕ → NumTree
     conditional : TruthTree → NumTree → NumTree → NumTree
 
+  -- what stands where C tests for zero
   pub data TruthTree : Type 0 where
     num : NumTree → TruthTree
     negation : TruthTree → TruthTree

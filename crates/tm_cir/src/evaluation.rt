@@ -7,6 +7,7 @@ ghost use Rattle.tm_cir.specs.Fit.{FitsNum, FitsTruth};
 use crate::block::{Comparison, Junction, Num64, NumOperator, ShiftOperator, Truth};
 use tm_sem::state::State;
 
+/// The value of a number at a state with this pending goal.
 #[cycle(valuing)]
 pub fn value(num: &Num64, state: &State, goal: u32) -> u64
     requires { FitsNum (length state.now.values) (length state.now.places) (num_tree num.now) }
@@ -31,6 +32,7 @@ pub fn value(num: &Num64, state: &State, goal: u32) -> u64
     }
 }
 
+/// Whether C takes the branch of a test at a state with this pending goal.
 #[cycle(valuing)]
 pub fn is_so(truth: &Truth, state: &State, goal: u32) -> bool
     requires { FitsTruth (length state.now.values) (length state.now.places) (truth_tree truth.now) }

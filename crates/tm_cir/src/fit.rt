@@ -7,6 +7,7 @@ ghost use Rattle.tm_cir.specs.Fit.{FitsNum, FitsTruth, FitsBlock, FitBlocks, par
 use crate::block::{Block, MOST_ARGUMENTS, Num64, Truth};
 use tm_syntax::design::Design;
 
+/// Whether there is a block, and each one fits the design and the others.
 pub fn are_fitting(design: &Design, blocks: &[Block]) -> bool
     ensures { IsTrue result ↔ FitBlocks (design_tree design.now) (block_trees blocks.now) }
 {

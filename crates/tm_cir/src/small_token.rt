@@ -68,6 +68,7 @@ pub fn parted(text: &[u8]) -> Option<(u8, &[u8])>
     Some((*first, others))
 }
 
+/// Whether a byte is a blank.
 pub fn is_blank(byte: u8) -> bool
     ensures { result ≡ is_blank byte }
 {
@@ -226,6 +227,7 @@ fn behind_bytes<'a>(text: &'a [u8], front: &[u8]) -> Option<&'a [u8]>
     text.strip_prefix(front)
 }
 
+/// What follows the byte, if the text begins with it.
 pub fn behind_byte(text: &[u8], byte: u8) -> Option<&[u8]>
     ensures { IsBehind text.now (byte ∷ []) result }
 {

@@ -1,4 +1,5 @@
--- What a caller cites of ids and stores. With `laws` on its functions, by `#[tactic(auto, using(tm_dd::proofs::CallerLaws::laws))]`, it mostly cites nothing.
+-- What a caller cites of ids and stores. With `laws` on its functions, by `#[tactic(auto,
+-- using(tm_dd::proofs::CallerLaws::laws))]`, it mostly cites nothing.
 pub use Rattle.tm_dd.proofs.Extended.{Extends-refl, Extends-trans}
 pub use Rattle.tm_dd.proofs.Meaning.{means-FALSE, means-TRUE, means-complement, level_of-complement}
 pub use Rattle.tm_dd.proofs.NodeIdLemmas.{same_number, complement-complement}
@@ -21,13 +22,15 @@ pub level_of-IsConstant : (s : Table) (id : NodeId) → IsConstant id → level_
 level_of-IsConstant s id constant = level_of-constant s id (omega (arith, constant))
 
 -- a function and its complement share one kept node: the ids of opposite functions differ by the mark alone
-pub opposites : (s : Table) → IsReduced s → (f g : NodeId) → Knows s f → Knows s g → ((v : ℕ → Bool) → means s f v ≡ not (means s g v)) → f ≡ complement g
+pub opposites : (s : Table) → IsReduced s → (f g : NodeId) → Knows s f → Knows s g →
+    ((v : ℕ → Bool) → means s f v ≡ not (means s g v)) → f ≡ complement g
 opposites s reduced f g kf kg opposite =
     reduced.canonical f (complement g) kf (Knows-complement s g kg) (λ v. opposite v ∙ sym (means-complement s g v))
 
 -- ids are equal where all lists of one value a level give them the same value
 pub equal_by_lists : (s : Table) → IsReduced s → (f g : NodeId) → Knows s f → Knows s g
-    → ((values : List Bool) → length values ≡ s.levels → means s f (assignment values) ≡ means s g (assignment values)) → f ≡ g
+    → ((values : List Bool) → length values ≡ s.levels →
+    means s f (assignment values) ≡ means s g (assignment values)) → f ≡ g
 equal_by_lists s reduced f g kf kg same =
     reduced.canonical f g kf kg
     (λ v.
@@ -39,4 +42,11 @@ equal_by_lists s reduced f g kf kg same =
     ∙ sym (reduced.independent g kg v (assignment values) (λ k _ below. agrees k below)))
 
 -- the laws of constants and complements, for `grind` and `simp`
-pub ruleset laws = (means-FALSE, means-TRUE, means-complement, level_of-complement, level_of-IsConstant, complement-complement)
+pub ruleset laws = (
+  means-FALSE,
+  means-TRUE,
+  means-complement,
+  level_of-complement,
+  level_of-IsConstant,
+  complement-complement,
+)

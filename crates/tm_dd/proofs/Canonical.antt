@@ -33,7 +33,8 @@ marked_value-cancel false a b e = e
 module _ (s : Table) (unique : IsUniqueTable s) where
   -- what a function says of the levels above a child, under its mark, is what the child says
   child_meaning : (id : NodeId) → Knows s id → 0 < position_of id → (b : Bool) (v : ℕ → Bool)
-      → means s id (with_level v (entry_at s (position_of id)).level b) ≡ marked_value (is_marked id) (means s (child_of (entry_at s (position_of id)) b) v)
+      → means s id (with_level v (entry_at s (position_of id)).level b)
+      ≡ marked_value (is_marked id) (means s (child_of (entry_at s (position_of id)) b) v)
   unfolding child_of
   child_meaning id known some b v =
       let within : position_of id ≤ kept s = omega (arith, known) in
@@ -43,22 +44,28 @@ module _ (s : Table) (unique : IsUniqueTable s) where
       means-entry s id w unique known some
       ∙ ap (marked_value (is_marked id))
       (ap (λ c. if c then means s n.hi w else means s n.lo w) (with_level-same v n.level b)
-      ∙ elim b as (λ c. (if c then means s n.hi (with_level v n.level c) else means s n.lo (with_level v n.level c)) ≡ means s (child_of n c) v) [
-        | true ↦ means-agree s unique _ v (position_of n.hi + 1) n.hi (omega arith) (knows_before s _ _ e.hi_before within)
+      ∙ elim b as (λ c. (if c then means s n.hi (with_level v n.level c) else means s n.lo (with_level v n.level c))
+      ≡ means s (child_of n c) v) [
+        | true ↦ means-agree s unique _ v (position_of n.hi + 1) n.hi (omega arith)
+            (knows_before s _ _ e.hi_before within)
             (λ k above _. with_level-above v n.level k true (omega (arith, e.hi_rises, above)))
-        | false ↦ means-agree s unique _ v (position_of n.lo + 1) n.lo (omega arith) (knows_before s _ _ e.lo_before within)
+        | false ↦ means-agree s unique _ v (position_of n.lo + 1) n.lo (omega arith)
+            (knows_before s _ _ e.lo_before within)
             (λ k above _. with_level-above v n.level k false (omega (arith, e.lo_rises, above)))
       ])
 
   -- a function of a deeper level does not depend on a level
-  level_ignored : (id : NodeId) → Knows s id → (level : ℕ) → level < level_of s id → (b : Bool) (v : ℕ → Bool) → means s id (with_level v level b) ≡ means s id v
+  level_ignored : (id : NodeId) → Knows s id → (level : ℕ) → level < level_of s id → (b : Bool) (v : ℕ → Bool) →
+      means s id (with_level v level b) ≡ means s id v
   level_ignored id known level above b v =
-      means-agree s unique _ v (position_of id + 1) id (omega arith) known (λ k deep _. with_level-above v level k b (omega (arith, above, deep)))
+      means-agree s unique _ v (position_of id + 1) id (omega arith) known
+      (λ k deep _. with_level-above v level k b (omega (arith, above, deep)))
 
   -- an id above all that it is compared with is that of a node
   inner_above : (f : NodeId) → level_of s f < s.levels → 0 < position_of f
   inner_above f above =
-      elim (cases_position (position_of f)) [ inl e ↦ absurd (omega (arith, level_of-constant s f e)) | inr some ↦ some ]
+      elim (cases_position (position_of f))
+      [ inl e ↦ absurd (omega (arith, level_of-constant s f e)) | inr some ↦ some ]
 
   pub level_of-within : (f : NodeId) → Knows s f → level_of s f ≤ s.levels
   level_of-within f known =
@@ -71,10 +78,12 @@ module _ (s : Table) (unique : IsUniqueTable s) where
 
   -- the claim, for ids of positions below n
   Apart : ℕ → Type 0
-  Apart n = (f g : NodeId) → position_of f < n → position_of g < n → Knows s f → Knows s g → ((v : ℕ → Bool) → means s f v ≡ means s g v) → f ≡ g
+  Apart n = (f g : NodeId) → position_of f < n → position_of g < n → Knows s f → Knows s g →
+      ((v : ℕ → Bool) → means s f v ≡ means s g v) → f ≡ g
 
   -- no node means what a function of a deeper level means
-  not_deeper : (n : ℕ) → Apart n → (f g : NodeId) → position_of f ≤ n → Knows s f → Knows s g → level_of s f < level_of s g
+  not_deeper : (n : ℕ) → Apart n → (f g : NodeId) → position_of f ≤ n → Knows s f → Knows s g →
+      level_of s f < level_of s g
       → ((v : ℕ → Bool) → means s f v ≡ means s g v) → f ≡ g
   unfolding Apart child_of
   not_deeper n ih f g small kf kg deeper same =
@@ -85,12 +94,14 @@ module _ (s : Table) (unique : IsUniqueTable s) where
       let m = entry_at s (position_of f) in
       let level = level_of-entry s f in
       let alike : (b : Bool) (v : ℕ → Bool) → marked_value (is_marked f) (means s (child_of m b) v) ≡ means s g v =
-      λ b v. sym (child_meaning f kf some b v) ∙ same (with_level v m.level b) ∙ level_ignored g kg m.level (omega (arith, deeper, level)) b v in
+      λ b v. sym (child_meaning f kf some b v) ∙ same (with_level v m.level b)
+      ∙ level_ignored g kg m.level (omega (arith, deeper, level)) b v in
       absurd (e.differ (ih m.lo m.hi (omega (arith, e.lo_before, small)) (omega (arith, e.hi_before, small))
       (knows_before s _ _ e.lo_before within) (knows_before s _ _ e.hi_before within)
       (λ v. marked_value-cancel (is_marked f) _ _ (alike false v ∙ sym (alike true v)))))
 
-  same_marks : (f g : NodeId) → Knows s f → Knows s g → ((v : ℕ → Bool) → means s f v ≡ means s g v) → is_marked f ≡ is_marked g
+  same_marks : (f g : NodeId) → Knows s f → Knows s g → ((v : ℕ → Bool) → means s f v ≡ means s g v) →
+      is_marked f ≡ is_marked g
   same_marks f g kf kg same =
       sym (means-all_false s unique (position_of f + 1) f (omega arith) kf)
       ∙ same (λ _. false)
@@ -98,7 +109,8 @@ module _ (s : Table) (unique : IsUniqueTable s) where
 
   -- nodes of one level that mean the same have the same children
   same_level_nodes : (n : ℕ) → Apart n → (f g : NodeId) → position_of f ≤ n → position_of g ≤ n → Knows s f → Knows s g
-      → 0 < position_of f → 0 < position_of g → level_of s f ≡ level_of s g → ((v : ℕ → Bool) → means s f v ≡ means s g v) → f ≡ g
+      → 0 < position_of f → 0 < position_of g → level_of s f ≡ level_of s g →
+      ((v : ℕ → Bool) → means s f v ≡ means s g v) → f ≡ g
   unfolding Apart child_of
   same_level_nodes n ih f g sf sg kf kg pf pg level same =
       let wf : position_of f ≤ kept s = omega (arith, kf) in

@@ -38,7 +38,8 @@ Extends-trans s t u first second = record {
 module _ (s : Table) (n : Node) where
   pub entry_at-with_node : (p : ℕ) → p ≤ kept s → entry_at (with_node s n) p ≡ entry_at s p
   unfolding entry_at
-  entry_at-with_node p within = get_or_append_left (entries s) (n ∷ []) (constant_entry s.levels) p (omega (arith, within))
+  entry_at-with_node p within =
+      get_or_append_left (entries s) (n ∷ []) (constant_entry s.levels) p (omega (arith, within))
 
   pub entry_at-new : entry_at (with_node s n) (kept s + 1) ≡ n
   unfolding entry_at
@@ -89,16 +90,19 @@ module _ (s : Table) (n : Node) where
   }
 
   -- the longer table is unique, where the node is new
-  pub IsUniqueTable-with_node : IsUniqueTable s → IsEntry s (kept s + 1) n → ((p : ℕ) → p ≤ kept s → ¬ (entry_at s p ≡ n)) → IsUniqueTable (with_node s n)
+  pub IsUniqueTable-with_node : IsUniqueTable s → IsEntry s (kept s + 1) n →
+      ((p : ℕ) → p ≤ kept s → ¬ (entry_at s p ≡ n)) → IsUniqueTable (with_node s n)
   IsUniqueTable-with_node unique ok absent = record {
     nodes = λ p some within.
         elim (cases_lt (kept s) p) [
           | inl new ↦
               let last : p ≡ kept s + 1 = omega (arith, kept-with_node, within, new) in
               let here : entry_at (with_node s n) p ≡ n = ap (entry_at (with_node s n)) last ∙ entry_at-new in
-              subst (IsEntry (with_node s n) p) (sym here) (entry_stays p n (omega (arith, last)) (subst (λ q. IsEntry s q n) (sym last) ok))
+              subst (IsEntry (with_node s n) p) (sym here)
+              (entry_stays p n (omega (arith, last)) (subst (λ q. IsEntry s q n) (sym last) ok))
           | inr old ↦
-              subst (IsEntry (with_node s n) p) (sym (entry_at-with_node p old)) (entry_stays p (entry_at s p) (omega (arith, old)) (unique.nodes p some old))
+              subst (IsEntry (with_node s n) p) (sym (entry_at-with_node p old))
+              (entry_stays p (entry_at s p) (omega (arith, old)) (unique.nodes p some old))
         ];
     once = λ p q wp wq same.
         elim (cases_lt (kept s) p) [
@@ -106,13 +110,16 @@ module _ (s : Table) (n : Node) where
             | inl new_q ↦ omega (arith, kept-with_node, wp, wq, new_p, new_q)
             | inr old_q ↦
                 let last : p ≡ kept s + 1 = omega (arith, kept-with_node, wp, new_p) in
-                absurd (absent q old_q (sym (entry_at-with_node q old_q) ∙ sym same ∙ ap (entry_at (with_node s n)) last ∙ entry_at-new))
+                absurd (absent q old_q (sym (entry_at-with_node q old_q) ∙ sym same ∙ ap (entry_at (with_node s n)) last
+                ∙ entry_at-new))
           ]
           | inr old_p ↦ elim (cases_lt (kept s) q) [
             | inl new_q ↦
                 let last : q ≡ kept s + 1 = omega (arith, kept-with_node, wq, new_q) in
-                absurd (absent p old_p (sym (entry_at-with_node p old_p) ∙ same ∙ ap (entry_at (with_node s n)) last ∙ entry_at-new))
-            | inr old_q ↦ unique.once p q old_p old_q (sym (entry_at-with_node p old_p) ∙ same ∙ entry_at-with_node q old_q)
+                absurd (absent p old_p (sym (entry_at-with_node p old_p) ∙ same ∙ ap (entry_at (with_node s n)) last
+                ∙ entry_at-new))
+            | inr old_q ↦ unique.once p q old_p old_q
+                (sym (entry_at-with_node p old_p) ∙ same ∙ entry_at-with_node q old_q)
           ]
         ];
   }

@@ -23,13 +23,16 @@ node_eq-true a b e =
     (λ i. record { level = level i; lo = lo i; hi = hi i })
 
 node_eq-refl : (a : Node) → node_eq a a ≡ true
-node_eq-refl a = and_from _ _ (eq-eqb a.level a.level refl) (and_from _ _ (eq-eqb a.lo.0 a.lo.0 refl) (eq-eqb a.hi.0 a.hi.0 refl))
+node_eq-refl a = and_from _ _ (eq-eqb a.level a.level refl)
+    (and_from _ _ (eq-eqb a.lo.0 a.lo.0 refl) (eq-eqb a.hi.0 a.hi.0 refl))
 
 -- a node that no element equals is at no place
-not_among : (n d : Node) (xs : List Node) (k : ℕ) → list_any (node_eq n) xs ≡ false → k < length xs → ¬ (get_or xs k d ≡ n)
+not_among : (n d : Node) (xs : List Node) (k : ℕ) → list_any (node_eq n) xs ≡ false → k < length xs →
+    ¬ (get_or xs k d ≡ n)
 not_among n d [] k none within here = absurd (omega arith)
 not_among n d (x ∷ xs) zero none within here =
-    true≢false (sym (node_eq-refl n) ∙ ap (node_eq n) (sym here) ∙ (or_parts (node_eq n x) (list_any (node_eq n) xs) none).0)
+    true≢false (sym (node_eq-refl n) ∙ ap (node_eq n) (sym here)
+    ∙ (or_parts (node_eq n x) (list_any (node_eq n) xs) none).0)
 not_among n d (x ∷ xs) (suc k) none within here =
     not_among n d xs k (or_parts (node_eq n x) (list_any (node_eq n) xs) none).1 (omega (arith, within)) here
 
@@ -44,22 +47,28 @@ module _ (s : Table) (n : Node) where
 
   pub IsUniqueTable-inserted : IsUniqueTable s → IsEntry s (kept s + 1) n → IsUniqueTable inserted
   IsUniqueTable-inserted unique ok =
-      elim (list_any (node_eq n) (entries s)) as (λ b. list_any (node_eq n) (entries s) ≡ b → IsUniqueTable (if b then s else with_node s n)) [
+      elim (list_any (node_eq n) (entries s))
+      as (λ b. list_any (node_eq n) (entries s) ≡ b → IsUniqueTable (if b then s else with_node s n)) [
         | true ↦ λ _. unique
         | false ↦ λ none. IsUniqueTable-with_node s n unique ok (absent none)
       ] refl
 
-  pub entries-inserted : entries inserted ≡ (if list_any (node_eq n) (entries s) then entries s else entries s ++ n ∷ [])
+  pub entries-inserted : entries inserted
+      ≡ (if list_any (node_eq n) (entries s) then entries s else entries s ++ n ∷ [])
   entries-inserted =
-      elim (list_any (node_eq n) (entries s)) as (λ b. entries (if b then s else with_node s n) ≡ (if b then entries s else entries s ++ n ∷ [])) [
+      elim (list_any (node_eq n) (entries s))
+      as (λ b. entries (if b then s else with_node s n) ≡ (if b then entries s else entries s ++ n ∷ [])) [
         | true ↦ refl
         | false ↦ refl
       ]
 
-  pub IsKept-inserted : (p : ℕ) (k : Node) → slice_get (entries inserted) p ≡ Some k → node_eq n k ≡ true → IsKept s inserted n p
+  pub IsKept-inserted : (p : ℕ) (k : Node) → slice_get (entries inserted) p ≡ Some k → node_eq n k ≡ true →
+      IsKept s inserted n p
   unfolding entry_at
   IsKept-inserted p k at same =
-      elim (list_any (node_eq n) (entries s)) as (λ b. list_any (node_eq n) (entries s) ≡ b → slice_get (entries (if b then s else with_node s n)) p ≡ Some k
+      elim (list_any (node_eq n) (entries s))
+      as (λ b. list_any (node_eq n) (entries s) ≡ b →
+      slice_get (entries (if b then s else with_node s n)) p ≡ Some k
       → IsKept s (if b then s else with_node s n) n p) [
         | true ↦ λ _ at. was at
         | false ↦ λ none at. new none at
@@ -77,7 +86,8 @@ module _ (s : Table) (n : Node) where
             table = ap (λ b. if b then s else with_node s n) (sym (le-leb p (kept s) within));
           }
 
-      new : list_any (node_eq n) (entries s) ≡ false → slice_get (entries (with_node s n)) p ≡ Some k → IsKept s (with_node s n) n p
+      new : list_any (node_eq n) (entries s) ≡ false → slice_get (entries (with_node s n)) p ≡ Some k →
+          IsKept s (with_node s n) n p
       new none at =
           let within : p ≤ kept (with_node s n) = omega (arith, slice_get_within (entries (with_node s n)) p k at) in
           let here = found (with_node s n) at in
@@ -91,11 +101,13 @@ module _ (s : Table) (n : Node) where
           ]
 
 -- the table that is read off the entries after the insert
-pub table-inserted : (s : Table) (n : Node) (levels : ℕ) (after : List Node) → levels ≡ s.levels → after ≡ entries (inserted s n)
+pub table-inserted : (s : Table) (n : Node) (levels : ℕ) (after : List Node) → levels ≡ s.levels →
+    after ≡ entries (inserted s n)
     → (let read : Table = record { levels = levels; nodes = drop 1 after } in read) ≡ inserted s n
 table-inserted s n levels after same held =
     let l : levels ≡ (inserted s n).levels = same ∙ levels_stay in
     (λ i. record { levels = l i; nodes = drop 1 (held i) })
   where
     levels_stay : s.levels ≡ (inserted s n).levels
-    levels_stay = elim (list_any (node_eq n) (entries s)) as (λ b. s.levels ≡ (if b then s else with_node s n).levels) [ true ↦ refl | false ↦ refl ]
+    levels_stay = elim (list_any (node_eq n) (entries s))
+        as (λ b. s.levels ≡ (if b then s else with_node s n).levels) [ true ↦ refl | false ↦ refl ]

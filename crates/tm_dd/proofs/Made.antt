@@ -19,11 +19,13 @@ unfolding entry_at
 entry_at-constant s = refl
 
 -- whether the node had a position
-pub cases_kept : (old new : Table) (n : Node) (p : ℕ) → IsKept old new n p → ((p ≤ kept old) × (new ≡ old)) ⊎ ((p ≡ kept old + 1) × (new ≡ with_node old n))
+pub cases_kept : (old new : Table) (n : Node) (p : ℕ) → IsKept old new n p →
+    ((p ≤ kept old) × (new ≡ old)) ⊎ ((p ≡ kept old + 1) × (new ≡ with_node old n))
 cases_kept old new n p k =
     elim (cases_lt (kept old) p) [
       | inl after ↦
-          let e : new ≡ with_node old n = k.table ∙ ap (λ b. if b then old else with_node old n) (lt-leb p (kept old) after) in
+          let e : new ≡ with_node old n =
+          k.table ∙ ap (λ b. if b then old else with_node old n) (lt-leb p (kept old) after) in
           let size = ap kept e in
           inr (omega (arith, k.within, size, kept-with_node old n, after), e)
       | inr before ↦ inl (before, k.table ∙ ap (λ b. if b then old else with_node old n) (le-leb p (kept old) before))
@@ -48,7 +50,8 @@ marked_node-marked_node m n =
     (λ i. record { level = n.level; lo = lo i; hi = hi i })
 
 -- of a node and its complement the one with an unmarked `lo` is kept
-pub IsEntry-marked : (s : Table) (level : ℕ) (lo hi : NodeId) → level < s.levels → Knows s lo → Knows s hi → level < level_of s lo → level < level_of s hi
+pub IsEntry-marked : (s : Table) (level : ℕ) (lo hi : NodeId) → level < s.levels → Knows s lo → Knows s hi →
+    level < level_of s lo → level < level_of s hi
     → ¬ (lo ≡ hi) → IsEntry s (kept s + 1) (marked_node (is_marked lo) (record { level = level; lo = lo; hi = hi }))
 IsEntry-marked s level lo hi below known_lo known_hi deep_lo deep_hi differ =
     let at_lo = position_of-marked_id (is_marked lo) lo in
@@ -59,7 +62,8 @@ IsEntry-marked s level lo hi below known_lo known_hi deep_lo deep_hi differ =
       hi_before = omega (arith, at_hi, known_hi);
       lo_rises = omega (arith, level_of-marked_id s (is_marked lo) lo, deep_lo);
       hi_rises = omega (arith, level_of-marked_id s (is_marked lo) hi, deep_hi);
-      differ = λ same. differ (sym (marked_id-marked_id (is_marked lo) lo) ∙ ap (marked_id (is_marked lo)) same ∙ marked_id-marked_id (is_marked lo) hi);
+      differ = λ same. differ (sym (marked_id-marked_id (is_marked lo) lo) ∙ ap (marked_id (is_marked lo)) same
+          ∙ marked_id-marked_id (is_marked lo) hi);
       plain = elim (is_marked lo) as (λ m. is_marked lo ≡ m → is_marked (marked_id m lo) ≡ false) [
         | true ↦ λ e. is_marked-complement lo ∙ ap not e
         | false ↦ λ e. e
@@ -78,9 +82,12 @@ pub record IsMade (old new : Table) (n : Node) (r : NodeId) : Type 0 where
   pub unchanged : (f : NodeId) → Knows old f → MeansNode old f n → new ≡ old
   pub added : (f : NodeId) → Knows new f → Knows old f ⊎ ((f ≡ r) ⊎ (f ≡ complement r))
 
--- n is the node that was asked for, m the mark of its `lo`, and id that of the position at which the marked node is kept
-module _ (old new : Table) (unique : IsUniqueTable new) (n : Node) (m : Bool) (id : NodeId) (plain : is_marked id ≡ false) (below : n.level < old.levels)
-    (known_lo : Knows old n.lo) (known_hi : Knows old n.hi) (is_kept : IsKept old new (marked_node m n) (position_of id)) where
+-- n is the node that was asked for, m the mark of its `lo`, and id that of the position at which the marked node is
+-- kept
+module _ (old new : Table) (unique : IsUniqueTable new) (n : Node) (m : Bool) (id : NodeId)
+    (plain : is_marked id ≡ false) (below : n.level < old.levels)
+    (known_lo : Knows old n.lo) (known_hi : Knows old n.hi)
+    (is_kept : IsKept old new (marked_node m n) (position_of id)) where
   made_extends : Extends old new
   made_extends =
       elim (cases_kept old new (marked_node m n) (position_of id) is_kept) [
@@ -102,7 +109,8 @@ module _ (old new : Table) (unique : IsUniqueTable new) (n : Node) (m : Bool) (i
   made_inner =
       elim (cases_position (position_of id)) [
         | inl e ↦
-            let top : (entry_at new (position_of id)).level ≡ new.levels = ap (λ p. (entry_at new p).level) e ∙ entry_at-constant new in
+            let top : (entry_at new (position_of id)).level ≡ new.levels =
+            ap (λ p. (entry_at new p).level) e ∙ entry_at-constant new in
             let here = ap (λ (k : Node). k.level) is_kept.entry in
             absurd (omega (arith, top, here, made_extends.same_levels, below))
         | inr some ↦ some
@@ -119,7 +127,8 @@ module _ (old new : Table) (unique : IsUniqueTable new) (n : Node) (m : Bool) (i
   made_level : level_of new (marked_id m id) ≡ n.level
   made_level = level_of-marked_id new m id ∙ level_of-entry new id ∙ ap (λ (k : Node). k.level) is_kept.entry
 
-  made_meaning : (v : ℕ → Bool) → means new (marked_id m id) v ≡ (if v n.level then means old n.hi v else means old n.lo v)
+  made_meaning : (v : ℕ → Bool) →
+      means new (marked_id m id) v ≡ (if v n.level then means old n.hi v else means old n.lo v)
   made_meaning v =
       let r = marked_id m id in
       let inner : 0 < position_of r = omega (arith, position_of-marked_id m id, made_inner) in
@@ -151,7 +160,16 @@ module _ (old new : Table) (unique : IsUniqueTable new) (n : Node) (m : Bool) (i
             elim (cases_lt (kept old) (position_of f)) [
               | inl late ↦
                   let size = ap kept after.1 in
-                  let at : position_of f ≡ position_of (marked_id m id) = omega (arith, size, kept-with_node old (marked_node m n), after.0, position_of-marked_id m id, known, late) in
+                  let at : position_of f ≡ position_of (marked_id m id) =
+                  omega (
+                    arith,
+                    size,
+                    kept-with_node old (marked_node m n),
+                    after.0,
+                    position_of-marked_id m id,
+                    known,
+                    late,
+                  ) in
                   inr (same_position f (marked_id m id) at)
               | inr early ↦ inl (omega (arith, early))
             ]
@@ -167,7 +185,8 @@ module _ (old new : Table) (unique : IsUniqueTable new) (n : Node) (m : Bool) (i
       same_position f g at =
           elim (opposite (is_marked f) (is_marked g)) [
             | inl e ↦ inl (same_id f g at e)
-            | inr e ↦ inr (same_id f (complement g) (at ∙ sym (position_of-complement g)) (e ∙ sym (is_marked-complement g)))
+            | inr e ↦ inr (same_id f (complement g) (at ∙ sym (position_of-complement g))
+                (e ∙ sym (is_marked-complement g)))
           ]
 
   pub made : IsMade old new n (marked_id m id)
@@ -195,6 +214,7 @@ not_found s unique n m below known_lo known_hi ok absent f known same =
     let id : NodeId = record { 0 = 2 * (kept s + 1) } in
     let at : kept s + 1 ≡ position_of id = omega arith in
     let here : IsKept s (with_node s k) k (position_of id) = subst (IsKept s (with_node s k) k) at (IsKept-added s k) in
-    let found = made s (with_node s k) (IsUniqueTable-with_node s k unique ok absent) n m id (even (kept s + 1)) below known_lo known_hi here in
+    let found = made s (with_node s k) (IsUniqueTable-with_node s k unique ok absent) n m id (even (kept s + 1)) below
+    known_lo known_hi here in
     let size = ap kept (found.unchanged f known same) in
     absurd (omega (arith, size, kept-with_node s k))

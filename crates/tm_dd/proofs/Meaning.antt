@@ -12,7 +12,8 @@ use Rattle.tm_dd.proofs.Values.{values_from-given, values_from-node}
 unfoldable pub value_at : Table → ℕ → (ℕ → Bool) → Bool
 value_at s p v = get_or (values_of s v) p false
 
-pub means-value_at : (s : Table) (id : NodeId) (v : ℕ → Bool) → means s id v ≡ marked_value (is_marked id) (value_at s (position_of id) v)
+pub means-value_at : (s : Table) (id : NodeId) (v : ℕ → Bool) →
+    means s id v ≡ marked_value (is_marked id) (value_at s (position_of id) v)
 unfolding means value_at
 means-value_at s id v = refl
 
@@ -51,15 +52,19 @@ value_at-entry : (s : Table) (p : ℕ) (v : ℕ → Bool) → 0 < p → p ≤ ke
 unfolding value_at values_of means entry_at
 value_at-entry s zero v some within lo hi = absurd (omega arith)
 value_at-entry s (suc j) v some within lo hi =
-    values_from-node v s.nodes (false ∷ []) j (suc j) (constant_entry s.levels) (omega arith) (omega (arith, within)) lo hi
+    values_from-node v s.nodes (false ∷ []) j (suc j) (constant_entry s.levels) (omega arith) (omega (arith, within)) lo
+    hi
 
 -- what a known id that is no constant means, by its entry
 pub means-entry : (s : Table) (id : NodeId) (v : ℕ → Bool) → IsUniqueTable s → Knows s id → 0 < position_of id
-    → means s id v ≡ marked_value (is_marked id) (if v (entry_at s (position_of id)).level then means s (entry_at s (position_of id)).hi v else means s (entry_at s (position_of id)).lo v)
+    → means s id v ≡ marked_value (is_marked id)
+    (if v (entry_at s (position_of id)).level then means s (entry_at s (position_of id)).hi v
+    else means s (entry_at s (position_of id)).lo v)
 means-entry s id v unique known inner =
     let within : position_of id ≤ kept s = omega (arith, known) in
     let e = unique.nodes (position_of id) inner within in
-    means-value_at s id v ∙ ap (marked_value (is_marked id)) (value_at-entry s (position_of id) v inner within e.lo_before e.hi_before)
+    means-value_at s id v ∙ ap (marked_value (is_marked id))
+    (value_at-entry s (position_of id) v inner within e.lo_before e.hi_before)
 
 -- ---- levels
 
@@ -81,7 +86,8 @@ cases_position zero = inl refl
 cases_position (suc p) = inr (omega arith)
 
 -- a constant means the same everywhere
-pub means-constant : (s : Table) (id : NodeId) (v : ℕ → Bool) → position_of id ≡ 0 → means s id v ≡ marked_value (is_marked id) false
+pub means-constant : (s : Table) (id : NodeId) (v : ℕ → Bool) → position_of id ≡ 0 →
+    means s id v ≡ marked_value (is_marked id) false
 means-constant s id v e =
     means-value_at s id v ∙ ap (marked_value (is_marked id)) (ap (λ p. value_at s p v) e ∙ value_at-constant s v)
 
@@ -97,7 +103,8 @@ means-same s unique v w id known some here hi lo =
     ∙ sym (means-entry s id w unique known some)
 
 -- a function does not depend on the levels above its own
-pub means-agree : (s : Table) → IsUniqueTable s → (v w : ℕ → Bool) (n : ℕ) (id : NodeId) → position_of id < n → Knows s id
+pub means-agree : (s : Table) → IsUniqueTable s → (v w : ℕ → Bool) (n : ℕ) (id : NodeId) → position_of id < n →
+    Knows s id
     → ((k : ℕ) → level_of s id ≤ k → k < s.levels → v k ≡ w k) → means s id v ≡ means s id w
 means-agree s unique v w zero id h known same = absurd (omega arith)
 means-agree s unique v w (suc n) id h known same =
@@ -109,9 +116,11 @@ means-agree s unique v w (suc n) id h known same =
           let level = level_of-entry s id in
           means-same s unique v w id known some
           (same (entry_at s (position_of id)).level (omega (arith, level)) e.below)
-          (means-agree s unique v w n (entry_at s (position_of id)).hi (omega (arith, e.hi_before, h)) (knows_before s _ _ e.hi_before within)
+          (means-agree s unique v w n (entry_at s (position_of id)).hi (omega (arith, e.hi_before, h))
+          (knows_before s _ _ e.hi_before within)
           (λ k above below. same k (omega (arith, e.hi_rises, level, above)) below))
-          (means-agree s unique v w n (entry_at s (position_of id)).lo (omega (arith, e.lo_before, h)) (knows_before s _ _ e.lo_before within)
+          (means-agree s unique v w n (entry_at s (position_of id)).lo (omega (arith, e.lo_before, h))
+          (knows_before s _ _ e.lo_before within)
           (λ k above below. same k (omega (arith, e.lo_rises, level, above)) below))
     ]
 
@@ -126,7 +135,8 @@ means-IsConstant s id v constant =
     means-constant s id v (omega (arith, constant)) ∙ marked_value-false (is_marked id) ∙ ap (λ n. eqb n 1) small
 
 -- the kept functions are false where all levels are
-pub means-all_false : (s : Table) → IsUniqueTable s → (n : ℕ) (id : NodeId) → position_of id < n → Knows s id → means s id (λ _. false) ≡ is_marked id
+pub means-all_false : (s : Table) → IsUniqueTable s → (n : ℕ) (id : NodeId) → position_of id < n → Knows s id →
+    means s id (λ _. false) ≡ is_marked id
 means-all_false s unique zero id h known = absurd (omega arith)
 means-all_false s unique (suc n) id h known =
     elim (cases_position (position_of id)) [
@@ -136,6 +146,7 @@ means-all_false s unique (suc n) id h known =
           let e = unique.nodes (position_of id) some within in
           means-entry s id (λ _. false) unique known some
           ∙ ap (marked_value (is_marked id))
-          (means-all_false s unique n (entry_at s (position_of id)).lo (omega (arith, e.lo_before, h)) (knows_before s _ _ e.lo_before within) ∙ e.plain)
+          (means-all_false s unique n (entry_at s (position_of id)).lo (omega (arith, e.lo_before, h))
+          (knows_before s _ _ e.lo_before within) ∙ e.plain)
           ∙ marked_value-false (is_marked id)
     ]

@@ -22,7 +22,8 @@ pub number_of-complement_marked : (id : NodeId) → is_marked id ≡ true → nu
 unfolding complement
 number_of-complement_marked id m =
     let r : number_of id % 2 ≡ 1 = eqb-true _ _ m in
-    let e : bit_xor (number_of id) 1 ≡ number_of id / 2 * 2 + 0 = xor_one (number_of id) ∙ ap (λ x. number_of id / 2 * 2 + differ x 1) r in
+    let e : bit_xor (number_of id) 1 ≡ number_of id / 2 * 2 + 0 =
+    xor_one (number_of id) ∙ ap (λ x. number_of id / 2 * 2 + differ x 1) r in
     omega (arith, e)
 
 -- and adds one to that of another
@@ -30,23 +31,28 @@ pub number_of-complement_plain : (id : NodeId) → is_marked id ≡ false → nu
 unfolding complement
 number_of-complement_plain id m =
     let r : number_of id % 2 ≡ 0 = omega (arith, eqb-false _ _ m) in
-    let e : bit_xor (number_of id) 1 ≡ number_of id / 2 * 2 + 1 = xor_one (number_of id) ∙ ap (λ x. number_of id / 2 * 2 + differ x 1) r in
+    let e : bit_xor (number_of id) 1 ≡ number_of id / 2 * 2 + 1 =
+    xor_one (number_of id) ∙ ap (λ x. number_of id / 2 * 2 + differ x 1) r in
     omega (arith, e)
 
 -- the position stays under the other mark
 pub position_of-complement : (id : NodeId) → position_of (complement id) ≡ position_of id
 position_of-complement id =
     elim (is_marked id) as (λ b. is_marked id ≡ b → position_of (complement id) ≡ position_of id) [
-      | true ↦ λ m. let e = number_of-complement_marked id m in let r : number_of id % 2 ≡ 1 = eqb-true _ _ m in omega (arith, e)
-      | false ↦ λ m. let e = number_of-complement_plain id m in let r : number_of id % 2 ≡ 0 = omega (arith, eqb-false _ _ m) in omega (arith, e)
+      | true ↦ λ m. let e = number_of-complement_marked id m in let r : number_of id % 2 ≡ 1 = eqb-true _ _ m in
+          omega (arith, e)
+      | false ↦ λ m. let e = number_of-complement_plain id m in let r : number_of id % 2 ≡ 0 =
+          omega (arith, eqb-false _ _ m) in omega (arith, e)
     ] refl
 
 -- the mark changes
 pub is_marked-complement : (id : NodeId) → is_marked (complement id) ≡ not (is_marked id)
 is_marked-complement id =
     elim (is_marked id) as (λ b. is_marked id ≡ b → is_marked (complement id) ≡ not b) [
-      | true ↦ λ m. let e = number_of-complement_marked id m in let r : number_of id % 2 ≡ 1 = eqb-true _ _ m in ne_eqb _ _ (omega (arith, e))
-      | false ↦ λ m. let e = number_of-complement_plain id m in let r : number_of id % 2 ≡ 0 = omega (arith, eqb-false _ _ m) in eq-eqb _ _ (omega (arith, e))
+      | true ↦ λ m. let e = number_of-complement_marked id m in let r : number_of id % 2 ≡ 1 = eqb-true _ _ m in
+          ne_eqb _ _ (omega (arith, e))
+      | false ↦ λ m. let e = number_of-complement_plain id m in let r : number_of id % 2 ≡ 0 =
+          omega (arith, eqb-false _ _ m) in eq-eqb _ _ (omega (arith, e))
     ] refl
 
 pub not-not : (b : Bool) → not (not b) ≡ b

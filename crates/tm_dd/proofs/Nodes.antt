@@ -14,7 +14,8 @@ use Rattle.tm_dd.proofs.NodeIdLemmas.{complement-complement, position_of-complem
 abbrev pub marked_id : Bool → NodeId → NodeId
 marked_id m id = if m then complement id else id
 
-pub means-marked_id : (s : Table) (m : Bool) (id : NodeId) (v : ℕ → Bool) → means s (marked_id m id) v ≡ marked_value m (means s id v)
+pub means-marked_id : (s : Table) (m : Bool) (id : NodeId) (v : ℕ → Bool) →
+    means s (marked_id m id) v ≡ marked_value m (means s id v)
 means-marked_id s true id v = means-complement s id v
 means-marked_id s false id v = refl
 
@@ -41,12 +42,15 @@ marked_node m n = record { level = n.level; lo = marked_id m n.lo; hi = marked_i
 pub node_of-entry : (s : Table) (id : NodeId) → node_of s id ≡ marked_node (is_marked id) (entry_at s (position_of id))
 unfolding node_of
 node_of-entry s id =
-    elim (is_marked id) as (λ m. (if m then complement_node (entry_at s (position_of id)) else entry_at s (position_of id)) ≡ marked_node m (entry_at s (position_of id))) [
+    elim (is_marked id) as (λ m.
+    (if m then complement_node (entry_at s (position_of id)) else entry_at s (position_of id))
+    ≡ marked_node m (entry_at s (position_of id))) [
       | true ↦ refl
       | false ↦ refl
     ]
 
-marked_value-branch : (m c a b : Bool) → marked_value m (if c then a else b) ≡ (if c then marked_value m a else marked_value m b)
+marked_value-branch : (m c a b : Bool) →
+    marked_value m (if c then a else b) ≡ (if c then marked_value m a else marked_value m b)
 marked_value-branch m true a b = refl
 marked_value-branch m false a b = refl
 
@@ -61,7 +65,8 @@ means-marked_node s unique id known some v =
     ∙ marked_value-branch (is_marked id) (v n.level) (means s n.hi v) (means s n.lo v)
     ∙ (λ i. if v n.level then hi i else lo i)
 
-pub is_node : (s : Table) → IsUniqueTable s → (id : NodeId) → Knows s id → 0 < position_of id → IsNode s id (marked_node (is_marked id) (entry_at s (position_of id)))
+pub is_node : (s : Table) → IsUniqueTable s → (id : NodeId) → Knows s id → 0 < position_of id →
+    IsNode s id (marked_node (is_marked id) (entry_at s (position_of id)))
 is_node s unique id known some =
     let within : position_of id ≤ kept s = omega (arith, known) in
     let n = entry_at s (position_of id) in
@@ -84,7 +89,8 @@ is_node s unique id known some =
 -- a unique table is reduced
 pub reduced : (s : Table) → IsUniqueTable s → IsReduced s
 reduced s unique = record {
-  nodes = λ id known inner. subst (IsNode s id) (sym (node_of-entry s id)) (is_node s unique id known (omega (arith, inner)));
+  nodes = λ id known inner.
+      subst (IsNode s id) (sym (node_of-entry s id)) (is_node s unique id known (omega (arith, inner)));
   constants = λ id constant. level_of-constant s id (omega (arith, constant));
   within = level_of-within s unique;
   independent = λ id known v w same. means-agree s unique v w (position_of id + 1) id (omega arith) known same;

@@ -17,7 +17,8 @@ picks true b c r on off = on refl
 picks false b c r on off = off refl
 
 -- an id is a choice where it means its first branch where the test is true, and the second where it is false
-pub choice_by_cases : (s : Table) (k : Choice) (r : NodeId) → KnowsChoice s k → Knows s r → choice_level s k ≤ level_of s r
+pub choice_by_cases : (s : Table) (k : Choice) (r : NodeId) → KnowsChoice s k → Knows s r →
+    choice_level s k ≤ level_of s r
     → MeansWhere s k.test true r k.if_true → MeansWhere s k.test false r k.if_false → IsChoice s k r
 choice_by_cases s k r operands known deep on off = record {
   operands = operands;
@@ -39,65 +40,75 @@ choice_of_false s k operands e =
     (λ v _. refl)
 
 -- the test itself, and its complement, as choices
-pub choice_is_test : (s : Table) (k : Choice) → KnowsChoice s k → MeansWhere s k.test true TRUE k.if_true → MeansWhere s k.test false FALSE k.if_false → IsChoice s k k.test
+pub choice_is_test : (s : Table) (k : Choice) → KnowsChoice s k → MeansWhere s k.test true TRUE k.if_true →
+    MeansWhere s k.test false FALSE k.if_false → IsChoice s k k.test
 choice_is_test s k operands on off =
     choice_by_cases s k k.test operands operands.test (omega arith)
     (λ v h. h ∙ sym (means-TRUE s v) ∙ on v h)
     (λ v h. h ∙ sym (means-FALSE s v) ∙ off v h)
 
-pub choice_is_complement : (s : Table) (k : Choice) → KnowsChoice s k → MeansWhere s k.test true FALSE k.if_true → MeansWhere s k.test false TRUE k.if_false
+pub choice_is_complement : (s : Table) (k : Choice) → KnowsChoice s k → MeansWhere s k.test true FALSE k.if_true →
+    MeansWhere s k.test false TRUE k.if_false
     → IsChoice s k (complement k.test)
 choice_is_complement s k operands on off =
-    choice_by_cases s k (complement k.test) operands (Knows-complement s k.test operands.test) (omega (arith, level_of-complement s k.test))
+    choice_by_cases s k (complement k.test) operands (Knows-complement s k.test operands.test)
+    (omega (arith, level_of-complement s k.test))
     (λ v h. means-complement s k.test v ∙ ap not h ∙ sym (means-FALSE s v) ∙ on v h)
     (λ v h. means-complement s k.test v ∙ ap not h ∙ sym (means-TRUE s v) ∙ off v h)
 
 -- ---- cofactors
 
 -- the cofactors of a constant are the constant
-pub cofactor-constant : (s : Table) → IsReduced s → (f : NodeId) (level : ℕ) (b : Bool) → IsConstant f → level < s.levels → cofactor s f level b ≡ f
+pub cofactor-constant : (s : Table) → IsReduced s → (f : NodeId) (level : ℕ) (b : Bool) → IsConstant f →
+    level < s.levels → cofactor s f level b ≡ f
 cofactor-constant s reduced f level b h within =
     ap (λ t. if t then (if b then (node_of s f).hi else (node_of s f).lo) else f)
     (ne_eqb (level_of s f) level (omega (arith, reduced.constants f h, within)))
 
-module _ (s : Table) (reduced : IsReduced s) (f : NodeId) (known : Knows s f) (level : ℕ) (within : level < s.levels) where
-  -- an id on a level is no constant
-  pub inner_at : level_of s f ≡ level → ¬ IsConstant f
-  inner_at e h = omega (arith, reduced.constants f h, within, e)
+module _ (s : Table) (reduced : IsReduced s) (f : NodeId) (known : Knows s f) (level : ℕ) (within : level < s.levels)
+  where
+    -- an id on a level is no constant
+    pub inner_at : level_of s f ≡ level → ¬ IsConstant f
+    inner_at e h = omega (arith, reduced.constants f h, within, e)
 
-  node_at : level_of s f ≡ level → IsNode s f (node_of s f)
-  node_at e = reduced.nodes f known (inner_at e)
+    node_at : level_of s f ≡ level → IsNode s f (node_of s f)
+    node_at e = reduced.nodes f known (inner_at e)
 
-  -- a cofactor is the child on the level, and the id itself where that is deeper
-  pub by_cofactor : (P : NodeId → Type 0) (b : Bool)
-      → (level_of s f ≡ level → P (if b then (node_of s f).hi else (node_of s f).lo)) → (¬ (level_of s f ≡ level) → P f) → P (cofactor s f level b)
-  by_cofactor P b on off =
-      elim (eqb (level_of s f) level) as (λ t. eqb (level_of s f) level ≡ t → P (if t then (if b then (node_of s f).hi else (node_of s f).lo) else f)) [
-        | true ↦ λ t. on (eqb-true _ _ t)
-        | false ↦ λ t. off (eqb-false _ _ t)
-      ] refl
+    -- a cofactor is the child on the level, and the id itself where that is deeper
+    pub by_cofactor : (P : NodeId → Type 0) (b : Bool)
+        → (level_of s f ≡ level → P (if b then (node_of s f).hi else (node_of s f).lo)) →
+        (¬ (level_of s f ≡ level) → P f) → P (cofactor s f level b)
+    by_cofactor P b on off =
+        elim (eqb (level_of s f) level)
+        as (λ t. eqb (level_of s f) level ≡ t →
+        P (if t then (if b then (node_of s f).hi else (node_of s f).lo) else f)) [
+          | true ↦ λ t. on (eqb-true _ _ t)
+          | false ↦ λ t. off (eqb-false _ _ t)
+        ] refl
 
-  pub knows-cofactor : (b : Bool) → Knows s (cofactor s f level b)
-  knows-cofactor true = by_cofactor (Knows s) true (λ e. (node_at e).hi_known) (λ _. known)
-  knows-cofactor false = by_cofactor (Knows s) false (λ e. (node_at e).lo_known) (λ _. known)
+    pub knows-cofactor : (b : Bool) → Knows s (cofactor s f level b)
+    knows-cofactor true = by_cofactor (Knows s) true (λ e. (node_at e).hi_known) (λ _. known)
+    knows-cofactor false = by_cofactor (Knows s) false (λ e. (node_at e).lo_known) (λ _. known)
 
-  pub level_of-cofactor : level ≤ level_of s f → (b : Bool) → level < level_of s (cofactor s f level b)
-  level_of-cofactor above true =
-      by_cofactor (λ g. level < level_of s g) true (λ e. let n = node_at e in omega (arith, n.hi_rises, n.level, e)) (λ apart. omega (arith, apart, above))
-  level_of-cofactor above false =
-      by_cofactor (λ g. level < level_of s g) false (λ e. let n = node_at e in omega (arith, n.lo_rises, n.level, e)) (λ apart. omega (arith, apart, above))
+    pub level_of-cofactor : level ≤ level_of s f → (b : Bool) → level < level_of s (cofactor s f level b)
+    level_of-cofactor above true =
+        by_cofactor (λ g. level < level_of s g) true (λ e. let n = node_at e in omega (arith, n.hi_rises, n.level, e))
+        (λ apart. omega (arith, apart, above))
+    level_of-cofactor above false =
+        by_cofactor (λ g. level < level_of s g) false (λ e. let n = node_at e in omega (arith, n.lo_rises, n.level, e))
+        (λ apart. omega (arith, apart, above))
 
-  pub means-cofactor : (b : Bool) (v : ℕ → Bool) → v level ≡ b → means s (cofactor s f level b) v ≡ means s f v
-  means-cofactor true v at =
-      by_cofactor (λ g. means s g v ≡ means s f v) true
-      (λ e. let n = node_at e in let here : v (node_of s f).level ≡ true = ap v (n.level ∙ e) ∙ at in
-      sym (n.meaning v ∙ ap (λ t. if t then means s (node_of s f).hi v else means s (node_of s f).lo v) here))
-      (λ _. refl)
-  means-cofactor false v at =
-      by_cofactor (λ g. means s g v ≡ means s f v) false
-      (λ e. let n = node_at e in let here : v (node_of s f).level ≡ false = ap v (n.level ∙ e) ∙ at in
-      sym (n.meaning v ∙ ap (λ t. if t then means s (node_of s f).hi v else means s (node_of s f).lo v) here))
-      (λ _. refl)
+    pub means-cofactor : (b : Bool) (v : ℕ → Bool) → v level ≡ b → means s (cofactor s f level b) v ≡ means s f v
+    means-cofactor true v at =
+        by_cofactor (λ g. means s g v ≡ means s f v) true
+        (λ e. let n = node_at e in let here : v (node_of s f).level ≡ true = ap v (n.level ∙ e) ∙ at in
+        sym (n.meaning v ∙ ap (λ t. if t then means s (node_of s f).hi v else means s (node_of s f).lo v) here))
+        (λ _. refl)
+    means-cofactor false v at =
+        by_cofactor (λ g. means s g v ≡ means s f v) false
+        (λ e. let n = node_at e in let here : v (node_of s f).level ≡ false = ap v (n.level ∙ e) ∙ at in
+        sym (n.meaning v ∙ ap (λ t. if t then means s (node_of s f).hi v else means s (node_of s f).lo v) here))
+        (λ _. refl)
 
 module _ (s : Table) (reduced : IsReduced s) (k : Choice) (known : KnowsChoice s k) where
   pub choice_level-open : IsOpen k → choice_level s k < s.levels
@@ -121,7 +132,8 @@ module _ (s : Table) (reduced : IsReduced s) (k : Choice) (known : KnowsChoice s
         let off = level_of-cofactor s reduced k.if_false known.if_false (choice_level s k) within (omega arith) b in
         omega (arith, test, on, off)
 
-    pub choice_value-cofactor_choice : (b : Bool) (v : ℕ → Bool) → v (choice_level s k) ≡ b → choice_value s (cofactor_choice s k b) v ≡ choice_value s k v
+    pub choice_value-cofactor_choice : (b : Bool) (v : ℕ → Bool) → v (choice_level s k) ≡ b →
+        choice_value s (cofactor_choice s k b) v ≡ choice_value s k v
     choice_value-cofactor_choice b v at =
         let test = means-cofactor s reduced k.test known.test (choice_level s k) within b v at in
         let on = means-cofactor s reduced k.if_true known.if_true (choice_level s k) within b v at in
@@ -140,11 +152,13 @@ module _ (s t : Table) (e : Extends s t) where
 
   pub choice_level-Extends : (k : Choice) → KnowsChoice s k → choice_level t k ≡ choice_level s k
   choice_level-Extends k known =
-      λ i. min (e.same_level k.test known.test i) (min (e.same_level k.if_true known.if_true i) (e.same_level k.if_false known.if_false i))
+      λ i. min (e.same_level k.test known.test i)
+      (min (e.same_level k.if_true known.if_true i) (e.same_level k.if_false known.if_false i))
 
   pub choice_value-Extends : (k : Choice) → KnowsChoice s k → (v : ℕ → Bool) → choice_value t k v ≡ choice_value s k v
   choice_value-Extends k known v =
-      λ i. if e.same_meaning k.test known.test v i then e.same_meaning k.if_true known.if_true v i else e.same_meaning k.if_false known.if_false v i
+      λ i. if e.same_meaning k.test known.test v i then e.same_meaning k.if_true known.if_true v i
+      else e.same_meaning k.if_false known.if_false v i
 
   pub IsChoice-Extends : (k : Choice) (id : NodeId) → IsChoice s k id → IsChoice t k id
   IsChoice-Extends k id c = record {
@@ -156,17 +170,25 @@ module _ (s t : Table) (e : Extends s t) where
 
   cofactor-Extends : (f : NodeId) (level : ℕ) (b : Bool) → Knows s f → cofactor t f level b ≡ cofactor s f level b
   cofactor-Extends f level b known =
-      λ i. if eqb (e.same_level f known i) level then (if b then (e.same_node f known i).hi else (e.same_node f known i).lo) else f
+      λ i. if eqb (e.same_level f known i) level
+      then (if b then (e.same_node f known i).hi else (e.same_node f known i).lo) else f
 
-  pub cofactor_choice-Extends : (k : Choice) (b : Bool) → KnowsChoice s k → cofactor_choice t k b ≡ cofactor_choice s k b
+  pub cofactor_choice-Extends : (k : Choice) (b : Bool) → KnowsChoice s k →
+      cofactor_choice t k b ≡ cofactor_choice s k b
   cofactor_choice-Extends k b known =
       let level = choice_level-Extends k known in
       let at : (f : NodeId) → Knows s f → cofactor t f (choice_level t k) b ≡ cofactor s f (choice_level s k) b =
       λ f h. ap (λ l. cofactor t f l b) level ∙ cofactor-Extends f (choice_level s k) b h in
-      λ i. record { test = at k.test known.test i; if_true = at k.if_true known.if_true i; if_false = at k.if_false known.if_false i }
+      λ i. record {
+        test = at k.test known.test i;
+        if_true = at k.if_true known.if_true i;
+        if_false =
+            at k.if_false known.if_false i;
+      }
 
 -- an id whose cofactors are those of a choice is the id of the choice
-pub choice_of_branches : (s t : Table) → IsReduced s → Extends s t → (k : Choice) → KnowsChoice s k → choice_level s k < s.levels → (lo hi id : NodeId)
+pub choice_of_branches : (s t : Table) → IsReduced s → Extends s t → (k : Choice) → KnowsChoice s k →
+    choice_level s k < s.levels → (lo hi id : NodeId)
     → IsChoice s (cofactor_choice s k false) lo → IsChoice s (cofactor_choice s k true) hi
     → Knows t id → choice_level s k ≤ level_of t id
     → ((v : ℕ → Bool) → means t id v ≡ (if v (choice_level s k) then means s hi v else means s lo v)) → IsChoice t k id
@@ -177,7 +199,8 @@ choice_of_branches s t reduced e k known within lo hi id low high there deep mea
   meaning = λ v. meaning v ∙ branches v ∙ sym (choice_value-Extends s t e k known v);
 }
   where
-    at : (v : ℕ → Bool) (b : Bool) → v (choice_level s k) ≡ b → (if b then means s hi v else means s lo v) ≡ choice_value s k v
+    at : (v : ℕ → Bool) (b : Bool) → v (choice_level s k) ≡ b →
+        (if b then means s hi v else means s lo v) ≡ choice_value s k v
     at v true h = high.meaning v ∙ choice_value-cofactor_choice s reduced k known within true v h
     at v false h = low.meaning v ∙ choice_value-cofactor_choice s reduced k known within false v h
 

@@ -17,7 +17,8 @@ use Rattle.tm_ddops.specs.Manager.{IsFunction}
 use Rattle.tm_ddops.specs.Reached.{Reaches, itself, through_lo, through_hi}
 use Rattle.tm_ddops.proofs.Facts.{below_or_not, constant_cases, knows-constant, knows-Extends}
 
-pub copy_constant : (from to : Table) → IsReduced from → IsReduced to → to.levels ≡ from.levels → (f : NodeId) → IsConstant f → Knows from f → IsCopy from to f f
+pub copy_constant : (from to : Table) → IsReduced from → IsReduced to → to.levels ≡ from.levels → (f : NodeId) →
+    IsConstant f → Knows from f → IsCopy from to f f
 copy_constant from to rf rt levels f constant known = record {
   operand = known;
   known = knows-constant to f constant;
@@ -43,31 +44,41 @@ AreCopies-Extends from s t e m are f id h = IsCopy-Extends from s t e f id (are 
 reaches_later : (s t : Table) → IsReduced s → Extends s t → (f g : NodeId) → Knows s f → Reaches s f g → Reaches t f g
 reaches_later s t reduced e f g known (itself _) = itself f
 reaches_later s t reduced e f g known (through_lo _ _ inner rest) =
-    through_lo f g inner (subst (λ n. Reaches t n.lo g) (sym (e.same_node f known)) (reaches_later s t reduced e (node_of s f).lo g (reduced.nodes f known inner).lo_known rest))
+    through_lo f g inner (subst (λ n. Reaches t n.lo g) (sym (e.same_node f known))
+    (reaches_later s t reduced e (node_of s f).lo g (reduced.nodes f known inner).lo_known rest))
 reaches_later s t reduced e f g known (through_hi _ _ inner rest) =
-    through_hi f g inner (subst (λ n. Reaches t n.hi g) (sym (e.same_node f known)) (reaches_later s t reduced e (node_of s f).hi g (reduced.nodes f known inner).hi_known rest))
+    through_hi f g inner (subst (λ n. Reaches t n.hi g) (sym (e.same_node f known))
+    (reaches_later s t reduced e (node_of s f).hi g (reduced.nodes f known inner).hi_known rest))
 
-mark_later : (s t : Table) → IsReduced s → Extends s t → (f g : NodeId) → Knows s f → ReachesUpToMark s f g → ReachesUpToMark t f g
+mark_later : (s t : Table) → IsReduced s → Extends s t → (f g : NodeId) → Knows s f → ReachesUpToMark s f g →
+    ReachesUpToMark t f g
 mark_later s t reduced e f g known r = elim r [
   | inl x ↦ inl (reaches_later s t reduced e f g known x)
   | inr x ↦ inr (reaches_later s t reduced e f (complement g) known x)
 ]
 
 -- ids that mean a constant are constants
-constant_of_meaning : (s : Table) → IsReduced s → (f : NodeId) → Knows s f → (b : Bool) → ((v : ℕ → Bool) → means s f v ≡ b) → IsConstant f
+constant_of_meaning : (s : Table) → IsReduced s → (f : NodeId) → Knows s f → (b : Bool) →
+    ((v : ℕ → Bool) → means s f v ≡ b) → IsConstant f
 constant_of_meaning s reduced f known true same =
-    subst IsConstant (sym (reduced.canonical f TRUE known (omega arith) (λ v. same v ∙ sym (means-TRUE s v)))) (omega arith)
+    subst IsConstant (sym (reduced.canonical f TRUE known (omega arith) (λ v. same v ∙ sym (means-TRUE s v))))
+    (omega arith)
 constant_of_meaning s reduced f known false same =
-    subst IsConstant (sym (reduced.canonical f FALSE known (omega arith) (λ v. same v ∙ sym (means-FALSE s v)))) (omega arith)
+    subst IsConstant (sym (reduced.canonical f FALSE known (omega arith) (λ v. same v ∙ sym (means-FALSE s v))))
+    (omega arith)
 
 -- the copy of an inner node is one
-pub copy_inner : (from to : Table) → IsReduced from → (f id : NodeId) → IsCopy from to f id → ¬ IsConstant f → ¬ IsConstant id
+pub copy_inner : (from to : Table) → IsReduced from → (f id : NodeId) → IsCopy from to f id → ¬ IsConstant f →
+    ¬ IsConstant id
 copy_inner from to reduced f id x inner constant = elim (constant_cases id constant) [
-  | inl e ↦ inner (constant_of_meaning from reduced f x.operand false (λ v. sym (x.meaning v) ∙ ap (λ g. means to g v) e ∙ means-FALSE to v))
-  | inr e ↦ inner (constant_of_meaning from reduced f x.operand true (λ v. sym (x.meaning v) ∙ ap (λ g. means to g v) e ∙ means-TRUE to v))
+  | inl e ↦ inner (constant_of_meaning from reduced f x.operand false
+      (λ v. sym (x.meaning v) ∙ ap (λ g. means to g v) e ∙ means-FALSE to v))
+  | inr e ↦ inner (constant_of_meaning from reduced f x.operand true
+      (λ v. sym (x.meaning v) ∙ ap (λ g. means to g v) e ∙ means-TRUE to v))
 ]
 
-module _ (from : Table) (reduced : IsReduced from) (f : NodeId) (known : Knows from f) (n : Node) (node : IsNode from f n)
+module _ (from : Table) (reduced : IsReduced from) (f : NodeId) (known : Knows from f) (n : Node)
+    (node : IsNode from f n)
     (r s : Table) (e : Extends r s) (lo hi : NodeId) (low : IsCopy from r n.lo lo) (high : IsCopy from s n.hi hi) where
   low_later : IsCopy from s n.lo lo
   low_later = IsCopy-Extends from r s e n.lo lo low
@@ -75,7 +86,8 @@ module _ (from : Table) (reduced : IsReduced from) (f : NodeId) (known : Knows f
   -- the copies of different functions differ
   pub copies_differ : lo ≢ hi
   copies_differ same =
-      node.differ (reduced.canonical n.lo n.hi node.lo_known node.hi_known (λ v. sym (low_later.meaning v) ∙ ap (λ g. means s g v) same ∙ high.meaning v))
+      node.differ (reduced.canonical n.lo n.hi node.lo_known node.hi_known
+      (λ v. sym (low_later.meaning v) ∙ ap (λ g. means s g v) same ∙ high.meaning v))
 
   pub copy_of_branches : (t : Table) (id : NodeId) → Knows t id → n.level ≤ level_of t id
       → ((v : ℕ → Bool) → means t id v ≡ (if v n.level then means s hi v else means s lo v)) → IsCopy from t f id
@@ -83,11 +95,13 @@ module _ (from : Table) (reduced : IsReduced from) (f : NodeId) (known : Knows f
     operand = known;
     known = there;
     deep = omega (arith, deep, node.level);
-    meaning = λ v. meaning v ∙ (λ i. if v n.level then high.meaning v i else low_later.meaning v i) ∙ sym (node.meaning v);
+    meaning = λ v. meaning v ∙ (λ i. if v n.level then high.meaning v i else low_later.meaning v i)
+        ∙ sym (node.meaning v);
   }
 
 -- what two copies and a node added is reached from the node
-pub adds_node : (a b c d : Table) → IsReduced b → IsReduced c → Extends b c → Extends c d → (lo hi id : NodeId) → Knows b lo → Knows c hi
+pub adds_node : (a b c d : Table) → IsReduced b → IsReduced c → Extends b c → Extends c d → (lo hi id : NodeId) →
+    Knows b lo → Knows c hi
     → AddsReached a b lo → AddsReached b c hi → ¬ IsConstant id → (node_of d id).lo ≡ lo → (node_of d id).hi ≡ hi
     → ((g : NodeId) → Knows d g → Knows c g ⊎ ((g ≡ id) ⊎ (g ≡ complement id))) → AddsReached a d id
 adds_node a b c d rb rc bc cd lo hi id klo khi low high inner is_lo is_hi added g known = elim (added g known) [
@@ -124,19 +138,27 @@ means_nothing from to ids empty = record {
   functions = λ i d below. absurd (omega (arith, below));
 }
 
-same_function : (from to : Table) (f g x y : NodeId) → f ≡ g → x ≡ y → IsFunction to x (means from f) → IsFunction to y (means from g)
-same_function from to f g x y of is h = subst (λ k. IsFunction to y (means from k)) of (subst (λ k. IsFunction to k (means from f)) is h)
+same_function : (from to : Table) (f g x y : NodeId) → f ≡ g → x ≡ y → IsFunction to x (means from f) →
+    IsFunction to y (means from g)
+same_function from to f g x y of is h =
+    subst (λ k. IsFunction to y (means from k)) of (subst (λ k. IsFunction to k (means from f)) is h)
 
 -- one more copy, in a store that it extended
-pub means_more : (from s t : Table) → Extends s t → (fs ids : List NodeId) → MeanTheSame from fs s ids → (f id : NodeId) → IsCopy from t f id
+pub means_more : (from s t : Table) → Extends s t → (fs ids : List NodeId) → MeanTheSame from fs s ids →
+    (f id : NodeId) → IsCopy from t f id
     → MeanTheSame from (fs ++ f ∷ []) t (ids ++ id ∷ [])
 means_more from s t e fs ids m f id copy = record {
   as_many = omega (arith, length-append fs (f ∷ []), length-append ids (id ∷ []), m.as_many);
   functions = λ i d below. elim (below_or_not i (length fs)) [
     | inl before ↦
         let was = m.functions i d before in
-        same_function from t (get_or fs i d) _ (get_or ids i d) _ (sym (get_or_append_left fs (f ∷ []) d i before)) (sym (get_or_append_left ids (id ∷ []) d i (omega (arith, before, m.as_many))))
-        (record { known = knows-Extends s t e (get_or ids i d) was.known; meaning = λ v. e.same_meaning (get_or ids i d) was.known v ∙ was.meaning v })
+        same_function from t (get_or fs i d) _ (get_or ids i d) _ (sym (get_or_append_left fs (f ∷ []) d i before))
+        (sym (get_or_append_left ids (id ∷ []) d i (omega (arith, before, m.as_many))))
+        (record {
+          known = knows-Extends s t e (get_or ids i d) was.known;
+          meaning =
+              λ v. e.same_meaning (get_or ids i d) was.known v ∙ was.meaning v;
+        })
     | inr last ↦
         let at : i ≡ length fs = omega (arith, last, below, length-append fs (f ∷ [])) in
         let there : i ≡ length ids = omega (arith, at, m.as_many) in
@@ -147,18 +169,25 @@ means_more from s t e fs ids m f id copy = record {
   ];
 }
 
-knows_each : (from s : Table) (fs ids : List NodeId) → MeanTheSame from fs s ids → (r : NodeId) → Contains ids r → Knows s r
-knows_each from s fs ids m r there = subst (Knows s) there.2 (m.functions there.0 r (omega (arith, there.1, m.as_many))).known
+knows_each : (from s : Table) (fs ids : List NodeId) → MeanTheSame from fs s ids → (r : NodeId) → Contains ids r →
+    Knows s r
+knows_each from s fs ids m r there =
+    subst (Knows s) there.2 (m.functions there.0 r (omega (arith, there.1, m.as_many))).known
 
 pub reached_nothing : (s : Table) (ids : List NodeId) → kept s ≡ 0 → AllReached s ids
 reached_nothing s ids empty g known = inl (omega (arith, known, empty))
 
-pub reached_more : (from s t : Table) → IsReduced s → Extends s t → (fs ids : List NodeId) → MeanTheSame from fs s ids → (id : NodeId)
+pub reached_more : (from s t : Table) → IsReduced s → Extends s t → (fs ids : List NodeId) → MeanTheSame from fs s ids →
+    (id : NodeId)
     → AllReached s ids → AddsReached s t id → AllReached t (ids ++ id ∷ [])
 reached_more from s t reduced e fs ids m id all adds g known = elim (adds g known) [
   | inl was ↦ elim (all g was) [
     | inl constant ↦ inl constant
-    | inr r ↦ inr (r.0, Contains-append_left ids (id ∷ []) r.0 r.1, mark_later s t reduced e r.0 g (knows_each from s fs ids m r.0 r.1) r.2)
+    | inr r ↦ inr (
+      r.0,
+      Contains-append_left ids (id ∷ []) r.0 r.1,
+      mark_later s t reduced e r.0 g (knows_each from s fs ids m r.0 r.1) r.2,
+    )
   ]
   | inr new ↦ inr (id, Contains-append_right ids (id ∷ []) id (Contains-head id []), new)
 ]

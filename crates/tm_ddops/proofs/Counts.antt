@@ -18,7 +18,9 @@ use Rattle.tm_ddops.proofs.Walks.{same_choice}
 
 choice_eq-refl : (a : Choice) → choice_eq a a ≡ true
 choice_eq-refl a =
-    λ i. eq-eqb (number_of a.test) (number_of a.test) refl i && (eq-eqb (number_of a.if_true) (number_of a.if_true) refl i && eq-eqb (number_of a.if_false) (number_of a.if_false) refl i)
+    λ i. eq-eqb (number_of a.test) (number_of a.test) refl i
+    && (eq-eqb (number_of a.if_true) (number_of a.if_true) refl i
+    && eq-eqb (number_of a.if_false) (number_of a.if_false) refl i)
 
 choice_Decides : (a b : Choice) → Decides (choice_eq a b) (a ≡ b)
 choice_Decides a b = (same_choice a b, λ e. subst (λ x. choice_eq a x ≡ true) e (choice_eq-refl a))
@@ -26,9 +28,11 @@ choice_Decides a b = (same_choice a b, λ e. subst (λ x. choice_eq a x ≡ true
 choice_equiv : IsEquivalence choice_eq
 choice_equiv = decided choice_eq choice_Decides
 
-none_equal : (test : Choice → Bool) (xs : List Choice) → list_any test xs ≡ false → AllByRecursion (λ y. test y ≡ false) xs
+none_equal : (test : Choice → Bool) (xs : List Choice) → list_any test xs ≡ false →
+    AllByRecursion (λ y. test y ≡ false) xs
 none_equal test [] h = tt
-none_equal test (x ∷ xs) h = (first (test x) (list_any test xs) h, none_equal test xs (rest (test x) (list_any test xs) h))
+none_equal test (x ∷ xs) h =
+    (first (test x) (list_any test xs) h, none_equal test xs (rest (test x) (list_any test xs) h))
   where
     first : (a b : Bool) → a || b ≡ false → a ≡ false
     first false b h = refl
@@ -42,7 +46,8 @@ either_true : (a b : Bool) → a || b ≡ true → (a ≡ true) ⊎ (b ≡ true)
 either_true true b h = inl refl
 either_true false b h = inr h
 
-module _ (s : Table) (k : Choice) (old new : Memo) (nothing : (m : Choice) → ¬ IsSome (noted old m)) (unique : IsUnique choice_eq new)
+module _ (s : Table) (k : Choice) (old new : Memo) (nothing : (m : Choice) → ¬ IsSome (noted old m))
+    (unique : IsUnique choice_eq new)
     (met : NotesOnlyMet s k old new) (choices : List Choice) (has : HasOpen s k choices) where
   noted_is_there : (q : Choice) → list_any (choice_eq q) (keys_of new.entries) ≡ true → Contains choices q
   noted_is_there q h = elim (met q (is_some-lookup (choice_eq q) new.entries ∙ h)) [
@@ -53,14 +58,17 @@ module _ (s : Table) (k : Choice) (old new : Memo) (nothing : (m : Choice) → �
   -- the notes are no more than the open choices
   notes_within : hash_map_len new ≤ length choices
   notes_within =
-      let many = length-le_from_is_member choice_equiv (keys_of new.entries) choices unique (λ q h. list_any-from_Contains choice_equiv q choices (noted_is_there q h)) in
+      let many = length-le_from_is_member choice_equiv (keys_of new.entries) choices unique
+      (λ q h. list_any-from_Contains choice_equiv q choices (noted_is_there q h)) in
       omega (arith, many, length-map new.entries (λ e. e.0))
 
   -- and fewer, where one is not noted
   notes_below : IsUnnoted s k new → hash_map_len new + 1 ≤ length choices
   notes_below u =
-      let apart = none_equal (choice_eq u.choice) (keys_of new.entries) (sym (is_some-lookup (choice_eq u.choice) new.entries) ∙ ap is_some u.absent) in
-      let many = length-le_from_is_member choice_equiv (u.choice ∷ keys_of new.entries) choices (IsDistinct-cons choice_eq u.choice (keys_of new.entries) apart unique)
+      let apart = none_equal (choice_eq u.choice) (keys_of new.entries)
+      (sym (is_some-lookup (choice_eq u.choice) new.entries) ∙ ap is_some u.absent) in
+      let many = length-le_from_is_member choice_equiv (u.choice ∷ keys_of new.entries) choices
+      (IsDistinct-cons choice_eq u.choice (keys_of new.entries) apart unique)
       (λ q h. list_any-from_Contains choice_equiv q choices (elim (either_true _ _ h) [
         | inl e ↦ subst (Contains choices) (sym (same_choice q u.choice e)) (has u.choice u.met u.open_)
         | inr rest ↦ noted_is_there q rest
@@ -69,7 +77,8 @@ module _ (s : Table) (k : Choice) (old new : Memo) (nothing : (m : Choice) → �
 
   -- a number that rises by the notes rises by no more than the open choices
   pub rises_within : {T E : Type 0} (r : Result T E) (before after : ℕ) → hash_map_len old ≡ 0
-      → OnOk r (RisesByNotes old new 0 before after) → OnErr r (RisesByNotes old new 1 before after) → OnErr r (IsUnnoted s k new)
+      → OnOk r (RisesByNotes old new 0 before after) → OnErr r (RisesByNotes old new 1 before after) →
+      OnErr r (IsUnnoted s k new)
       → after ≤ before + length choices
   rises_within (Ok x) before after empty ok err unnoted = omega (arith, ok, empty, notes_within)
   rises_within (Err x) before after empty ok err unnoted = omega (arith, err, empty, notes_below unnoted)

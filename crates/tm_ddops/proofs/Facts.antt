@@ -11,7 +11,8 @@ use Rattle.tm_dd.proofs.NodeIdLemmas.{position_of-complement}
 
 -- a constant is `FALSE` or `TRUE`
 pub constant_cases : (f : NodeId) → IsConstant f → (f ≡ FALSE) ⊎ (f ≡ TRUE)
-constant_cases f h = elim (below_two (number_of f) h) [ inl e ↦ inl (same_number f FALSE e) | inr e ↦ inr (same_number f TRUE e) ]
+constant_cases f h = elim (below_two (number_of f) h)
+    [ inl e ↦ inl (same_number f FALSE e) | inr e ↦ inr (same_number f TRUE e) ]
   where
     below_two : (n : ℕ) → n < 2 → (n ≡ 0) ⊎ (n ≡ 1)
     below_two zero h = inl refl

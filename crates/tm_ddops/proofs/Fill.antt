@@ -10,22 +10,27 @@ use Rattle.tm_dd.proofs.CallerLaws.{means-FALSE, means-TRUE}
 use Rattle.tm_ddops.specs.Least.{IsClearFrom, IsFilled, IsLeast}
 use Rattle.tm_ddops.proofs.Facts.{below_or_not, constant_cases}
 
-pub filled_constant : (s : Table) → IsReduced s → (f : NodeId) → IsConstant f → f ≢ FALSE → (values : List Bool) → IsFilled s f values values
+pub filled_constant : (s : Table) → IsReduced s → (f : NodeId) → IsConstant f → f ≢ FALSE → (values : List Bool) →
+    IsFilled s f values values
 filled_constant s reduced f constant apart values = record {
   above = λ k _. refl;
-  holds = λ v _. elim (constant_cases f constant) [ inl e ↦ absurd (apart e) | inr e ↦ ap (λ g. means s g v) e ∙ means-TRUE s v ];
+  holds = λ v _. elim (constant_cases f constant)
+      [ inl e ↦ absurd (apart e) | inr e ↦ ap (λ g. means s g v) e ∙ means-TRUE s v ];
   least = λ v _ k deep below. absurd (omega (arith, reduced.constants f constant, deep, below));
 }
 
-module _ (s : Table) (reduced : IsReduced s) (f : NodeId) (known : Knows s f) (inner : ¬ IsConstant f) (old : List Bool) (long : length old ≡ s.levels) (clear : IsClearFrom s f old) where
+module _ (s : Table) (reduced : IsReduced s) (f : NodeId) (known : Knows s f) (inner : ¬ IsConstant f) (old : List Bool)
+    (long : length old ≡ s.levels) (clear : IsClearFrom s f old) where
   node : IsNode s f (node_of s f)
   node = reduced.nodes f known inner
 
   f_true : (v : ℕ → Bool) → v (level_of s f) ≡ true → means s f v ≡ means s (node_of s f).hi v
-  f_true v h = node.meaning v ∙ ap (λ t. if t then means s (node_of s f).hi v else means s (node_of s f).lo v) (ap v node.level ∙ h)
+  f_true v h = node.meaning v
+      ∙ ap (λ t. if t then means s (node_of s f).hi v else means s (node_of s f).lo v) (ap v node.level ∙ h)
 
   f_false : (v : ℕ → Bool) → v (level_of s f) ≡ false → means s f v ≡ means s (node_of s f).lo v
-  f_false v h = node.meaning v ∙ ap (λ t. if t then means s (node_of s f).hi v else means s (node_of s f).lo v) (ap v node.level ∙ h)
+  f_false v h = node.meaning v
+      ∙ ap (λ t. if t then means s (node_of s f).hi v else means s (node_of s f).lo v) (ap v node.level ∙ h)
 
   pub clear_lo : IsClearFrom s (node_of s f).lo old
   clear_lo k deep below = clear k (omega (arith, deep, node.lo_rises, node.level)) below
@@ -34,15 +39,18 @@ module _ (s : Table) (reduced : IsReduced s) (f : NodeId) (known : Knows s f) (i
   filled_lo new x =
       let deeper : level_of s f < level_of s (node_of s f).lo = omega (arith, node.lo_rises, node.level) in
       let within : level_of s f < s.levels = omega (arith, node.below, node.level) in
-      let off : assignment new (level_of s f) ≡ false = x.above (level_of s f) deeper ∙ clear (level_of s f) (omega arith) within in
+      let off : assignment new (level_of s f) ≡ false =
+      x.above (level_of s f) deeper ∙ clear (level_of s f) (omega arith) within in
       record {
         above = λ k h. x.above k (omega (arith, h, deeper));
-        holds = λ v agree. f_false v (agree (level_of s f) (omega arith) within ∙ off) ∙ x.holds v (λ k deep below. agree k (omega (arith, deep, deeper)) below);
+        holds = λ v agree. f_false v (agree (level_of s f) (omega arith) within ∙ off)
+            ∙ x.holds v (λ k deep below. agree k (omega (arith, deep, deeper)) below);
         least = λ v h k deep below agree on. elim (below_or_not k (level_of s (node_of s f).lo)) [
           | inl above ↦ let none = x.above k above ∙ clear k deep below in cc
           | inr not_above ↦
               let v_off = agree (level_of s f) (omega arith) (omega (arith, not_above, deeper)) ∙ off in
-              x.least v (sym (f_false v v_off) ∙ h) k (omega (arith, not_above)) below (λ j jd jk. agree j (omega (arith, jd, deeper)) jk) on
+              x.least v (sym (f_false v v_off) ∙ h) k (omega (arith, not_above)) below
+              (λ j jd jk. agree j (omega (arith, jd, deeper)) jk) on
         ];
       }
 
@@ -56,22 +64,26 @@ module _ (s : Table) (reduced : IsReduced s) (f : NodeId) (known : Knows s f) (i
   here = get_or-set_same old (level_of s f) true false level_within
 
   pub clear_hi : IsClearFrom s (node_of s f).hi (set old (level_of s f) true)
-  clear_hi k deep below = other k (omega (arith, deep, node.hi_rises, node.level)) ∙ clear k (omega (arith, deep, node.hi_rises, node.level)) below
+  clear_hi k deep below = other k (omega (arith, deep, node.hi_rises, node.level))
+      ∙ clear k (omega (arith, deep, node.hi_rises, node.level)) below
 
-  pub filled_hi : (node_of s f).lo ≡ FALSE → (new : List Bool) → IsFilled s (node_of s f).hi (set old (level_of s f) true) new → IsFilled s f old new
+  pub filled_hi : (node_of s f).lo ≡ FALSE → (new : List Bool) →
+      IsFilled s (node_of s f).hi (set old (level_of s f) true) new → IsFilled s f old new
   filled_hi lo_false new x =
       let deeper : level_of s f < level_of s (node_of s f).hi = omega (arith, node.hi_rises, node.level) in
       let within : level_of s f < s.levels = omega (arith, node.below, node.level) in
       let on_here : assignment new (level_of s f) ≡ true = x.above (level_of s f) deeper ∙ here in
       record {
         above = λ k h. x.above k (omega (arith, h, deeper)) ∙ other k (omega (arith, h));
-        holds = λ v agree. f_true v (agree (level_of s f) (omega arith) within ∙ on_here) ∙ x.holds v (λ k deep below. agree k (omega (arith, deep, deeper)) below);
+        holds = λ v agree. f_true v (agree (level_of s f) (omega arith) within ∙ on_here)
+            ∙ x.holds v (λ k deep below. agree k (omega (arith, deep, deeper)) below);
         least = λ v h k deep below agree on. elim (below_or_not (level_of s f) k) [
           | inl past ↦ elim (below_or_not k (level_of s (node_of s f).hi)) [
             | inl above ↦ let none = x.above k above ∙ other k (omega (arith, past)) ∙ clear k deep below in cc
             | inr not_above ↦
                 let v_on = agree (level_of s f) (omega arith) past ∙ on_here in
-                x.least v (sym (f_true v v_on) ∙ h) k (omega (arith, not_above)) below (λ j jd jk. agree j (omega (arith, jd, deeper)) jk) on
+                x.least v (sym (f_true v v_on) ∙ h) k (omega (arith, not_above)) below
+                (λ j jd jk. agree j (omega (arith, jd, deeper)) jk) on
           ]
           | inr first ↦
               let same : k ≡ level_of s f = omega (arith, first, deep) in
@@ -84,7 +96,8 @@ module _ (s : Table) (reduced : IsReduced s) (f : NodeId) (known : Knows s f) (i
       must v h false e =
           let none : means s f v ≡ false = f_false v e ∙ ap (λ g. means s g v) lo_false ∙ means-FALSE s v in cc
 
-pub least_of_filled : (s : Table) (f : NodeId) → level_of s f ≤ s.levels → (old new : List Bool) → length new ≡ s.levels → ((k : ℕ) → k < s.levels → assignment old k ≡ false) → IsFilled s f old new → IsLeast s f new
+pub least_of_filled : (s : Table) (f : NodeId) → level_of s f ≤ s.levels → (old new : List Bool) →
+    length new ≡ s.levels → ((k : ℕ) → k < s.levels → assignment old k ≡ false) → IsFilled s f old new → IsLeast s f new
 least_of_filled s f within old new long clear x = record {
   one_a_level = long;
   holds = x.holds (assignment new) (λ k _ _. refl);
@@ -95,6 +108,7 @@ least_of_filled s f within old new long clear x = record {
 }
 
 -- a list that a slice was written back to
-pub back_is : (new old : List Bool) (n : ℕ) → length new ≡ length old → n ≡ length old → take n (new ++ drop (length new) old) ≡ new
+pub back_is : (new old : List Bool) (n : ℕ) → length new ≡ length old → n ≡ length old →
+    take n (new ++ drop (length new) old) ≡ new
 back_is new old n same is =
     take-append-le n new (drop (length new) old) (omega (arith, same, is)) ∙ take_all n new (omega (arith, same, is))

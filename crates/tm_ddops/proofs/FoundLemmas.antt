@@ -11,7 +11,8 @@ pub same_id : (f g : NodeId) → id_eq f g ≡ true → f ≡ g
 same_id f g h = same_number f g (eqb-true _ _ h)
 
 module _ (P : NodeId → NodeId → Type 0) (m n : Found) (were : (g r : NodeId) → found_at m g ≡ Some r → P g r) where
-  pub found_insert : (f id : NodeId) → Updates id_eq m n f (Some id) → P f id → (g r : NodeId) → found_at n g ≡ Some r → P g r
+  pub found_insert : (f id : NodeId) → Updates id_eq m n f (Some id) → P f id → (g r : NodeId) → found_at n g ≡ Some r →
+      P g r
   found_insert f id updates new g r h =
       by_test (id_eq f g) refl
     where
@@ -25,5 +26,6 @@ module _ (P : NodeId → NodeId → Type 0) (m n : Found) (were : (g r : NodeId)
   pub found_unchanged : IsUnchanged m n → (g r : NodeId) → found_at n g ≡ Some r → P g r
   found_unchanged e g r h = were g r (ap (lookup (id_eq g)) (sym e) ∙ h)
 
-pub found_nothing : (P : NodeId → NodeId → Type 0) (m : Found) → m.entries ≡ [] → (g r : NodeId) → found_at m g ≡ Some r → P g r
+pub found_nothing : (P : NodeId → NodeId → Type 0) (m : Found) → m.entries ≡ [] → (g r : NodeId) →
+    found_at m g ≡ Some r → P g r
 found_nothing P m empty g r h = let none : lookup (id_eq g) m.entries ≡ None = ap (lookup (id_eq g)) empty in cc

@@ -38,9 +38,11 @@ union : List NodeId → List NodeId → List NodeId
 union [] ys = ys
 union (x ∷ xs) ys = insert_id x (union xs ys)
 
-none_equal : (test : NodeId → Bool) (xs : List NodeId) → list_any test xs ≡ false → AllByRecursion (λ y. test y ≡ false) xs
+none_equal : (test : NodeId → Bool) (xs : List NodeId) → list_any test xs ≡ false →
+    AllByRecursion (λ y. test y ≡ false) xs
 none_equal test [] h = tt
-none_equal test (x ∷ xs) h = (first (test x) (list_any test xs) h, none_equal test xs (rest (test x) (list_any test xs) h))
+none_equal test (x ∷ xs) h =
+    (first (test x) (list_any test xs) h, none_equal test xs (rest (test x) (list_any test xs) h))
   where
     first : (a b : Bool) → a || b ≡ false → a ≡ false
     first false b h = refl
@@ -50,23 +52,29 @@ none_equal test (x ∷ xs) h = (first (test x) (list_any test xs) h, none_equal 
     rest false b h = h
     rest true b h = cc
 
-by_insert : (P : List NodeId → Type 0) (f : NodeId) (ids : List NodeId) → (list_any (id_eq f) ids ≡ true → P ids) → (list_any (id_eq f) ids ≡ false → P (f ∷ ids)) → P (insert_id f ids)
+by_insert : (P : List NodeId → Type 0) (f : NodeId) (ids : List NodeId) → (list_any (id_eq f) ids ≡ true → P ids) →
+    (list_any (id_eq f) ids ≡ false → P (f ∷ ids)) → P (insert_id f ids)
 unfolding insert_id
 by_insert P f ids there absent =
-    (elim (list_any (id_eq f) ids) as (λ b. list_any (id_eq f) ids ≡ b → P (elim b [ true ↦ ids | false ↦ f ∷ ids ])) [ true ↦ there | false ↦ absent ]) refl
+    (elim (list_any (id_eq f) ids)
+    as (λ b. list_any (id_eq f) ids ≡ b → P (elim b [ true ↦ ids | false ↦ f ∷ ids ]))
+    [ true ↦ there | false ↦ absent ]) refl
 
 insert_id-once : (f : NodeId) (ids : List NodeId) → IsDistinct id_eq ids → IsDistinct id_eq (insert_id f ids)
-insert_id-once f ids once = by_insert (IsDistinct id_eq) f ids (λ _. once) (λ h. IsDistinct-cons id_eq f ids (none_equal (id_eq f) ids h) once)
+insert_id-once f ids once =
+    by_insert (IsDistinct id_eq) f ids (λ _. once) (λ h. IsDistinct-cons id_eq f ids (none_equal (id_eq f) ids h) once)
 
 insert_id-there : (f : NodeId) (ids : List NodeId) → Contains (insert_id f ids) f
 insert_id-there f ids =
-    by_insert (λ l. Contains l f) f ids (λ h. Contains-from_any (λ x y. (id_Decides x y).0) f ids h) (λ _. Contains-head f ids)
+    by_insert (λ l. Contains l f) f ids (λ h. Contains-from_any (λ x y. (id_Decides x y).0) f ids h)
+    (λ _. Contains-head f ids)
 
 insert_id-kept : (f : NodeId) (ids : List NodeId) (g : NodeId) → Contains ids g → Contains (insert_id f ids) g
 insert_id-kept f ids g h = by_insert (λ l. Contains l g) f ids (λ _. h) (λ _. Contains-tail f ids g h)
 
 insert_id-only : (f : NodeId) (ids : List NodeId) (g : NodeId) → Contains (insert_id f ids) g → (f ≡ g) ⊎ Contains ids g
-insert_id-only f ids g = by_insert (λ l. Contains l g → (f ≡ g) ⊎ Contains ids g) f ids (λ _ h. inr h) (λ _ h. Contains-cons f ids g h)
+insert_id-only f ids g =
+    by_insert (λ l. Contains l g → (f ≡ g) ⊎ Contains ids g) f ids (λ _ h. inr h) (λ _ h. Contains-cons f ids g h)
 
 union-once : (xs ys : List NodeId) → IsDistinct id_eq ys → IsDistinct id_eq (union xs ys)
 unfolding union
@@ -118,12 +126,14 @@ listed_constant s f h = record {
   every = λ g r inner. absurd (inner (reaches_constant s f g h r));
 }
 
-listed_node : (s : Table) (f : NodeId) → ¬ IsConstant f → (los his : List NodeId) → Listed s (node_of s f).lo los → Listed s (node_of s f).hi his → Listed s f (insert_id f (union los his))
+listed_node : (s : Table) (f : NodeId) → ¬ IsConstant f → (los his : List NodeId) → Listed s (node_of s f).lo los →
+    Listed s (node_of s f).hi his → Listed s f (insert_id f (union los his))
 listed_node s f is_inner los his lo hi = record {
   once = insert_id-once f (union los his) (union-once los his hi.once);
   reached = λ g c. elim (insert_id-only f (union los his) g c) [
     | inl e ↦ subst (Reaches s f) e (itself f)
-    | inr rest ↦ elim (union-only los his g rest) [ inl l ↦ through_lo f g is_inner (lo.reached g l) | inr r ↦ through_hi f g is_inner (hi.reached g r) ]
+    | inr rest ↦ elim (union-only los his g rest)
+        [ inl l ↦ through_lo f g is_inner (lo.reached g l) | inr r ↦ through_hi f g is_inner (hi.reached g r) ]
   ];
   inner = λ g c. elim (insert_id-only f (union los his) g c) [
     | inl e ↦ subst (λ x. ¬ IsConstant x) e is_inner
@@ -134,10 +144,13 @@ listed_node s f is_inner los his lo hi = record {
   where
     every : (g : NodeId) → Reaches s f g → ¬ IsConstant g → Contains (insert_id f (union los his)) g
     every g (itself _) inner = insert_id-there f (union los his)
-    every g (through_lo _ _ _ rest) inner = insert_id-kept f (union los his) g (union-left los his g (lo.every g rest inner))
-    every g (through_hi _ _ _ rest) inner = insert_id-kept f (union los his) g (union-right los his g (hi.every g rest inner))
+    every g (through_lo _ _ _ rest) inner =
+        insert_id-kept f (union los his) g (union-left los his g (lo.every g rest inner))
+    every g (through_hi _ _ _ rest) inner =
+        insert_id-kept f (union los his) g (union-right los his g (hi.every g rest inner))
 
-listed : (s : Table) → IsReduced s → (n : ℕ) (f : NodeId) → number_of f < n → Knows s f → (ids : List NodeId) × Listed s f ids
+listed : (s : Table) → IsReduced s → (n : ℕ) (f : NodeId) → number_of f < n → Knows s f →
+    (ids : List NodeId) × Listed s f ids
 listed s reduced zero f h known = absurd (omega (arith, h))
 listed s reduced (suc n) f h known = elim (is_constant_cases f) [
   | inl constant ↦ ([], listed_constant s f constant)
@@ -164,7 +177,8 @@ has_size s reduced f known =
 -- ---- steps
 
 -- what a cofactor reaches is reached
-pub reaches_cofactor : (s : Table) → IsReduced s → (f : NodeId) → Knows s f → (level : ℕ) → level < s.levels → (b : Bool) (g : NodeId) → Reaches s (cofactor s f level b) g → Reaches s f g
+pub reaches_cofactor : (s : Table) → IsReduced s → (f : NodeId) → Knows s f → (level : ℕ) → level < s.levels →
+    (b : Bool) (g : NodeId) → Reaches s (cofactor s f level b) g → Reaches s f g
 reaches_cofactor s reduced f known level within true g =
     by_cofactor s reduced f known level within (λ h. Reaches s h g → Reaches s f g) true
     (λ e r. through_hi f g (inner_at s reduced f known level within e) r) (λ _ r. r)
@@ -173,16 +187,19 @@ reaches_cofactor s reduced f known level within false g =
     (λ e r. through_lo f g (inner_at s reduced f known level within e) r) (λ _ r. r)
 
 -- a store that was extended reaches nothing more from what was known
-pub reaches_before : (s t : Table) → IsReduced s → Extends s t → (f g : NodeId) → Knows s f → Reaches t f g → Reaches s f g
+pub reaches_before : (s t : Table) → IsReduced s → Extends s t → (f g : NodeId) → Knows s f → Reaches t f g →
+    Reaches s f g
 reaches_before s t reduced e f g known (itself _) = itself f
 reaches_before s t reduced e f g known (through_lo _ _ inner rest) =
     let same = ap (λ n. n.lo) (e.same_node f known) in
     through_lo f g inner (subst (λ x. Reaches s x g) same
-    (reaches_before s t reduced e (node_of t f).lo g (subst (Knows s) (sym same) (reduced.nodes f known inner).lo_known) rest))
+    (reaches_before s t reduced e (node_of t f).lo g (subst (Knows s) (sym same) (reduced.nodes f known inner).lo_known)
+    rest))
 reaches_before s t reduced e f g known (through_hi _ _ inner rest) =
     let same = ap (λ n. n.hi) (e.same_node f known) in
     through_hi f g inner (subst (λ x. Reaches s x g) same
-    (reaches_before s t reduced e (node_of t f).hi g (subst (Knows s) (sym same) (reduced.nodes f known inner).hi_known) rest))
+    (reaches_before s t reduced e (node_of t f).hi g (subst (Knows s) (sym same) (reduced.nodes f known inner).hi_known)
+    rest))
 
 -- ---- gathering
 
@@ -192,15 +209,19 @@ closed_empty s ids empty = record {
   below = λ g h c. absurd (Contains-nil g (subst (λ l. Contains l g) empty c));
 }
 
-pub gathered_already : (s : Table) (f : NodeId) (ids : List NodeId) → IsClosed s ids → IsConstant f ⊎ Contains ids f → IsGathered s f ids ids
+pub gathered_already : (s : Table) (f : NodeId) (ids : List NodeId) → IsClosed s ids → IsConstant f ⊎ Contains ids f →
+    IsGathered s f ids ids
 gathered_already s f ids closed there = record { closed = closed; kept = λ g c. c; there = there; only = λ g c. inl c }
 
 -- what is gathered from both children, and the node itself
-pub gathered : (s : Table) (f : NodeId) → ¬ IsConstant f → (a b c d : List NodeId) → IsGathered s (node_of s f).lo a b → IsGathered s (node_of s f).hi b c
-    → Contains d f → ((g : NodeId) → Contains c g → Contains d g) → ((g : NodeId) → Contains d g → (f ≡ g) ⊎ Contains c g) → IsGathered s f a d
+pub gathered : (s : Table) (f : NodeId) → ¬ IsConstant f → (a b c d : List NodeId) → IsGathered s (node_of s f).lo a b →
+    IsGathered s (node_of s f).hi b c
+    → Contains d f → ((g : NodeId) → Contains c g → Contains d g) →
+    ((g : NodeId) → Contains d g → (f ≡ g) ⊎ Contains c g) → IsGathered s f a d
 gathered s f is_inner a b c d lo hi there more only = record {
   closed = record {
-    inner = λ g h. elim (only g h) [ inl e ↦ subst (λ x. ¬ IsConstant x) e is_inner | inr rest ↦ hi.closed.inner g rest ];
+    inner = λ g h. elim (only g h)
+        [ inl e ↦ subst (λ x. ¬ IsConstant x) e is_inner | inr rest ↦ hi.closed.inner g rest ];
     below = λ g h in_d r inner. elim (only g in_d) [
       | inl e ↦ from_f h (subst (λ x. Reaches s x h) (sym e) r) inner
       | inr rest ↦ more h (hi.closed.below g h rest r inner)
@@ -228,10 +249,12 @@ gathered s f is_inner a b c d lo hi there more only = record {
       | inr in_c ↦ more h (hi.closed.below (node_of s f).hi h in_c rest inner)
     ]
 
-pub inner_from_gathered : (s : Table) (f : NodeId) (old ids : List NodeId) → old ≡ [] → IsDistinct id_eq ids → IsGathered s f old ids → IsInnerNodes s f ids
+pub inner_from_gathered : (s : Table) (f : NodeId) (old ids : List NodeId) → old ≡ [] → IsDistinct id_eq ids →
+    IsGathered s f old ids → IsInnerNodes s f ids
 inner_from_gathered s f old ids empty distinct g = record {
   once = AllPairs-from_IsDistinct id_Decides ids distinct;
-  reached = λ h c. elim (g.only h c) [ inl was ↦ absurd (Contains-nil h (subst (λ l. Contains l h) empty was)) | inr r ↦ r ];
+  reached = λ h c. elim (g.only h c)
+      [ inl was ↦ absurd (Contains-nil h (subst (λ l. Contains l h) empty was)) | inr r ↦ r ];
   inner = g.closed.inner;
   every = λ h r inner. elim g.there [
     | inl constant ↦ absurd (inner (reaches_constant s f h constant r))
@@ -244,12 +267,14 @@ inner_from_gathered s f old ids empty distinct g = record {
 pub in_set : (ids : List NodeId) (g : NodeId) → list_any (id_eq g) ids ≡ true → Contains ids g
 in_set ids g h = Contains-from_any (λ x y. (id_Decides x y).0) g ids h
 
-module _ (old new : List NodeId) (f : NodeId) (updates : (q : NodeId) → list_any (id_eq q) new ≡ cond (id_eq f q) true (list_any (id_eq q) old)) where
+module _ (old new : List NodeId) (f : NodeId)
+    (updates : (q : NodeId) → list_any (id_eq q) new ≡ cond (id_eq f q) true (list_any (id_eq q) old)) where
   pub set_there : Contains new f
   set_there = in_set new f (updates f ∙ ap (λ t. cond t true (list_any (id_eq f) old)) (id_equiv.refl f))
 
   pub set_more : (g : NodeId) → Contains old g → Contains new g
-  set_more g h = in_set new g (updates g ∙ ap (cond (id_eq f g) true) (list_any-from_Contains id_equiv g old h) ∙ both (id_eq f g))
+  set_more g h = in_set new g
+      (updates g ∙ ap (cond (id_eq f g) true) (list_any-from_Contains id_equiv g old h) ∙ both (id_eq f g))
     where
       both : (b : Bool) → cond b true true ≡ true
       both true = refl
@@ -258,6 +283,7 @@ module _ (old new : List NodeId) (f : NodeId) (updates : (q : NodeId) → list_a
   pub set_only : (g : NodeId) → Contains new g → (f ≡ g) ⊎ Contains old g
   set_only g h = by_test (id_eq f g) refl (sym (updates g) ∙ list_any-from_Contains id_equiv g new h)
     where
-      by_test : (b : Bool) → id_eq f g ≡ b → cond (id_eq f g) true (list_any (id_eq g) old) ≡ true → (f ≡ g) ⊎ Contains old g
+      by_test : (b : Bool) → id_eq f g ≡ b → cond (id_eq f g) true (list_any (id_eq g) old) ≡ true →
+          (f ≡ g) ⊎ Contains old g
       by_test true e h = inl ((id_Decides f g).0 e)
       by_test false e h = inr (in_set old g (ap (λ t. cond t true (list_any (id_eq g) old)) (sym e) ∙ h))

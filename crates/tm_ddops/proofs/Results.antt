@@ -17,13 +17,15 @@ module _ (s t : Table) (e : Extends s t) where
       → (v : ℕ → Bool) (level : ℕ) → substituted t parts v level ≡ substituted s parts v level
   substituted-Extends [] known v level = refl
   substituted-Extends (p ∷ parts) known v level =
-      elim (eqb p.0 level) as (λ b. option_map_or (λ part. means t part v) (cond b (Some p.1) (lookup (λ l. eqb l level) parts)) (v level)
+      elim (eqb p.0 level) as (λ b.
+      option_map_or (λ part. means t part v) (cond b (Some p.1) (lookup (λ l. eqb l level) parts)) (v level)
       ≡ option_map_or (λ part. means s part v) (cond b (Some p.1) (lookup (λ l. eqb l level) parts)) (v level)) [
         | true ↦ e.same_meaning p.1 (known p.1 (Contains-head p.1 (map (λ q. q.1) parts))) v
         | false ↦ substituted-Extends parts (λ f h. known f (Contains-tail p.1 (map (λ q. q.1) parts) f h)) v level
       ]
 
-  pub operation_value-Extends : (o : Operation) → ((f : NodeId) → Contains (operands o) f → Knows s f) → (v : ℕ → Bool) → operation_value t o v ≡ operation_value s o v
+  pub operation_value-Extends : (o : Operation) → ((f : NodeId) → Contains (operands o) f → Knows s f) →
+      (v : ℕ → Bool) → operation_value t o v ≡ operation_value s o v
   operation_value-Extends (And f g) known v =
       let kf = known f (Contains-head f (g ∷ [])) in
       let kg = known g (Contains-tail f (g ∷ []) g (Contains-head g [])) in
@@ -51,7 +53,8 @@ module _ (s t : Table) (e : Extends s t) where
     operands_known = λ f h. knows-Extends s t e f (r.operands_known f h);
     function = record {
       known = knows-Extends s t e id r.function.known;
-      meaning = λ v. e.same_meaning id r.function.known v ∙ r.function.meaning v ∙ sym (operation_value-Extends o r.operands_known v);
+      meaning = λ v. e.same_meaning id r.function.known v ∙ r.function.meaning v
+          ∙ sym (operation_value-Extends o r.operands_known v);
     };
   }
 
@@ -60,4 +63,5 @@ module _ (s t : Table) (e : Extends s t) where
 
 -- two results of an operation are one
 pub one_result : (s : Table) → IsReduced s → (o : Operation) (f g : NodeId) → IsResult s o f → IsResult s o g → f ≡ g
-one_result s reduced o f g a b = reduced.canonical f g a.function.known b.function.known (λ v. a.function.meaning v ∙ sym (b.function.meaning v))
+one_result s reduced o f g a b =
+    reduced.canonical f g a.function.known b.function.known (λ v. a.function.meaning v ∙ sym (b.function.meaning v))

@@ -28,13 +28,15 @@ manager_after m n sound e reduced only once few = record {
 }
 
 -- a manager whose store alone was extended
-pub manager_extended : (m n : Diagrams) → IsManager m → Extends m.table n.table → IsReduced n.table → n.results ≡ m.results → IsManager n
+pub manager_extended : (m n : Diagrams) → IsManager m → Extends m.table n.table → IsReduced n.table →
+    n.results ≡ m.results → IsManager n
 manager_extended m n sound e reduced same =
     manager_after m n sound e reduced (λ o id h. inl (subst (λ rs. Contains rs (o, id)) same h))
     (subst (AllPairs (λ a b. a.0 ≢ b.0)) (sym same) sound.once) (subst (λ rs. length rs ≤ 65536) (sym same) sound.few)
 
 -- a result of a choice is one of the operation that has its value
-pub result_of_choice : (s t : Table) → Extends s t → (o : Operation) (k : Choice) (id : NodeId) → ((f : NodeId) → Contains (operands o) f → Knows s f)
+pub result_of_choice : (s t : Table) → Extends s t → (o : Operation) (k : Choice) (id : NodeId) →
+    ((f : NodeId) → Contains (operands o) f → Knows s f)
     → ((v : ℕ → Bool) → choice_value t k v ≡ operation_value t o v) → IsChoice t k id → IsResult t o id
 result_of_choice s t e o k id known same c = record {
   operands_known = λ f h. knows-Extends s t e f (known f h);
@@ -51,13 +53,15 @@ manager_empty n reduced empty = record {
 }
 
 -- a remembered result that is told is true
-pub result_told : (s : Table) (results : List (Operation × NodeId)) (o : Operation) (r : Option NodeId) → AreResults s results
+pub result_told : (s : Table) (results : List (Operation × NodeId)) (o : Operation) (r : Option NodeId) →
+    AreResults s results
     → IfSome r (λ id. Contains results (o, id)) → IfSome r (IsResult s o)
 result_told s results o None are told = tt
 result_told s results o (Some id) are told = are o id told
 
 -- a manager whose store was extended and that remembers one more result
-pub manager_remembers : (m n : Diagrams) → IsManager m → Extends m.table n.table → IsReduced n.table → (o : Operation) (id : NodeId) → IsResult n.table o id
+pub manager_remembers : (m n : Diagrams) → IsManager m → Extends m.table n.table → IsReduced n.table →
+    (o : Operation) (id : NodeId) → IsResult n.table o id
     → ((e : Operation × NodeId) → Contains n.results e → Contains m.results e ⊎ (e ≡ (o, id)))
     → AllPairs (λ a b. a.0 ≢ b.0) n.results → length n.results ≤ 65536 → IsManager n
 manager_remembers m n sound e reduced o id new only once few =

@@ -30,17 +30,21 @@ with_value-other : (v : ℕ → Bool) (level : ℕ) (b : Bool) (k : ℕ) → k �
 with_value-other v level b k apart = ap (λ t. if t then b else v k) (ne_eqb k level apart)
 
 by_level : {P : Type 0} (k level : ℕ) → (k ≡ level → P) → (k ≢ level → P) → P
-by_level {P} k level here other = elim (eqb k level) as (λ t. eqb k level ≡ t → P) [ true ↦ λ e. here (eqb-true k level e) | false ↦ λ e. other (eqb-false k level e) ] refl
+by_level {P} k level here other =
+    elim (eqb k level) as (λ t. eqb k level ≡ t → P)
+    [ true ↦ λ e. here (eqb-true k level e) | false ↦ λ e. other (eqb-false k level e) ] refl
 
 by_value : {P : Type 0} (b : Bool) → (b ≡ true → P) → (b ≡ false → P) → P
 by_value true on off = on refl
 by_value false on off = off refl
 
 -- values that agree below a level do so below the next one, where both have one value there
-with_value-agree : (n : ℕ) (b : Bool) (v w : ℕ → Bool) → ((k : ℕ) → k < n → v k ≡ w k) → (k : ℕ) → k < suc n → with_value v n b k ≡ with_value w n b k
+with_value-agree : (n : ℕ) (b : Bool) (v w : ℕ → Bool) → ((k : ℕ) → k < n → v k ≡ w k) → (k : ℕ) → k < suc n →
+    with_value v n b k ≡ with_value w n b k
 with_value-agree n b v w agree k below = by_level k n
     (λ e. ap (λ t. if t then b else v k) (eq-eqb k n e) ∙ sym (ap (λ t. if t then b else w k) (eq-eqb k n e)))
-    (λ apart. with_value-other v n b k apart ∙ agree k (omega (arith, below, apart)) ∙ sym (with_value-other w n b k apart))
+    (λ apart. with_value-other v n b k apart ∙ agree k (omega (arith, below, apart))
+    ∙ sym (with_value-other w n b k apart))
 
 -- a level's own value changes nothing
 with_value-own : (v : ℕ → Bool) (n k : ℕ) → v k ≡ with_value v n (v n) k
@@ -64,12 +68,15 @@ decided (suc n) p reads =
       | inr off ↦ inr (with_value off.0 n true, off.1)
       | inl on_true ↦ elim (half false) [
         | inr off ↦ inr (with_value off.0 n false, off.1)
-        | inl on_false ↦ inl (λ v. reads v (with_value v n (v n)) (λ k _. with_value-own v n k) ∙ both (at true v) (at false v) v (on_true v) (on_false v))
+        | inl on_false ↦ inl (λ v. reads v (with_value v n (v n)) (λ k _. with_value-own v n k)
+            ∙ both (at true v) (at false v) v (on_true v) (on_false v))
       ]
     ]
   where
-    both : (a b : Bool) (v : ℕ → Bool) → p (with_value v n true) ≡ true → p (with_value v n false) ≡ true → p (with_value v n (v n)) ≡ true
-    both a b v on off = by_value (v n) (λ e. ap (λ t. p (with_value v n t)) e ∙ on) (λ e. ap (λ t. p (with_value v n t)) e ∙ off)
+    both : (a b : Bool) (v : ℕ → Bool) → p (with_value v n true) ≡ true → p (with_value v n false) ≡ true →
+        p (with_value v n (v n)) ≡ true
+    both a b v on off = by_value (v n) (λ e. ap (λ t. p (with_value v n t)) e ∙ on)
+        (λ e. ap (λ t. p (with_value v n t)) e ∙ off)
 
 -- whether two values are one
 agrees : Bool → Bool → Bool
@@ -96,7 +103,9 @@ module _ (s : Table) (reduced : IsReduced s) where
       elim (decided s.levels same (λ v w agree i. agrees
       (reduced.independent f known_f v w (λ k _ below. agree k below) i)
       (reduced.independent g known_g v w (λ k _ below. agree k below) i))) [
-        | inl everywhere ↦ absurd (apart (reduced.canonical f g known_f known_g (λ v. agrees-true (means s f v) (means s g v) (everywhere v))))
+        | inl everywhere ↦ absurd
+            (apart (reduced.canonical f g known_f known_g
+            (λ v. agrees-true (means s f v) (means s g v) (everywhere v))))
         | inr somewhere ↦ (somewhere.0, agrees-false (means s f somewhere.0) (means s g somewhere.0) somewhere.1)
       ]
 
@@ -105,8 +114,10 @@ module _ (s : Table) (reduced : IsReduced s) where
   -- what is known reaches what is known
   pub known_reached : (f g : NodeId) → Knows s f → Reaches s f g → Knows s g
   known_reached f g known (itself _) = known
-  known_reached f g known (through_lo _ _ inner rest) = known_reached (node_of s f).lo g (reduced.nodes f known inner).lo_known rest
-  known_reached f g known (through_hi _ _ inner rest) = known_reached (node_of s f).hi g (reduced.nodes f known inner).hi_known rest
+  known_reached f g known (through_lo _ _ inner rest) =
+      known_reached (node_of s f).lo g (reduced.nodes f known inner).lo_known rest
+  known_reached f g known (through_hi _ _ inner rest) =
+      known_reached (node_of s f).hi g (reduced.nodes f known inner).hi_known rest
 
   -- what is reached stands on the same level or on a deeper one
   level_rises : (f g : NodeId) → Knows s f → Reaches s f g → level_of s f ≤ level_of s g
@@ -119,22 +130,30 @@ module _ (s : Table) (reduced : IsReduced s) where
       omega (arith, node.level, node.hi_rises, level_rises (node_of s f).hi g node.hi_known rest)
 
   -- a function does not depend on the levels above its own
-  ignores : (f : NodeId) → Knows s f → (v : ℕ → Bool) (level : ℕ) (b : Bool) → level < level_of s f → means s f (with_value v level b) ≡ means s f v
-  ignores f known v level b above = reduced.independent f known (with_value v level b) v (λ k deep _. with_value-other v level b k (omega (arith, above, deep)))
+  ignores : (f : NodeId) → Knows s f → (v : ℕ → Bool) (level : ℕ) (b : Bool) → level < level_of s f →
+      means s f (with_value v level b) ≡ means s f v
+  ignores f known v level b above =
+      reduced.independent f known (with_value v level b) v
+      (λ k deep _. with_value-other v level b k (omega (arith, above, deep)))
 
   -- the order in which two levels get their values does not count
   swaps : (f : NodeId) → Knows s f → (v : ℕ → Bool) (level k : ℕ) (b c : Bool) → level ≢ k
       → means s f (with_value (with_value v level b) k c) ≡ means s f (with_value (with_value v k c) level b)
-  swaps f known v level k b c apart = reduced.independent f known (with_value (with_value v level b) k c) (with_value (with_value v k c) level b) (λ j _ _. at j)
+  swaps f known v level k b c apart =
+      reduced.independent f known (with_value (with_value v level b) k c) (with_value (with_value v k c) level b)
+      (λ j _ _. at j)
     where
       at : (j : ℕ) → with_value (with_value v level b) k c j ≡ with_value (with_value v k c) level b j
       at j = by_level j k
           (λ e. ap (λ t. if t then c else with_value v level b j) (eq-eqb j k e)
-          ∙ sym (with_value-other (with_value v k c) level b j (λ h. apart (sym h ∙ e)) ∙ ap (λ t. if t then c else v j) (eq-eqb j k e)))
+          ∙ sym (with_value-other (with_value v k c) level b j (λ h. apart (sym h ∙ e))
+          ∙ ap (λ t. if t then c else v j) (eq-eqb j k e)))
           (λ other. with_value-other (with_value v level b) k c j other
           ∙ by_level j level
-          (λ e. ap (λ t. if t then b else v j) (eq-eqb j level e) ∙ sym (ap (λ t. if t then b else with_value v k c j) (eq-eqb j level e)))
-          (λ h. with_value-other v level b j h ∙ sym (with_value-other (with_value v k c) level b j h ∙ with_value-other v k c j other)))
+          (λ e. ap (λ t. if t then b else v j) (eq-eqb j level e)
+          ∙ sym (ap (λ t. if t then b else with_value v k c j) (eq-eqb j level e)))
+          (λ h. with_value-other v level b j h
+          ∙ sym (with_value-other (with_value v k c) level b j h ∙ with_value-other v k c j other)))
 
   module _ (f : NodeId) (known : Knows s f) (inner : ¬ IsConstant f) where
     node : IsNode s f (node_of s f)
@@ -144,14 +163,16 @@ module _ (s : Table) (reduced : IsReduced s) where
     on_level : (v : ℕ → Bool) → means s f (with_value v (node_of s f).level true) ≡ means s (node_of s f).hi v
     on_level v =
         node.meaning (with_value v (node_of s f).level true)
-        ∙ ap (λ t. if t then means s (node_of s f).hi (with_value v (node_of s f).level true) else means s (node_of s f).lo (with_value v (node_of s f).level true))
+        ∙ ap (λ t. if t then means s (node_of s f).hi (with_value v (node_of s f).level true)
+        else means s (node_of s f).lo (with_value v (node_of s f).level true))
         (with_value-same v (node_of s f).level true)
         ∙ ignores (node_of s f).hi node.hi_known v (node_of s f).level true node.hi_rises
 
     off_level : (v : ℕ → Bool) → means s f (with_value v (node_of s f).level false) ≡ means s (node_of s f).lo v
     off_level v =
         node.meaning (with_value v (node_of s f).level false)
-        ∙ ap (λ t. if t then means s (node_of s f).hi (with_value v (node_of s f).level false) else means s (node_of s f).lo (with_value v (node_of s f).level false))
+        ∙ ap (λ t. if t then means s (node_of s f).hi (with_value v (node_of s f).level false)
+        else means s (node_of s f).lo (with_value v (node_of s f).level false))
         (with_value-same v (node_of s f).level false)
         ∙ ignores (node_of s f).lo node.lo_known v (node_of s f).level false node.lo_rises
 
@@ -164,13 +185,15 @@ module _ (s : Table) (reduced : IsReduced s) where
     -- and on the deeper levels on which one of its branches depends
     from_lo : (k : ℕ) → (node_of s f).level ≢ k → DependsOn s (node_of s f).lo k → DependsOn s f k
     from_lo k apart d =
-        let at : (b : Bool) → means s f (with_value (with_value d.0 (node_of s f).level false) k b) ≡ means s (node_of s f).lo (with_value d.0 k b) =
+        let at : (b : Bool) → means s f (with_value (with_value d.0 (node_of s f).level false) k b)
+        ≡ means s (node_of s f).lo (with_value d.0 k b) =
         λ b. swaps f known d.0 (node_of s f).level k false b apart ∙ off_level (with_value d.0 k b) in
         (with_value d.0 (node_of s f).level false, λ e. d.1 (sym (at true) ∙ e ∙ at false))
 
     from_hi : (k : ℕ) → (node_of s f).level ≢ k → DependsOn s (node_of s f).hi k → DependsOn s f k
     from_hi k apart d =
-        let at : (b : Bool) → means s f (with_value (with_value d.0 (node_of s f).level true) k b) ≡ means s (node_of s f).hi (with_value d.0 k b) =
+        let at : (b : Bool) → means s f (with_value (with_value d.0 (node_of s f).level true) k b)
+        ≡ means s (node_of s f).hi (with_value d.0 k b) =
         λ b. swaps f known d.0 (node_of s f).level k true b apart ∙ on_level (with_value d.0 k b) in
         (with_value d.0 (node_of s f).level true, λ e. d.1 (sym (at true) ∙ e ∙ at false))
 
@@ -180,7 +203,8 @@ module _ (s : Table) (reduced : IsReduced s) where
         → means s (node_of s f).hi (with_value v k true) ≡ means s (node_of s f).hi (with_value v k false)
         → means s f (with_value v k true) ≡ means s f (with_value v k false)
     from_branches k apart v lo hi =
-        let at : (b : Bool) → with_value v k b (node_of s f).level ≡ v (node_of s f).level = λ b. with_value-other v k b (node_of s f).level apart in
+        let at : (b : Bool) → with_value v k b (node_of s f).level ≡ v (node_of s f).level =
+        λ b. with_value-other v k b (node_of s f).level apart in
         node.meaning (with_value v k true)
         ∙ (λ i. if (at true ∙ sym (at false)) i then hi i else lo i)
         ∙ sym (node.meaning (with_value v k false))
@@ -190,15 +214,18 @@ module _ (s : Table) (reduced : IsReduced s) where
   depends_reached f g known (itself _) inner = own_level f known inner
   depends_reached f g known (through_lo _ _ is_inner rest) inner =
       let node = reduced.nodes f known is_inner in
-      from_lo f known is_inner (level_of s g) (omega (arith, node.lo_rises, level_rises (node_of s f).lo g node.lo_known rest))
+      from_lo f known is_inner (level_of s g)
+      (omega (arith, node.lo_rises, level_rises (node_of s f).lo g node.lo_known rest))
       (depends_reached (node_of s f).lo g node.lo_known rest inner)
   depends_reached f g known (through_hi _ _ is_inner rest) inner =
       let node = reduced.nodes f known is_inner in
-      from_hi f known is_inner (level_of s g) (omega (arith, node.hi_rises, level_rises (node_of s f).hi g node.hi_known rest))
+      from_hi f known is_inner (level_of s g)
+      (omega (arith, node.hi_rises, level_rises (node_of s f).hi g node.hi_known rest))
       (depends_reached (node_of s f).hi g node.hi_known rest inner)
 
   -- and on no other level
-  depends_not : (n : ℕ) (f : NodeId) → number_of f < n → Knows s f → (k : ℕ) → ((g : NodeId) → Reaches s f g → ¬ IsConstant g → level_of s g ≢ k)
+  depends_not : (n : ℕ) (f : NodeId) → number_of f < n → Knows s f → (k : ℕ) →
+      ((g : NodeId) → Reaches s f g → ¬ IsConstant g → level_of s g ≢ k)
       → (v : ℕ → Bool) → means s f (with_value v k true) ≡ means s f (with_value v k false)
   depends_not zero f small known k none v = absurd (omega (arith, small))
   depends_not (suc n) f small known k none v = elim (is_constant_cases f) [
@@ -207,18 +234,23 @@ module _ (s : Table) (reduced : IsReduced s) where
     | inr inner ↦
         let node = reduced.nodes f known inner in
         from_branches f known inner k (λ e. none f (itself f) inner (sym node.level ∙ e)) v
-        (depends_not n (node_of s f).lo (omega (arith, small, node.lo_smaller)) node.lo_known k (λ g r. none g (through_lo f g inner r)) v)
-        (depends_not n (node_of s f).hi (omega (arith, small, node.hi_smaller)) node.hi_known k (λ g r. none g (through_hi f g inner r)) v)
+        (depends_not n (node_of s f).lo (omega (arith, small, node.lo_smaller)) node.lo_known k
+        (λ g r. none g (through_lo f g inner r)) v)
+        (depends_not n (node_of s f).hi (omega (arith, small, node.hi_smaller)) node.hi_known k
+        (λ g r. none g (through_hi f g inner r)) v)
   ]
 
   -- the levels of the inner nodes that are reached are those on which the function depends
-  pub support_exact : (f : NodeId) → Knows s f → (ids : List NodeId) → IsInnerNodes s f ids → (marks : List Bool) → length marks ≡ s.levels
-      → ((k : ℕ) → k < s.levels → get_or marks k false ≡ list_any (λ id. eqb (level_of s id) k) ids) → (k : ℕ) → (get_or marks k false ≡ true) ↔ DependsOn s f k
+  pub support_exact : (f : NodeId) → Knows s f → (ids : List NodeId) → IsInnerNodes s f ids → (marks : List Bool) →
+      length marks ≡ s.levels
+      → ((k : ℕ) → k < s.levels → get_or marks k false ≡ list_any (λ id. eqb (level_of s id) k) ids) → (k : ℕ) →
+      (get_or marks k false ≡ true) ↔ DependsOn s f k
   support_exact f known ids inner marks long marked k = (depends, marks_it)
     where
       depends : get_or marks k false ≡ true → DependsOn s f k
       depends on = elim (below_or_not k s.levels) [
-        | inr above ↦ let off : get_or marks k false ≡ false = get_or_past marks k false (omega (arith, above, long)) in cc
+        | inr above ↦ let off : get_or marks k false ≡ false = get_or_past marks k false (omega (arith, above, long)) in
+            cc
         | inl below ↦
             let found = Any-from_list_any (λ id. eqb (level_of s id) k) ids (sym (marked k below) ∙ on) in
             let there : Contains ids found.1 = (found.0, found.2, found.3) in
@@ -229,8 +261,10 @@ module _ (s : Table) (reduced : IsReduced s) where
       none : get_or marks k false ≡ false → (g : NodeId) → Reaches s f g → ¬ IsConstant g → level_of s g ≢ k
       none off g r is_inner e =
           let there = inner.every g r is_inner in
-          let below : k < s.levels = omega (arith, level_of-inner s reduced g (known_reached f g known r) is_inner, e) in
-          let on = marked k below ∙ list_any-from_Any (λ id. eqb (level_of s id) k) ids (there.0, g, there.1, there.2, eq-eqb (level_of s g) k e) in cc
+          let below : k < s.levels =
+          omega (arith, level_of-inner s reduced g (known_reached f g known r) is_inner, e) in
+          let on = marked k below ∙ list_any-from_Any (λ id. eqb (level_of s id) k) ids
+          (there.0, g, there.1, there.2, eq-eqb (level_of s g) k e) in cc
 
       marks_it : DependsOn s f k → get_or marks k false ≡ true
       marks_it d = by_value (get_or marks k false) (λ on. on)
@@ -239,20 +273,25 @@ module _ (s : Table) (reduced : IsReduced s) where
 -- ---- marks and lists
 
 -- an item of a loop over a list is in the list
-pub item_there : {A X : Type 0} (shows : A → X) (all : List X) (xs : List A) (s t u : List X) (r : Option A) (x : A) → s ≡ all → Yields (TakesFirst shows) s xs t → r ≡ Some x
+pub item_there : {A X : Type 0} (shows : A → X) (all : List X) (xs : List A) (s t u : List X) (r : Option A) (x : A) →
+    s ≡ all → Yields (TakesFirst shows) s xs t → r ≡ Some x
     → TakesFirst shows t r u → Contains all (shows x)
-item_there shows all xs s t u r x start y is step = All-turn shows (Contains all) all xs s t u r x (All-contains_itself all) start y is step
+item_there shows all xs s t u r x start y is step =
+    All-turn shows (Contains all) all xs s t u r x (All-contains_itself all) start y is step
 
 -- one more mark, for one more item
-pub marked_more : {A : Type 0} (level_at : A → ℕ) (count : ℕ) (marks : List Bool) (xs : List A) (x : A) (level : ℕ) → level ≡ level_at x → level < length marks
+pub marked_more : {A : Type 0} (level_at : A → ℕ) (count : ℕ) (marks : List Bool) (xs : List A) (x : A) (level : ℕ) →
+    level ≡ level_at x → level < length marks
     → ((k : ℕ) → k < count → get_or marks k false ≡ list_any (λ y. eqb (level_at y) k) xs)
     → (k : ℕ) → k < count → get_or (set marks level true) k false ≡ list_any (λ y. eqb (level_at y) k) (xs ++ x ∷ [])
 marked_more level_at count marks xs x level same within marked k below =
     by_level k level
     (λ e. ap (λ j. get_or (set marks level true) j false) e ∙ get_or-set_same marks level true false within
-    ∙ sym (last_true (list_any (λ y. eqb (level_at y) k) xs) (eqb (level_at x) k) (eq-eqb (level_at x) k (sym (e ∙ same)))))
+    ∙ sym (last_true (list_any (λ y. eqb (level_at y) k) xs) (eqb (level_at x) k)
+    (eq-eqb (level_at x) k (sym (e ∙ same)))))
     (λ other. get_or-set_other marks level k true false other ∙ marked k below
-    ∙ sym (last_false (list_any (λ y. eqb (level_at y) k) xs) (eqb (level_at x) k) (ne_eqb (level_at x) k (λ e. other (sym (same ∙ e))))))
+    ∙ sym (last_false (list_any (λ y. eqb (level_at y) k) xs) (eqb (level_at x) k)
+    (ne_eqb (level_at x) k (λ e. other (sym (same ∙ e))))))
     ∙ sym (list_any-append (λ y. eqb (level_at y) k) xs (x ∷ []))
   where
     last_true : (a b : Bool) → b ≡ true → a || (b || false) ≡ true
@@ -265,7 +304,8 @@ marked_more level_at count marks xs x level same within marked k below =
     last_false false false h = refl
     last_false false true h = h
 
-pub any-map : {A B : Type 0} (g : A → B) (p : B → Bool) (xs : List A) → list_any (λ x. p (g x)) xs ≡ list_any p (map g xs)
+pub any-map : {A B : Type 0} (g : A → B) (p : B → Bool) (xs : List A) →
+    list_any (λ x. p (g x)) xs ≡ list_any p (map g xs)
 any-map g p [] = refl
 any-map g p (x ∷ xs) = ap (λ t. p (g x) || t) (any-map g p xs)
 
@@ -276,11 +316,13 @@ passing p n = filter p (map (λ k. k) (range_with_len 0 n))
 Contains-filter : (p : ℕ → Bool) (xs : List ℕ) (k : ℕ) → p k ≡ true → Contains xs k → Contains (filter p xs) k
 Contains-filter p [] k on h = absurd (Contains-nil k h)
 Contains-filter p (x ∷ xs) k on h = by_value (p x)
-    (λ passes. subst (λ t. Contains (cond t (x ∷ filter p xs) (filter p xs)) k) (sym passes) (elim (Contains-cons x xs k h) [
+    (λ passes. subst (λ t. Contains (cond t (x ∷ filter p xs) (filter p xs)) k) (sym passes)
+    (elim (Contains-cons x xs k h) [
       | inl e ↦ subst (Contains (x ∷ filter p xs)) e (Contains-head x (filter p xs))
       | inr rest ↦ Contains-tail x (filter p xs) k (Contains-filter p xs k on rest)
     ]))
-    (λ fails. subst (λ t. Contains (cond t (x ∷ filter p xs) (filter p xs)) k) (sym fails) (elim (Contains-cons x xs k h) [
+    (λ fails. subst (λ t. Contains (cond t (x ∷ filter p xs) (filter p xs)) k) (sym fails)
+    (elim (Contains-cons x xs k h) [
       | inl e ↦ let passes = ap p e ∙ on in cc
       | inr rest ↦ Contains-filter p xs k on rest
     ]))
@@ -292,14 +334,20 @@ passing-takes p n on =
 
 pub passing-skips : (p : ℕ → Bool) (n : ℕ) → p n ≡ false → passing p (n + 1) ≡ passing p n
 passing-skips p n off =
-    filter_of_map_range_with_len_more p (λ k. k) 0 n n (omega arith) ∙ ap (λ t. passing p n ++ cond t (n ∷ []) []) off ∙ append-nil (passing p n)
+    filter_of_map_range_with_len_more p (λ k. k) 0 n n (omega arith) ∙ ap (λ t. passing p n ++ cond t (n ∷ []) []) off
+    ∙ append-nil (passing p n)
 
 pub passing-rises : (p : ℕ → Bool) (n : ℕ) → IsStrictlyIncreasing (passing p n)
 passing-rises p n = IsStrictlyIncreasing-filter p (map (λ k. k) (range_with_len 0 n)) (λ k below.
     let long = length-map-range_with_len (λ (j : ℕ). j) 0 n in
-    omega (arith, get_or-map-range_with_len (λ (j : ℕ). j) 0 n k k 0 (omega arith) (omega arith), get_or-map-range_with_len (λ (j : ℕ). j) 0 n (k + 1) (k + 1) 0 (omega arith) (omega arith)))
+    omega (
+      arith,
+      get_or-map-range_with_len (λ (j : ℕ). j) 0 n k k 0 (omega arith) (omega arith),
+      get_or-map-range_with_len (λ (j : ℕ). j) 0 n (k + 1) (k + 1) 0 (omega arith) (omega arith),
+    ))
 
-pub passing-exact : (p : ℕ → Bool) (n : ℕ) → ((k : ℕ) → ¬ (k < n) → p k ≡ false) → (k : ℕ) → Contains (passing p n) k ↔ (p k ≡ true)
+pub passing-exact : (p : ℕ → Bool) (n : ℕ) → ((k : ℕ) → ¬ (k < n) → p k ≡ false) → (k : ℕ) →
+    Contains (passing p n) k ↔ (p k ≡ true)
 passing-exact p n beyond k = (
   (λ h. All-contains (λ x. p x ≡ true) (passing p n) k (filter_passes p (map (λ j. j) (range_with_len 0 n))) h),
   (λ on. elim (below_or_not k n) [

@@ -30,12 +30,18 @@ same_choice a b h =
 -- ---- what is met
 
 -- what is met stands no higher
-pub choice_level-Met : (s : Table) → IsReduced s → (k m : Choice) → KnowsChoice s k → Met s k m → choice_level s k ≤ choice_level s m
+pub choice_level-Met : (s : Table) → IsReduced s → (k m : Choice) → KnowsChoice s k → Met s k m →
+    choice_level s k ≤ choice_level s m
 choice_level-Met s reduced k m known (here _) = omega arith
 choice_level-Met s reduced k m known (below _ open_ b _ rest) =
     let within = choice_level-open s reduced k known open_ in
     let down = choice_level-cofactor_choice s reduced k known within b in
-    omega (arith, down, choice_level-Met s reduced (cofactor_choice s k b) m (knows-cofactor_choice s reduced k known within b) rest)
+    omega (
+      arith,
+      down,
+      choice_level-Met s reduced (cofactor_choice s k b) m
+          (knows-cofactor_choice s reduced k known within b) rest,
+    )
 
 pub Met-Extends : (s t : Table) → IsReduced s → Extends s t → (k m : Choice) → KnowsChoice s k → Met s k m → Met t k m
 Met-Extends s t reduced e k m known (here _) = here k
@@ -53,7 +59,8 @@ AreChoices-Extends s t e m notes k id h = IsChoice-Extends s t e k id (notes k i
 pub AreChoices-unchanged : (s : Table) (m n : Memo) → IsUnchanged m n → AreChoices s m → AreChoices s n
 AreChoices-unchanged s m n e notes k id h = notes k id (ap (lookup (choice_eq k)) (sym e) ∙ h)
 
-pub AreChoices-insert : (s : Table) (m n : Memo) (k : Choice) (id : NodeId) → Updates choice_eq m n k (Some id) → AreChoices s m → IsChoice s k id → AreChoices s n
+pub AreChoices-insert : (s : Table) (m n : Memo) (k : Choice) (id : NodeId) → Updates choice_eq m n k (Some id) →
+    AreChoices s m → IsChoice s k id → AreChoices s n
 AreChoices-insert s m n k id updates notes c q r h =
     by_test (choice_eq k q) refl
   where
@@ -66,7 +73,8 @@ AreChoices-insert s m n k id updates notes c q r h =
     by_test false e = notes q r (ap (λ t. if t then Some id else noted m q) (sym e) ∙ sym (updates.0 q) ∙ h)
 
 -- a walk below a choice does not note the choice itself
-pub still_absent : (s : Table) → IsReduced s → (k child : Choice) (old new : Memo) → KnowsChoice s child → choice_level s k < choice_level s child
+pub still_absent : (s : Table) → IsReduced s → (k child : Choice) (old new : Memo) → KnowsChoice s child →
+    choice_level s k < choice_level s child
     → NotesOnlyMet s child old new → noted old k ≡ None → noted new k ≡ None
 still_absent s reduced k child old new known deeper met absent =
     by_note (noted new k) refl
@@ -79,26 +87,30 @@ still_absent s reduced k child old new known deeper met absent =
     ]
 
 -- what a walk below a choice notes is met below the choice
-pub NotesOnlyMet-below : (s : Table) (k child : Choice) (b : Bool) (old new : Memo) → IsOpen k → child ≡ cofactor_choice s k b → NotesOnlyMet s child old new → NotesOnlyMet s k old new
+pub NotesOnlyMet-below : (s : Table) (k child : Choice) (b : Bool) (old new : Memo) → IsOpen k →
+    child ≡ cofactor_choice s k b → NotesOnlyMet s child old new → NotesOnlyMet s k old new
 NotesOnlyMet-below s k child b old new open_ e met m h = elim (met m h) [
   | inl was ↦ inl was
   | inr there ↦ inr (below k open_ b m (subst (λ c. Met s c m) e there.0), there.1)
 ]
 
-pub NotesOnlyMet-trans : (s : Table) (k : Choice) (a b c : Memo) → NotesOnlyMet s k a b → NotesOnlyMet s k b c → NotesOnlyMet s k a c
+pub NotesOnlyMet-trans : (s : Table) (k : Choice) (a b c : Memo) → NotesOnlyMet s k a b → NotesOnlyMet s k b c →
+    NotesOnlyMet s k a c
 NotesOnlyMet-trans s k a b c first second m h = elim (second m h) [
   | inl was ↦ first m was
   | inr there ↦ inr there
 ]
 
-pub NotesOnlyMet-Extends : (s t : Table) → IsReduced s → Extends s t → (k : Choice) (old new : Memo) → KnowsChoice s k → NotesOnlyMet s k old new → NotesOnlyMet t k old new
+pub NotesOnlyMet-Extends : (s t : Table) → IsReduced s → Extends s t → (k : Choice) (old new : Memo) → KnowsChoice s k →
+    NotesOnlyMet s k old new → NotesOnlyMet t k old new
 NotesOnlyMet-Extends s t reduced e k old new known met m h = elim (met m h) [
   | inl was ↦ inl was
   | inr there ↦ inr (Met-Extends s t reduced e k m known there.0, there.1)
 ]
 
 -- a note of the choice itself
-pub NotesOnlyMet-insert : (s : Table) (k : Choice) (id : NodeId) (old new : Memo) → IsOpen k → Updates choice_eq old new k (Some id) → NotesOnlyMet s k old new
+pub NotesOnlyMet-insert : (s : Table) (k : Choice) (id : NodeId) (old new : Memo) → IsOpen k →
+    Updates choice_eq old new k (Some id) → NotesOnlyMet s k old new
 NotesOnlyMet-insert s k id old new open_ updates m h =
     by_test (choice_eq k m) refl
   where
@@ -110,7 +122,8 @@ pub NotesOnlyMet-unchanged : (s : Table) (k : Choice) (old new : Memo) → IsUnc
 NotesOnlyMet-unchanged s k old new e m h = inl (ap (λ es. is_some (lookup (choice_eq m) es)) (sym e) ∙ h)
 
 -- what is not noted below a choice is met below the choice
-pub IsUnnoted-below : (s : Table) (k child : Choice) (b : Bool) (m : Memo) → IsOpen k → child ≡ cofactor_choice s k b → IsUnnoted s child m → IsUnnoted s k m
+pub IsUnnoted-below : (s : Table) (k child : Choice) (b : Bool) (m : Memo) → IsOpen k → child ≡ cofactor_choice s k b →
+    IsUnnoted s child m → IsUnnoted s k m
 IsUnnoted-below s k child b m open_ e u = record {
   choice = u.choice;
   met = below k open_ b u.choice (subst (λ c. Met s c u.choice) e u.met);
@@ -126,13 +139,16 @@ unchanged_absent k m n e absent = ap (lookup (choice_eq k)) e ∙ absent
 
 -- ---- the cofactor of an open choice, in its store and in one that was extended
 
-module _ (s : Table) (reduced : IsReduced s) (k child : Choice) (b : Bool) (known : KnowsChoice s k) (open_ : IsOpen k) (is_child : child ≡ cofactor_choice s k b) where
+module _ (s : Table) (reduced : IsReduced s) (k child : Choice) (b : Bool) (known : KnowsChoice s k) (open_ : IsOpen k)
+    (is_child : child ≡ cofactor_choice s k b) where
   pub child_known : KnowsChoice s child
-  child_known = subst (KnowsChoice s) (sym is_child) (knows-cofactor_choice s reduced k known (choice_level-open s reduced k known open_) b)
+  child_known = subst (KnowsChoice s) (sym is_child)
+      (knows-cofactor_choice s reduced k known (choice_level-open s reduced k known open_) b)
 
   pub child_deeper : choice_level s k < choice_level s child
   child_deeper =
-      subst (λ c. choice_level s k < choice_level s c) (sym is_child) (choice_level-cofactor_choice s reduced k known (choice_level-open s reduced k known open_) b)
+      subst (λ c. choice_level s k < choice_level s c) (sym is_child)
+      (choice_level-cofactor_choice s reduced k known (choice_level-open s reduced k known open_) b)
 
   pub child_falls : s.levels - choice_level s child < s.levels - choice_level s k
   child_falls = let top = choice_level-open s reduced k known open_ in omega (arith, child_deeper)
@@ -163,14 +179,16 @@ module _ (s : Table) (reduced : IsReduced s) (k : Choice) (known : KnowsChoice s
   low_known = KnowsChoice-Extends s t e low (child_known s reduced k low false known open_ is_low)
 
   high_known : KnowsChoice u high
-  high_known = KnowsChoice-Extends s u (Extends-trans s t u e e2) high (child_known s reduced k high true known open_ is_high)
+  high_known = KnowsChoice-Extends s u (Extends-trans s t u e e2) high
+      (child_known s reduced k high true known open_ is_high)
 
   pub met_twice : NotesOnlyMet u k a c
   met_twice =
       NotesOnlyMet-trans u k a b c
       (NotesOnlyMet-Extends t u reduced-t e2 k a b (KnowsChoice-Extends s t e k known)
       (NotesOnlyMet-below t k low false a b open_ (child_later s reduced k low false known open_ is_low t e) first))
-      (NotesOnlyMet-below u k high true b c open_ (child_later s reduced k high true known open_ is_high u (Extends-trans s t u e e2)) second)
+      (NotesOnlyMet-below u k high true b c open_
+      (child_later s reduced k high true known open_ is_high u (Extends-trans s t u e e2)) second)
 
   pub still_absent_twice : noted a k ≡ None → noted c k ≡ None
   still_absent_twice absent =
@@ -178,12 +196,23 @@ module _ (s : Table) (reduced : IsReduced s) (k : Choice) (known : KnowsChoice s
       let low_deeper = child_deeper s reduced k low false known open_ is_low in
       let high_deeper = child_deeper s reduced k high true known open_ is_high in
       still_absent u reduced-u k high b c high_known
-      (omega (arith, high_deeper, choice_level-Extends s u whole k known, choice_level-Extends s u whole high (child_known s reduced k high true known open_ is_high)))
+      (omega (
+        arith,
+        high_deeper,
+        choice_level-Extends s u whole k known,
+        choice_level-Extends s u whole high (child_known s reduced k high true known open_ is_high),
+      ))
       second
       (still_absent t reduced-t k low a b low_known
-      (omega (arith, low_deeper, choice_level-Extends s t e k known, choice_level-Extends s t e low (child_known s reduced k low false known open_ is_low)))
+      (omega (
+        arith,
+        low_deeper,
+        choice_level-Extends s t e k known,
+        choice_level-Extends s t e low (child_known s reduced k low false known open_ is_low),
+      ))
       first absent)
 
 -- an empty memo notes nothing
 pub nothing_noted : (m : Memo) → m.entries ≡ [] → (k : Choice) → ¬ IsSome (noted m k)
-nothing_noted m empty k h = let found : is_some (lookup (choice_eq k) m.entries) ≡ false = ap (λ es. is_some (lookup (choice_eq k) es)) empty in cc
+nothing_noted m empty k h = let found : is_some (lookup (choice_eq k) m.entries) ≡ false =
+    ap (λ es. is_some (lookup (choice_eq k) es)) empty in cc

@@ -19,10 +19,11 @@ connective_value And a b = a && b
 connective_value Or a b = a || b
 connective_value Xor a b = xor a b
 
--- the smaller of two ids, and the other one
+-- the smaller of two ids
 abbrev pub smaller : NodeId → NodeId → NodeId
 smaller f g = if nat_le (number_of f) (number_of g) then f else g
 
+-- the larger of two ids
 abbrev pub larger : NodeId → NodeId → NodeId
 larger f g = if nat_le (number_of f) (number_of g) then g else f
 

@@ -53,18 +53,20 @@ operation_hash (Xor f g) = fed.u8 2 ++ fed.u64 (number_of f) ++ fed.u64 (number_
 operation_hash (Ite f g h) = fed.u8 3 ++ fed.u64 (number_of f) ++ fed.u64 (number_of g) ++ fed.u64 (number_of h)
 operation_hash (Compose f parts) = fed.u8 4 ++ fed.u64 (number_of f) ++ fed.slice part_hash parts
 
--- ---- operations that `==` tells apart
-
+-- what holds of both sides of `&&`
 both_true : (a b : Bool) → a && b ≡ true → (a ≡ true) × (b ≡ true)
 both_true true b h = (refl, h)
 both_true false b h = cc
 
+-- ids with one number are one
 same_id : (f g : NodeId) → (number_of f == number_of g) ≡ true → f ≡ g
 same_id f g h = ap (λ (n : ℕ). record { 0 = n }) (eqb-true _ _ h)
 
+-- an id is equal to itself
 id_eq-refl : (f : NodeId) → (number_of f == number_of f) ≡ true
 id_eq-refl f = eq-eqb (number_of f) (number_of f) refl
 
+-- operations that `==` finds equal are one
 pub same_operation : (a b : Operation) → operation_eq a b ≡ true → a ≡ b
 same_operation (And f g) (And x y) e = let t = both_true _ _ e in λ i. And (same_id f x t.0 i) (same_id g y t.1 i)
 same_operation (Or f g) (Or x y) e = let t = both_true _ _ e in λ i. Or (same_id f x t.0 i) (same_id g y t.1 i)
@@ -78,6 +80,7 @@ same_operation (Compose f parts) (Compose x others) e =
     λ i. Compose (same_id f x t.0 i) (same_parts parts others t.1 i)
 same_operation _ _ e = cc
 
+-- an operation is equal to itself
 operation_eq-refl : (a : Operation) → operation_eq a a ≡ true
 operation_eq-refl (And f g) = λ i. id_eq-refl f i && id_eq-refl g i
 operation_eq-refl (Or f g) = λ i. id_eq-refl f i && id_eq-refl g i
@@ -85,11 +88,14 @@ operation_eq-refl (Xor f g) = λ i. id_eq-refl f i && id_eq-refl g i
 operation_eq-refl (Ite f g h) = λ i. id_eq-refl f i && id_eq-refl g i && id_eq-refl h i
 operation_eq-refl (Compose f parts) = λ i. id_eq-refl f i && parts_equiv.refl parts i
 
+-- `==` tells whether operations are one
 pub operation_Decides : (a b : Operation) → Decides (operation_eq a b) (a ≡ b)
 operation_Decides a b = (same_operation a b, λ e. subst (λ x. operation_eq a x ≡ true) e (operation_eq-refl a))
 
+-- `==` of operations is an equivalence
 pub operation_equiv : IsEquivalence operation_eq
 operation_equiv = decided operation_eq operation_Decides
 
+-- equal operations have one hash
 pub same_operation_hash : (a b : Operation) → IsTrue (operation_eq a b) → operation_hash a ≡ operation_hash b
 same_operation_hash a b e = ap operation_hash (same_operation a b e)

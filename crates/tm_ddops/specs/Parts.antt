@@ -17,10 +17,12 @@ part_eq p q = (p.0 == q.0) && (number_of p.1 == number_of q.1)
 abbrev pub part_hash : ℕ × NodeId → fed.HashWrites
 part_hash p = fed.u32 p.0 ++ fed.u64 (number_of p.1)
 
+-- what holds of both sides of `&&`
 both_true : (a b : Bool) → a && b ≡ true → (a ≡ true) × (b ≡ true)
 both_true true b h = (refl, h)
 both_true false b h = cc
 
+-- parts that `==` finds equal are one
 same_part : (p q : ℕ × NodeId) → part_eq p q ≡ true → p ≡ q
 same_part p q h =
     let parts = both_true _ _ h in
@@ -28,20 +30,25 @@ same_part p q h =
     let number = eqb-true (number_of p.1) (number_of q.1) parts.1 in
     λ i. (level i, record { 0 = number i })
 
+-- a part is equal to itself
 part_eq-same : (p q : ℕ × NodeId) → p ≡ q → part_eq p q ≡ true
 part_eq-same p q e =
     ap (λ (r : ℕ × NodeId). part_eq p r) (sym e)
     ∙ (λ i. eq-eqb p.0 p.0 refl i && eq-eqb (number_of p.1) (number_of p.1) refl i)
 
+-- `==` tells whether parts are one
 part_Decides : (p q : ℕ × NodeId) → Decides (part_eq p q) (p ≡ q)
 part_Decides p q = (same_part p q, part_eq-same p q)
 
+-- `==` of lists of parts is an equivalence
 pub parts_equiv : IsEquivalence (pointwise part_eq)
 parts_equiv = lists_equiv (decided part_eq part_Decides)
 
+-- lists of parts that `==` finds equal are one
 pub same_parts : (xs ys : List (ℕ × NodeId)) → pointwise part_eq xs ys ≡ true → xs ≡ ys
 same_parts xs ys h = (pointwise_decides part_Decides xs ys).0 h
 
+-- equal lists of parts have one hash
 pub same_hash : (xs ys : List (ℕ × NodeId)) → IsTrue (pointwise part_eq xs ys) →
     fed.slice part_hash xs ≡ fed.slice part_hash ys
 same_hash xs ys h = ap (fed.slice part_hash) (same_parts xs ys h)

@@ -23,7 +23,9 @@ law_class Letter = laws.letter
 law_class Digit = laws.digit
 law_class Mark = laws.mark
 
-law_class-cond : (p q r s : Bool) → law_class (cond p Blank (cond q Slash (cond r Letter (cond s Digit Mark)))) ≡ cond p laws.blank (cond q laws.slash (cond r laws.letter (cond s laws.digit laws.mark)))
+law_class-cond : (p q r s : Bool) →
+    law_class (cond p Blank (cond q Slash (cond r Letter (cond s Digit Mark))))
+    ≡ cond p laws.blank (cond q laws.slash (cond r laws.letter (cond s laws.digit laws.mark)))
 law_class-cond true q r s = refl
 law_class-cond false true r s = refl
 law_class-cond false false true s = refl
@@ -66,7 +68,8 @@ pub blank_is : (b : ℕ) → class_of b ≡ Blank → is_blank b ≡ true
 blank_is b e = chosen_blank (is_blank b) (b == 47) (begins_name b) (is_ascii_digit b) e
 
 pub slash_is : (b : ℕ) → class_of b ≡ Slash → b ≡ 47
-slash_is b e = let test = chosen_slash (is_blank b) (b == 47) (begins_name b) (is_ascii_digit b) e in grind (arith, nat_tests)
+slash_is b e = let test = chosen_slash (is_blank b) (b == 47) (begins_name b) (is_ascii_digit b) e in
+    grind (arith, nat_tests)
 
 pub letter_is : (b : ℕ) → class_of b ≡ Letter → begins_name b ≡ true
 letter_is b e = chosen_letter (is_blank b) (b == 47) (begins_name b) (is_ascii_digit b) e
@@ -76,10 +79,12 @@ digit_is b e = chosen_digit (is_blank b) (b == 47) (begins_name b) (is_ascii_dig
 
 -- every piece at the front of the bytes has at most n bytes
 unfoldable pub AtMost : List ℕ → ℕ → Type 0
-AtMost bytes n = (kind : Option TokenKind) (piece after : List ℕ) → IsPiece kind piece → bytes ≡ piece ++ after → length piece ≤ n
+AtMost bytes n = (kind : Option TokenKind) (piece after : List ℕ) → IsPiece kind piece → bytes ≡ piece ++ after →
+    length piece ≤ n
 
 -- a piece at the front that no other is longer than is the first
-pub first_from_at_most : (bytes : List ℕ) (kind : Option TokenKind) (n : ℕ) → n ≤ length bytes → IsPiece kind (take n bytes) → AtMost bytes n → IsFirstPiece bytes kind n
+pub first_from_at_most : (bytes : List ℕ) (kind : Option TokenKind) (n : ℕ) → n ≤ length bytes →
+    IsPiece kind (take n bytes) → AtMost bytes n → IsFirstPiece bytes kind n
 unfolding AtMost
 first_from_at_most bytes kind n fits is most = record {
   fits = fits;
@@ -90,10 +95,13 @@ first_from_at_most bytes kind n fits is most = record {
 }
 
 -- the class of the first byte of the bytes, for a piece at their front
-pub begins : (kind : Option TokenKind) (piece after bytes : List ℕ) (c : Class) → IsPiece kind piece → bytes ≡ piece ++ after → class_of (get_or bytes 0 0) ≡ c → laws.BeginsWith kind (law_class c)
+pub begins : (kind : Option TokenKind) (piece after bytes : List ℕ) (c : Class) → IsPiece kind piece →
+    bytes ≡ piece ++ after → class_of (get_or bytes 0 0) ≡ c → laws.BeginsWith kind (law_class c)
 begins kind piece after bytes c is whole e =
-    let first : get_or bytes 0 0 ≡ get_or piece 0 0 = front_reads 0 bytes piece after whole 0 (laws.piece_nonempty kind piece is) in
-    let same : laws.class_of (get_or piece 0 0) ≡ law_class c = ap laws.class_of (sym first) ∙ sym (law_class-class_of (get_or bytes 0 0)) ∙ ap law_class e in
+    let first : get_or bytes 0 0 ≡ get_or piece 0 0 =
+    front_reads 0 bytes piece after whole 0 (laws.piece_nonempty kind piece is) in
+    let same : laws.class_of (get_or piece 0 0) ≡ law_class c =
+    ap laws.class_of (sym first) ∙ sym (law_class-class_of (get_or bytes 0 0)) ∙ ap law_class e in
     subst (laws.BeginsWith kind) same (laws.piece_class kind piece is)
 
 -- a front whose bytes all pass is in the longest front that passes

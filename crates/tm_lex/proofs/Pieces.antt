@@ -10,25 +10,35 @@ use Rattle.tm_syntax.specs.Tokens.{IsPiece, IsLongest, Piece, joined, ArePieces,
 use Rattle.tm_lex.specs.Front.{IsFirstPiece}
 
 -- one more piece at the end
-joined-push : (ps : List Piece) (p : Piece) (rest : List ℕ) → joined (ps ++ p ∷ []) ++ rest ≡ joined ps ++ (p.bytes ++ rest)
+joined-push : (ps : List Piece) (p : Piece) (rest : List ℕ) →
+    joined (ps ++ p ∷ []) ++ rest ≡ joined ps ++ (p.bytes ++ rest)
 joined-push [] p rest = ap (λ l. l ++ rest) (append-nil p.bytes)
-joined-push (q ∷ ps) p rest = append_assoc q.bytes (joined (ps ++ p ∷ [])) rest ∙ ap (λ l. q.bytes ++ l) (joined-push ps p rest) ∙ sym (append_assoc q.bytes (joined ps) (p.bytes ++ rest))
+joined-push (q ∷ ps) p rest =
+    append_assoc q.bytes (joined (ps ++ p ∷ [])) rest ∙ ap (λ l. q.bytes ++ l) (joined-push ps p rest)
+    ∙ sym (append_assoc q.bytes (joined ps) (p.bytes ++ rest))
 
-ArePieces-push : (ps : List Piece) (p : Piece) (rest : List ℕ) → ArePieces ps (p.bytes ++ rest) → IsPiece p.kind p.bytes → IsLongest p.bytes rest → ArePieces (ps ++ p ∷ []) rest
+ArePieces-push : (ps : List Piece) (p : Piece) (rest : List ℕ) → ArePieces ps (p.bytes ++ rest) →
+    IsPiece p.kind p.bytes → IsLongest p.bytes rest → ArePieces (ps ++ p ∷ []) rest
 ArePieces-push [] p rest each is longest = (is, longest, tt)
 ArePieces-push (q ∷ ps) p rest each is longest =
     (each.0, subst (IsLongest q.bytes) (sym (joined-push ps p rest)) each.1, ArePieces-push ps p rest each.2 is longest)
 
-tokens_behind-push : (front : List ℕ) (ps : List Piece) (p : Piece) → tokens_behind front (ps ++ p ∷ []) ≡ tokens_behind front ps ++ option_to_list (token_behind (front ++ joined ps) p)
+tokens_behind-push : (front : List ℕ) (ps : List Piece) (p : Piece) →
+    tokens_behind front (ps ++ p ∷ []) ≡ tokens_behind front ps ++ option_to_list (token_behind (front ++ joined ps) p)
 tokens_behind-push front [] p = append-nil _ ∙ ap (λ l. option_to_list (token_behind l p)) (sym (append-nil front))
 tokens_behind-push front (q ∷ ps) p =
     ap (λ l. option_to_list (token_behind front q) ++ l) (tokens_behind-push (front ++ q.bytes) ps p)
     ∙ sym (append_assoc (option_to_list (token_behind front q)) (tokens_behind (front ++ q.bytes) ps) _)
-    ∙ ap (λ l. tokens_behind front (q ∷ ps) ++ option_to_list (token_behind l p)) (append_assoc front q.bytes (joined ps))
+    ∙ ap (λ l. tokens_behind front (q ∷ ps) ++ option_to_list (token_behind l p))
+    (append_assoc front q.bytes (joined ps))
 
 -- no place is further than its bytes
-pub place_bounds : (front : List ℕ) → ((place_after front).line ≤ 1 + length front) × ((place_after front).column ≤ 1 + length front)
-place_bounds front = (omega (arith, count_by-le-length is_line_feed front), omega (arith, suffix_len-le-length (λ b. not (is_line_feed b)) front))
+pub place_bounds : (front : List ℕ) →
+    ((place_after front).line ≤ 1 + length front) × ((place_after front).column ≤ 1 + length front)
+place_bounds front = (
+  omega (arith, count_by-le-length is_line_feed front),
+  omega (arith, suffix_len-le-length (λ b. not (is_line_feed b)) front),
+)
 
 -- the tokens of the first `start` bytes, and the place behind them
 pub record IsLexed (text : List ℕ) (start : ℕ) (tokens : List Token) (place : Place) : Type 0 where
@@ -42,53 +52,66 @@ pub record IsLexed (text : List ℕ) (start : ℕ) (tokens : List Token) (place 
 pub lexed_none : (text : List ℕ) → IsLexed text 0 [] (record { line = 1; column = 1 })
 lexed_none text = record { pieces = []; fits = omega arith; whole = refl; each = tt; are = refl; here = refl }
 
-module _ {text : List ℕ} {start : ℕ} {tokens : List Token} {place : Place} (lexed : IsLexed text start tokens place) where
-  -- the text is the pieces and what is left
-  pub lexed_splits : Splits text lexed.pieces (drop start text)
-  lexed_splits = record {
-    whole = sym (take-append-drop start text) ∙ ap (λ l. l ++ drop start text) (sym lexed.whole);
-    each = lexed.each;
-  }
+module _ {text : List ℕ} {start : ℕ} {tokens : List Token} {place : Place} (lexed : IsLexed text start tokens place)
+  where
+    -- the text is the pieces and what is left
+    pub lexed_splits : Splits text lexed.pieces (drop start text)
+    lexed_splits = record {
+      whole = sym (take-append-drop start text) ∙ ap (λ l. l ++ drop start text) (sym lexed.whole);
+      each = lexed.each;
+    }
 
-  pub lexed_more : (kind : Option TokenKind) (len : ℕ) (more : List Token) (next : Place) → IsFirstPiece (drop start text) kind len → more ≡ tokens ++ option_to_list (option_map (λ (k : TokenKind). record { kind = k; start = start; end = start + len; place = place }) kind) → next ≡ place_after (take start text ++ take len (drop start text)) → IsLexed text (start + len) more next
-  lexed_more kind len more next first pushed moved =
-      let bytes = take len (drop start text) in
-      let p : Piece = record { kind = kind; bytes = bytes } in
-      let size : length bytes ≡ len = length-take-le len (drop start text) first.fits in
-      let back : drop len (drop start text) ≡ drop (start + len) text = drop-drop len start text in
-      let left : drop start text ≡ bytes ++ drop (start + len) text = sym (take-append-drop len (drop start text)) ∙ ap (λ l. bytes ++ l) back in
-      let low : start ≤ start + len = omega arith in
-      let front : take start text ++ bytes ≡ take (start + len) text =
-      (λ i. sym (take-take start (start + len) text low) i ++ sym (drop-take start len text) i) ∙ take-append-drop start (take (start + len) text) in
-      let from : length (joined lexed.pieces) ≡ start = ap length lexed.whole ∙ length-take-le start text lexed.fits in
-      let to : length (joined lexed.pieces) + length bytes ≡ start + len = omega arith in
-      let at : place_after (joined lexed.pieces) ≡ place = ap place_after lexed.whole ∙ sym lexed.here in
-      let token : token_behind (joined lexed.pieces) p ≡ option_map (λ (k : TokenKind). record { kind = k; start = start; end = start + len; place = place }) kind =
-      λ i. option_map (λ (k : TokenKind). record { kind = k; start = from i; end = to i; place = at i }) kind in
-      record {
-        pieces = lexed.pieces ++ p ∷ [];
-        fits = omega (arith, first.fits, length-drop start text, lexed.fits);
-        whole = sym (append-nil (joined (lexed.pieces ++ p ∷ []))) ∙ joined-push lexed.pieces p [] ∙ (λ i. lexed.whole i ++ append-nil bytes i) ∙ front;
-        each = ArePieces-push lexed.pieces p (drop (start + len) text) (subst (ArePieces lexed.pieces) left lexed.each) first.is (subst (IsLongest bytes) back first.longest);
-        are = pushed ∙ (λ i. lexed.are i ++ option_to_list (sym token i)) ∙ sym (tokens_behind-push [] lexed.pieces p);
-        here = moved ∙ ap place_after front;
-      }
+    pub lexed_more : (kind : Option TokenKind) (len : ℕ) (more : List Token) (next : Place) →
+        IsFirstPiece (drop start text) kind len →
+        more ≡ tokens ++ option_to_list
+        (option_map (λ (k : TokenKind). record { kind = k; start = start; end = start + len; place = place }) kind) →
+        next ≡ place_after (take start text ++ take len (drop start text)) → IsLexed text (start + len) more next
+    lexed_more kind len more next first pushed moved =
+        let bytes = take len (drop start text) in
+        let p : Piece = record { kind = kind; bytes = bytes } in
+        let size : length bytes ≡ len = length-take-le len (drop start text) first.fits in
+        let back : drop len (drop start text) ≡ drop (start + len) text = drop-drop len start text in
+        let left : drop start text ≡ bytes ++ drop (start + len) text =
+        sym (take-append-drop len (drop start text)) ∙ ap (λ l. bytes ++ l) back in
+        let low : start ≤ start + len = omega arith in
+        let front : take start text ++ bytes ≡ take (start + len) text =
+        (λ i. sym (take-take start (start + len) text low) i ++ sym (drop-take start len text) i)
+        ∙ take-append-drop start (take (start + len) text) in
+        let from : length (joined lexed.pieces) ≡ start =
+        ap length lexed.whole ∙ length-take-le start text lexed.fits in
+        let to : length (joined lexed.pieces) + length bytes ≡ start + len = omega arith in
+        let at : place_after (joined lexed.pieces) ≡ place = ap place_after lexed.whole ∙ sym lexed.here in
+        let token : token_behind (joined lexed.pieces) p
+        ≡ option_map (λ (k : TokenKind). record { kind = k; start = start; end = start + len; place = place }) kind =
+        λ i. option_map (λ (k : TokenKind). record { kind = k; start = from i; end = to i; place = at i }) kind in
+        record {
+          pieces = lexed.pieces ++ p ∷ [];
+          fits = omega (arith, first.fits, length-drop start text, lexed.fits);
+          whole = sym (append-nil (joined (lexed.pieces ++ p ∷ []))) ∙ joined-push lexed.pieces p []
+              ∙ (λ i. lexed.whole i ++ append-nil bytes i) ∙ front;
+          each = ArePieces-push lexed.pieces p (drop (start + len) text)
+              (subst (ArePieces lexed.pieces) left lexed.each)
+              first.is (subst (IsLongest bytes) back first.longest);
+          are = pushed ∙ (λ i. lexed.are i ++ option_to_list (sym token i))
+              ∙ sym (tokens_behind-push [] lexed.pieces p);
+          here = moved ∙ ap place_after front;
+        }
 
-  pub lexed_all : length text ≤ start → AreTokens text tokens
-  lexed_all ends = record {
-    pieces = lexed.pieces;
-    split = subst (Splits text lexed.pieces) (drop_all start text ends) lexed_splits;
-    are = lexed.are;
-  }
+    pub lexed_all : length text ≤ start → AreTokens text tokens
+    lexed_all ends = record {
+      pieces = lexed.pieces;
+      split = subst (Splits text lexed.pieces) (drop_all start text ends) lexed_splits;
+      are = lexed.are;
+    }
 
-  pub lexed_stuck : start < length text → BeginsNothing (drop start text) → HasByteFault text place
-  lexed_stuck more nothing =
-      let next = drop_more text start 0 more in
-      record {
-        pieces = lexed.pieces;
-        byte = get_or text start 0;
-        rest = drop (start + 1) text;
-        split = subst (Splits text lexed.pieces) next lexed_splits;
-        begins_nothing = subst BeginsNothing next nothing;
-        here = lexed.here ∙ ap place_after (sym lexed.whole);
-      }
+    pub lexed_stuck : start < length text → BeginsNothing (drop start text) → HasByteFault text place
+    lexed_stuck more nothing =
+        let next = drop_more text start 0 more in
+        record {
+          pieces = lexed.pieces;
+          byte = get_or text start 0;
+          rest = drop (start + 1) text;
+          split = subst (Splits text lexed.pieces) next lexed_splits;
+          begins_nothing = subst BeginsNothing next nothing;
+          here = lexed.here ∙ ap place_after (sym lexed.whole);
+        }

@@ -84,34 +84,49 @@ continues_name-begins_name b h = grind (arith, nat_tests)
 
 word_like_continues : (bytes : List ℕ) → IsWordLike bytes → list_all continues_name bytes ≡ true
 word_like_continues [] h = refl
-word_like_continues (b ∷ bs) h = and_from (continues_name b) (list_all continues_name bs) (continues_name-begins_name b h.0) (list_all-from_AllPass continues_name bs h.1)
+word_like_continues (b ∷ bs) h =
+    and_from (continues_name b) (list_all continues_name bs) (continues_name-begins_name b h.0)
+    (list_all-from_AllPass continues_name bs h.1)
 
 -- what begins with a letter or `_` is no longer than its letters, digits and `_`
-pub letters_at_most : (bytes : List ℕ) → class_of (get_or bytes 0 0) ≡ Letter → AtMost bytes (prefix_len continues_name bytes)
+pub letters_at_most : (bytes : List ℕ) → class_of (get_or bytes 0 0) ≡ Letter →
+    AtMost bytes (prefix_len continues_name bytes)
 unfolding AtMost
-letters_at_most bytes e None piece after is whole = let wrong = begins None piece after bytes Letter is whole e in grind arith
+letters_at_most bytes e None piece after is whole = let wrong = begins None piece after bytes Letter is whole e in
+    grind arith
 letters_at_most bytes e (Some token.Name) piece after is whole =
     rw whole (length-le-prefix_len continues_name piece after (word_like_continues piece is.0))
-letters_at_most bytes e (Some token.Number) piece after is whole = let wrong = begins (Some token.Number) piece after bytes Letter is whole e in cc
+letters_at_most bytes e (Some token.Number) piece after is whole = let wrong =
+    begins (Some token.Number) piece after bytes Letter is whole e in cc
 letters_at_most bytes e (Some (token.Word w)) piece after is whole =
     rw whole (length-le-prefix_len continues_name piece after (ap (list_all continues_name) is ∙ word_continues w))
-letters_at_most bytes e (Some (token.Sign s)) piece after is whole = let wrong = begins (Some (token.Sign s)) piece after bytes Letter is whole e in cc
+letters_at_most bytes e (Some (token.Sign s)) piece after is whole = let wrong =
+    begins (Some (token.Sign s)) piece after bytes Letter is whole e in cc
 
 -- the letters, digits and `_` at the front are a name or a reserved word
-pub letters_are_like : (bytes : List ℕ) → 0 < length bytes → class_of (get_or bytes 0 0) ≡ Letter → IsWordLike (take (prefix_len continues_name bytes) bytes)
+pub letters_are_like : (bytes : List ℕ) → 0 < length bytes → class_of (get_or bytes 0 0) ≡ Letter →
+    IsWordLike (take (prefix_len continues_name bytes) bytes)
 letters_are_like [] some e = absurd (omega arith)
 letters_are_like (b ∷ bs) some e =
-    let more : prefix_len continues_name (b ∷ bs) ≡ suc (prefix_len continues_name bs) = cond-true (continues_name b) (1 + prefix_len continues_name bs) 0 (continues_name-begins_name b (letter_is b e)) ∙ one-add _ in
+    let more : prefix_len continues_name (b ∷ bs) ≡ suc (prefix_len continues_name bs) =
+    cond-true (continues_name b) (1 + prefix_len continues_name bs) 0 (continues_name-begins_name b (letter_is b e))
+    ∙ one-add _ in
     rw more (letter_is b e, AllPass-prefix continues_name bs)
 
-pub first_name : (bytes : List ℕ) → 0 < length bytes → class_of (get_or bytes 0 0) ≡ Letter → ((w : Word) → take (prefix_len continues_name bytes) bytes ≢ word_text w) → IsFirstPiece bytes (Some token.Name) (prefix_len continues_name bytes)
+pub first_name : (bytes : List ℕ) → 0 < length bytes → class_of (get_or bytes 0 0) ≡ Letter →
+    ((w : Word) → take (prefix_len continues_name bytes) bytes ≢ word_text w) →
+    IsFirstPiece bytes (Some token.Name) (prefix_len continues_name bytes)
 first_name bytes some e unreserved =
-    first_from_at_most bytes (Some token.Name) (prefix_len continues_name bytes) (prefix_len-le-length continues_name bytes)
+    first_from_at_most bytes (Some token.Name) (prefix_len continues_name bytes)
+    (prefix_len-le-length continues_name bytes)
     (letters_are_like bytes some e, unreserved)
     (letters_at_most bytes e)
 
-pub first_word : (bytes : List ℕ) (w : Word) → class_of (get_or bytes 0 0) ≡ Letter → take (prefix_len continues_name bytes) bytes ≡ word_text w → IsFirstPiece bytes (Some (token.Word w)) (prefix_len continues_name bytes)
+pub first_word : (bytes : List ℕ) (w : Word) → class_of (get_or bytes 0 0) ≡ Letter →
+    take (prefix_len continues_name bytes) bytes ≡ word_text w →
+    IsFirstPiece bytes (Some (token.Word w)) (prefix_len continues_name bytes)
 first_word bytes w e spelled =
-    first_from_at_most bytes (Some (token.Word w)) (prefix_len continues_name bytes) (prefix_len-le-length continues_name bytes)
+    first_from_at_most bytes (Some (token.Word w)) (prefix_len continues_name bytes)
+    (prefix_len-le-length continues_name bytes)
     spelled
     (letters_at_most bytes e)

@@ -16,15 +16,18 @@ module _ (stmts : List Stmt) (i : ℕ) (s : Stmt) (inside : i < length stmts) (a
   pub stmts_from : stmt_trees (drop i stmts) ≡ stmt_tree s ∷ stmt_trees (drop (i + 1) stmts)
   stmts_from = rw (add-one, drop-cons stmts i s, ← at) refl
 
-  pub small_from : AllByRecursion IsSmallStmt (stmt_trees (drop i stmts)) → IsSmallStmt (stmt_tree s) × AllByRecursion IsSmallStmt (stmt_trees (drop (i + 1) stmts))
+  pub small_from : AllByRecursion IsSmallStmt (stmt_trees (drop i stmts)) →
+      IsSmallStmt (stmt_tree s) × AllByRecursion IsSmallStmt (stmt_trees (drop (i + 1) stmts))
   small_from small = rw stmts_from at small
 
   module _ (d : DesignTree) (scope : Scope) (trail : List Place) (m : Memory) (cs : List ℕ) (e : Ending) where
     -- a statement that goes on leads where those behind it lead
     pub run_goes : (n : Memory) (ds : List ℕ) → progress d m cs (perform scope trail (stmt_tree s)) ≡ goes_on [] n ds →
-        Run d (map (perform scope trail) (stmt_trees (drop (i + 1) stmts))) n ds e → Run d (map (perform scope trail) (stmt_trees (drop i stmts))) m cs e
+        Run d (map (perform scope trail) (stmt_trees (drop (i + 1) stmts))) n ds e →
+        Run d (map (perform scope trail) (stmt_trees (drop i stmts))) m cs e
     run_goes n ds on run = rw stmts_from (goes on run)
 
     -- a statement that comes to an end ends the run
-    pub run_ends : progress d m cs (perform scope trail (stmt_tree s)) ≡ comes_to e → Run d (map (perform scope trail) (stmt_trees (drop i stmts))) m cs e
+    pub run_ends : progress d m cs (perform scope trail (stmt_tree s)) ≡ comes_to e →
+        Run d (map (perform scope trail) (stmt_trees (drop i stmts))) m cs e
     run_ends end = rw stmts_from (ends end)

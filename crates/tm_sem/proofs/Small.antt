@@ -43,23 +43,29 @@ pub small_is : (d : DesignTree) (h : IsSmall d) → d ≡ one_template h.templat
 small_is d h =
     ap (λ i. record d { instances = i }) h.instances
     ∙ ap (λ s. record d { spec = s; instances = main_node ∷ [] })
-    (ap (λ e. record d.spec { enums = e }) h.enums ∙ ap (λ (ts : List TemplateTree). record { enums = []; templates = ts }) h.templates)
+    (ap (λ e. record d.spec { enums = e }) h.enums
+    ∙ ap (λ (ts : List TemplateTree). record { enums = []; templates = ts }) h.templates)
 
 -- a task of a small template has neither parameters nor locals
-no_task_slot : (d : DesignTree) (t : TemplateTree) (name : List ℕ) (next : Code → Slot → Option Cell) (ts : List TaskTree) → AllByRecursion IsSmallTask ts → (k : ℕ) →
-    option_and_then (λ code. option_and_then (next code) (slot_named code name)) (option_map (task_code d t) (slice_get ts k)) ≡ None
+no_task_slot : (d : DesignTree) (t : TemplateTree) (name : List ℕ) (next : Code → Slot → Option Cell)
+    (ts : List TaskTree) → AllByRecursion IsSmallTask ts → (k : ℕ) →
+    option_and_then (λ code. option_and_then (next code) (slot_named code name))
+    (option_map (task_code d t) (slice_get ts k)) ≡ None
 no_task_slot d t name next [] all k = refl
 no_task_slot d t name next (x ∷ xs) all zero = rw (all.0.params, all.0.body.locals) refl
 no_task_slot d t name next (x ∷ xs) all (suc k) = no_task_slot d t name next xs all.1 k
 
 -- the process of a small template has no locals
-no_process_slot : (t : TemplateTree) (small : IsSmallTemplate t) (name : List ℕ) (next : Code → Slot → Option Cell) (k : ℕ) →
-    option_and_then (λ code. option_and_then (next code) (slot_named code name)) (option_map process_code (slice_get t.processes k)) ≡ None
+no_process_slot : (t : TemplateTree) (small : IsSmallTemplate t) (name : List ℕ) (next : Code → Slot → Option Cell)
+    (k : ℕ) →
+    option_and_then (λ code. option_and_then (next code) (slot_named code name))
+    (option_map process_code (slice_get t.processes k)) ≡ None
 no_process_slot t small name next zero = rw (small.processes, small.body.locals) refl
 no_process_slot t small name next (suc k) = rw small.processes refl
 
 -- no name of a body is one of its own
-no_slot : (d : DesignTree) (at : Site) (small : IsSmallTemplate at.template) (name : List ℕ) (next : Code → Slot → Option Cell) (body : BodyName) →
+no_slot : (d : DesignTree) (at : Site) (small : IsSmallTemplate at.template) (name : List ℕ)
+    (next : Code → Slot → Option Cell) (body : BodyName) →
     option_and_then (λ code. option_and_then (next code) (slot_named code name)) (code_named d at body) ≡ None
 no_slot d at small name next (process_body k) = no_process_slot at.template small name next k
 no_slot d at small name next (task_body k) = no_task_slot d at.template name next at.template.tasks small.tasks k
@@ -69,37 +75,46 @@ first_of_one : {X : Type 0} (x : Option X) → slice_get ([] ++ option_to_list x
 first_of_one None = refl
 first_of_one (Some x) = refl
 
-cell_of_one : (t : TemplateTree) (vars : List Var) (processes tasks goals fairs : List Item) (small : IsSmallTemplate t) (body : BodyName) (name : Ident) →
-    cell (one_template t vars processes tasks goals fairs) (main_scope body) (name ∷ []) None ≡ variable_at (one_template t vars processes tasks goals fairs) name.text
+cell_of_one : (t : TemplateTree) (vars : List Var) (processes tasks goals fairs : List Item) (small : IsSmallTemplate t)
+    (body : BodyName) (name : Ident) →
+    cell (one_template t vars processes tasks goals fairs) (main_scope body) (name ∷ []) None
+    ≡ variable_at (one_template t vars processes tasks goals fairs) name.text
 cell_of_one t vars processes tasks goals fairs small body name =
-    ap (λ own. slice_get (option_to_list own ++ option_to_list (variable_at (one_template t vars processes tasks goals fairs) name.text)) 0)
-    (no_slot (one_template t vars processes tasks goals fairs) (record { number = 0; node = main_node; template = t }) small name.text _ body)
+    ap (λ own. slice_get (option_to_list own
+    ++ option_to_list (variable_at (one_template t vars processes tasks goals fairs) name.text)) 0)
+    (no_slot (one_template t vars processes tasks goals fairs) (record { number = 0; node = main_node; template = t })
+    small name.text _ body)
     ∙ first_of_one (variable_at (one_template t vars processes tasks goals fairs) name.text)
 
 -- in a small design a name means the state variable of that name
-pub cell_of_name : (d : DesignTree) (h : IsSmall d) (body : BodyName) (name : Ident) → cell d (main_scope body) (name ∷ []) None ≡ variable_at d name.text
+pub cell_of_name : (d : DesignTree) (h : IsSmall d) (body : BodyName) (name : Ident) →
+    cell d (main_scope body) (name ∷ []) None ≡ variable_at d name.text
 cell_of_name d h body name =
     subst (λ x. cell x (main_scope body) (name ∷ []) None ≡ variable_at x name.text) (sym (small_is d h))
     (cell_of_one h.template d.vars d.processes d.tasks d.goals d.fairs h.is_small body name)
 
 -- the value of a name is that of its variable, or 0
 pub value_of_name : (d : DesignTree) (h : IsSmall d) (body : BodyName) (values : List ℕ) (name : Ident) →
-    path_value d (main_scope body) (plain_memory values) (name ∷ []) None ≡ option_map_or (slice_index values) (position (λ v. pointwise nat_eq name.text v.path) d.vars) 0
+    path_value d (main_scope body) (plain_memory values) (name ∷ []) None
+    ≡ option_map_or (slice_index values) (position (λ v. pointwise nat_eq name.text v.path) d.vars) 0
 value_of_name d h body values name =
     rw (cell_of_name d h body name, h.enums) (read_variable (position (λ v. pointwise nat_eq name.text v.path) d.vars))
   where
-    read_variable : (k : Option ℕ) → option_map_or (read (plain_memory values)) (option_map in_state k) 0 ≡ option_map_or (slice_index values) k 0
+    read_variable : (k : Option ℕ) →
+        option_map_or (read (plain_memory values)) (option_map in_state k) 0 ≡ option_map_or (slice_index values) k 0
     read_variable None = refl
     read_variable (Some k) = refl
 
 -- a list of one item
-single : (names : List Ident) (name : Ident) → 1 ≤ length names → length names < 2 → name ≡ get_or names 0 name → names ≡ name ∷ []
+single : (names : List Ident) (name : Ident) → 1 ≤ length names → length names < 2 → name ≡ get_or names 0 name →
+    names ≡ name ∷ []
 single [] name long short is = absurd (omega arith)
 single (x ∷ []) name long short is = rw is refl
 single (x ∷ y ∷ ys) name long short is = absurd (omega arith)
 
 -- the value of a path of one name
-pub value_of_path : (d : DesignTree) (h : IsSmall d) (body : BodyName) (values : List ℕ) (e : Expr) (p : Path) (name : Ident) →
+pub value_of_path : (d : DesignTree) (h : IsSmall d) (body : BodyName) (values : List ℕ) (e : Expr) (p : Path)
+    (name : Ident) →
     e ≡ variant.Path p → 1 ≤ length p.names.items → length p.names.items < 2 → name ≡ get_or p.names.items 0 name →
     option_map_or (slice_index values) (position (λ v. pointwise nat_eq name.text v.path) d.vars) 0
     ≡ value d (main_scope body) (plain_memory values) bool_type (expr_tree e)
@@ -110,7 +125,8 @@ value_of_path d h body values e p name is long short first =
 abbrev pub variable_number : DesignTree → Ident → Option ℕ
 variable_number d name = position (λ v. pointwise nat_eq name.text v.path) d.vars
 
-bool_at : (vars : List Var) → AllByRecursion (λ (v : Var). v.ty ≡ bool_type) vars → (k : ℕ) → unwrap_or (option_map (λ v. v.ty) (slice_get vars k)) bool_type ≡ bool_type
+bool_at : (vars : List Var) → AllByRecursion (λ (v : Var). v.ty ≡ bool_type) vars → (k : ℕ) →
+    unwrap_or (option_map (λ v. v.ty) (slice_get vars k)) bool_type ≡ bool_type
 bool_at [] all k = refl
 bool_at (v ∷ vs) all zero = all.0
 bool_at (v ∷ vs) all (suc k) = bool_at vs all.1 k
@@ -120,7 +136,8 @@ target_type : (d : DesignTree) (h : IsSmall d) (k : Option ℕ) → asked_by d (
 target_type d h None = refl
 target_type d h (Some k) = bool_at d.vars h.vars k
 
-put_target : (values : List ℕ) (k : Option ℕ) (n : ℕ) → put_in (plain_memory values) (option_map in_state k) n ≡ plain_memory (assigned values k n)
+put_target : (values : List ℕ) (k : Option ℕ) (n : ℕ) →
+    put_in (plain_memory values) (option_map in_state k) n ≡ plain_memory (assigned values k n)
 put_target values None n = refl
 put_target values (Some k) n = refl
 
@@ -137,7 +154,8 @@ atom_overruns d scope m (conditional _ _ _ _) small = elim small [ ]
 atom_overruns d scope m (cast _ _ _) small = elim small [ ]
 atom_overruns d scope m (element _ _) small = elim small [ ]
 
-literal_overruns : (d : DesignTree) (scope : Scope) (m : Memory) (e : ExprTree) → IsLiteral e → overruns d scope m e ≡ false
+literal_overruns : (d : DesignTree) (scope : Scope) (m : Memory) (e : ExprTree) → IsLiteral e →
+    overruns d scope m e ≡ false
 literal_overruns d scope m (truth at b) small = refl
 literal_overruns d scope m (path names) small = refl
 literal_overruns d scope m (unary at Not e) small = atom_overruns d scope m e small
@@ -153,24 +171,36 @@ literal_overruns d scope m (element _ _) small = elim small [ ]
 module _ (d : DesignTree) (h : IsSmall d) (body : BodyName) (values choices : List ℕ) where
   -- a variable gets a choice
   pub progress_star : (name : Ident) (at : Place) →
-      progress d (plain_memory values) choices (perform (main_scope body) [] (assign (name ∷ []) None (star at))) ≡ chooses (variable_number d name) values choices
+      progress d (plain_memory values) choices (perform (main_scope body) [] (assign (name ∷ []) None (star at)))
+      ≡ chooses (variable_number d name) values choices
   progress_star name at = rw (cell_of_name d h body name) (of_choices choices)
     where
-      of_choices : (cs : List ℕ) → chooses_value d (plain_memory values) (option_map in_state (variable_number d name)) cs ≡ chooses (variable_number d name) values cs
+      of_choices : (cs : List ℕ) →
+          chooses_value d (plain_memory values) (option_map in_state (variable_number d name)) cs
+          ≡ chooses (variable_number d name) values cs
       of_choices [] = refl
-      of_choices (c ∷ cs) = rw (target_type d h (variable_number d name), put_target values (variable_number d name) c) refl
+      of_choices (c ∷ cs) = rw (target_type d h (variable_number d name), put_target values (variable_number d name) c)
+          refl
 
   -- a variable gets the value of a literal
   pub progress_plain : (name : Ident) (e : ExprTree) → IsLiteral e →
       progress d (plain_memory values) choices (perform (main_scope body) [] (assign (name ∷ []) None (plain e)))
-      ≡ goes_on [] (plain_memory (assigned values (variable_number d name) (value d (main_scope body) (plain_memory values) bool_type e))) choices
+      ≡ goes_on [] (plain_memory
+      (assigned values (variable_number d name) (value d (main_scope body) (plain_memory values) bool_type e)))
+      choices
   progress_plain name e small =
-      rw (literal_overruns d (main_scope body) (plain_memory values) e small, cell_of_name d h body name, target_type d h (variable_number d name), put_target values (variable_number d name)) refl
+      rw (
+        literal_overruns d (main_scope body) (plain_memory values) e small,
+        cell_of_name d h body name,
+        target_type d h (variable_number d name),
+        put_target values (variable_number d name),
+      ) refl
 
   -- a literal is asserted
   pub progress_assert : (at : Place) (e : ExprTree) → IsLiteral e →
       progress d (plain_memory values) choices (perform (main_scope body) [] (assert at e))
-      ≡ (if not (value d (main_scope body) (plain_memory values) bool_type e == 0) then goes_on [] (plain_memory values) choices else comes_to (at_end choices failed))
+      ≡ (if not (value d (main_scope body) (plain_memory values) bool_type e == 0)
+      then goes_on [] (plain_memory values) choices else comes_to (at_end choices failed))
   progress_assert at e small = rw (literal_overruns d (main_scope body) (plain_memory values) e small) refl
 
 -- an assignment of a small body has one name and no index
@@ -178,16 +208,20 @@ small_target : (s : StmtTree) (names : List Ident) (index : Option ExprTree) (v 
     s ≡ assign names index v → IsSmallStmt s → slice_get names 0 ≡ Some name → s ≡ assign (name ∷ []) None v
 small_target s names index v name is small first = of_names names index is (subst IsSmallStmt is small) first
   where
-    of_names : (names : List Ident) (index : Option ExprTree) → s ≡ assign names index v → IsSmallStmt (assign names index v) → slice_get names 0 ≡ Some name → s ≡ assign (name ∷ []) None v
+    of_names : (names : List Ident) (index : Option ExprTree) → s ≡ assign names index v →
+        IsSmallStmt (assign names index v) → slice_get names 0 ≡ Some name → s ≡ assign (name ∷ []) None v
     of_names [] index is small first = elim small [ ]
     of_names (x ∷ []) None is small first = is ∙ ap (λ x. assign (x ∷ []) None v) (cc)
     of_names (x ∷ []) (Some i) is small first = elim small [ ]
     of_names (x ∷ y ∷ ys) index is small first = elim small [ ]
 
-module _ (d : DesignTree) (h : IsSmall d) (body : BodyName) (values choices : List ℕ) (s : StmtTree) (names : List Ident) (index : Option ExprTree) (name : Ident) (small : IsSmallStmt s) (first : slice_get names 0 ≡ Some name) where
+module _ (d : DesignTree) (h : IsSmall d) (body : BodyName) (values choices : List ℕ) (s : StmtTree)
+    (names : List Ident) (index : Option ExprTree) (name : Ident) (small : IsSmallStmt s)
+    (first : slice_get names 0 ≡ Some name) where
   -- a statement that gives a variable a choice
   pub progress_of_star : (at : Place) → s ≡ assign names index (star at) →
-      progress d (plain_memory values) choices (perform (main_scope body) [] s) ≡ chooses (variable_number d name) values choices
+      progress d (plain_memory values) choices (perform (main_scope body) [] s)
+      ≡ chooses (variable_number d name) values choices
   progress_of_star at is =
       let so : s ≡ assign (name ∷ []) None (star at) = small_target s names index (star at) name is small first in
       rw so (progress_star d h body values choices name at)
@@ -195,7 +229,9 @@ module _ (d : DesignTree) (h : IsSmall d) (body : BodyName) (values choices : Li
   -- a statement that gives a variable the value of a literal
   pub progress_of_plain : (e : ExprTree) → s ≡ assign names index (plain e) →
       progress d (plain_memory values) choices (perform (main_scope body) [] s)
-      ≡ goes_on [] (plain_memory (assigned values (variable_number d name) (value d (main_scope body) (plain_memory values) bool_type e))) choices
+      ≡ goes_on [] (plain_memory
+      (assigned values (variable_number d name) (value d (main_scope body) (plain_memory values) bool_type e)))
+      choices
   progress_of_plain e is =
       let so : s ≡ assign (name ∷ []) None (plain e) = small_target s names index (plain e) name is small first in
       rw so (progress_plain d h body values choices name e (subst IsSmallStmt so small))

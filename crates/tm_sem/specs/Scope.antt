@@ -61,9 +61,11 @@ pub record Slot : Type 0 where
   pub name : List ℕ
   pub ty : Ty
 
+-- a parameter, with its type
 abbrev pub param_slot : Param → Slot
 param_slot p = record { name = p.name.text; ty = type_of p.ty }
 
+-- a local, with its type
 abbrev pub local_slot : LocalTree → Slot
 local_slot l = record { name = l.name.text; ty = type_of l.ty }
 
@@ -78,6 +80,7 @@ pub record Code : Type 0 where
 abbrev pub process_code : ProcessTree → Code
 process_code p = record { name = p.name.text; slots = map local_slot p.body.locals; kept = true; body = p.body }
 
+-- whether a task is uncontrollable
 abbrev pub is_uncontrollable : TaskKind → Bool
 is_uncontrollable Uncontrollable = true
 is_uncontrollable _ = false

@@ -9,7 +9,8 @@ use Rattle.tm_syntax.specs.Tree.{TaskTree}
 use Rattle.tm_syntax.specs.View.{stmt_tree, task_tree}
 use Rattle.tm_small.specs.SmallText.{stmt_count}
 
-pub stmt_count_more : {zs : List TaskDef} (ys : List TaskDef) (y : TaskDef) → zs ≡ ys ++ y ∷ [] → stmt_count (map task_tree zs) ≡ stmt_count (map task_tree ys) + vec_len y.body.stmts
+pub stmt_count_more : {zs : List TaskDef} (ys : List TaskDef) (y : TaskDef) → zs ≡ ys ++ y ∷ [] →
+    stmt_count (map task_tree zs) ≡ stmt_count (map task_tree ys) + vec_len y.body.stmts
 stmt_count_more {zs} ys y whole =
     let parts = ap (λ (ks : List TaskDef). stmt_count (map task_tree ks)) whole in
     let split = ap stmt_count (map-append task_tree ys (y ∷ [])) in

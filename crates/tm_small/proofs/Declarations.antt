@@ -13,7 +13,8 @@ vars_declare vs = map-map (λ v. v.name.text) var_tree vs
 pub tasks_declare : (ks : List TaskDef) → map (λ k. k.name.text) (map task_tree ks) ≡ map (λ k. k.name.text) ks
 tasks_declare ks = map-map (λ k. k.name.text) task_tree ks
 
-pub processes_declare : (ps : List ProcessDef) → map (λ p. p.name.text) (map process_tree ps) ≡ map (λ p. p.name.text) ps
+pub processes_declare : (ps : List ProcessDef) →
+    map (λ p. p.name.text) (map process_tree ps) ≡ map (λ p. p.name.text) ps
 processes_declare ps = map-map (λ p. p.name.text) process_tree ps
 
 pub goals_declare : (gs : List Named) → map (λ g. g.name.text) (map named_tree gs) ≡ map (λ g. g.name.text) gs

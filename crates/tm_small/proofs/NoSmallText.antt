@@ -16,15 +16,18 @@ use Rattle.tm_small.proofs.FormsAgree.{spec_agree}
 pub no_template : {text : List ℕ} {tokens : List Token} → AreTokens text tokens →
     ((t : TemplateTree) → IsSpec text t tokens [] → ¬ IsWithinLimits t) → (d : DesignTree) → ¬ IsSmallText text d
 no_template {text} {tokens} are refused d p =
-    refused p.template (subst (λ ts. IsSpec text p.template ts []) (tokens_agree text p.tokens tokens p.are_tokens are) p.spelled) p.within
+    refused p.template (subst (λ ts. IsSpec text p.template ts []) (tokens_agree text p.tokens tokens p.are_tokens are)
+    p.spelled) p.within
 
-pub names_twice : {text : List ℕ} {tokens : List Token} {t : TemplateTree} → AreTokens text tokens → IsSpec text t tokens [] →
+pub names_twice : {text : List ℕ} {tokens : List Token} {t : TemplateTree} → AreTokens text tokens →
+    IsSpec text t tokens [] →
     ¬ AllPairs (λ x y. x ≢ y) (declared_names t) → (d : DesignTree) → ¬ IsSmallText text d
 names_twice {text} {tokens} are spelled twice d p =
     let same : p.tokens ≡ tokens = tokens_agree text p.tokens tokens p.are_tokens are in
     twice (subst (λ u. AllPairs (λ x y. x ≢ y) (declared_names u)) (spec_agree p.spelled spelled same) p.distinct)
 
-pub many_stars : {text : List ℕ} {tokens : List Token} → AreTokens text tokens → 64 < count_by is_star tokens → (d : DesignTree) → ¬ IsSmallText text d
+pub many_stars : {text : List ℕ} {tokens : List Token} → AreTokens text tokens → 64 < count_by is_star tokens →
+    (d : DesignTree) → ¬ IsSmallText text d
 many_stars {text} {tokens} are many d p =
     let stars = subst (λ ts. count_by is_star ts ≤ 64) (tokens_agree text p.tokens tokens p.are_tokens are) p.stars in
     omega arith

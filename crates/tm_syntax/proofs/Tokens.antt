@@ -18,7 +18,10 @@ use Rattle.tm_syntax.specs.Tokens.{word_text, sign_text, is_blank, begins_name, 
 
 -- each reserved word
 words : List Word
-words = word.Typedef ∷ word.Enum ∷ word.Template ∷ word.EndTemplate ∷ word.Instance ∷ word.Bool ∷ word.Uint ∷ word.Goal ∷ word.Fair ∷ word.Lazy ∷ word.Process ∷ word.Task ∷ word.Controllable ∷ word.Uncontrollable ∷ word.Procedure ∷ word.Void ∷ word.Return ∷ word.If ∷ word.Else ∷ word.While ∷ word.Forever ∷ word.Choice ∷ word.Or ∷ word.Assert ∷ word.Assume ∷ word.Pause ∷ word.Wait ∷ word.True ∷ word.False ∷ []
+words = word.Typedef ∷ word.Enum ∷ word.Template ∷ word.EndTemplate ∷ word.Instance ∷ word.Bool ∷ word.Uint ∷ word.Goal
+    ∷ word.Fair ∷ word.Lazy ∷ word.Process ∷ word.Task ∷ word.Controllable ∷ word.Uncontrollable ∷ word.Procedure ∷
+    word.Void ∷ word.Return ∷ word.If ∷ word.Else ∷ word.While ∷ word.Forever ∷ word.Choice ∷ word.Or ∷ word.Assert ∷
+    word.Assume ∷ word.Pause ∷ word.Wait ∷ word.True ∷ word.False ∷ []
 
 -- the reserved word that is spelled so
 word_spelled : List ℕ → Option Word
@@ -60,14 +63,17 @@ word_spelled-word_text word.False = refl
 find_passes : {X : Type 0} (p : X → Bool) (xs : List X) (x : X) → find p xs ≡ Some x → p x ≡ true
 find_passes p [] x e = cc
 find_passes p (y ∷ ys) x e = ⊎_elim
-    (λ so. let same : Some y ≡ Some x = sym (cond-true (p y) (Some y) (find p ys) so) ∙ e in let equal : y ≡ x = cc in ap p (sym equal) ∙ so)
+    (λ so. let same : Some y ≡ Some x = sym (cond-true (p y) (Some y) (find p ys) so) ∙ e in let equal : y ≡ x = cc in
+    ap p (sym equal) ∙ so)
     (λ otherwise. find_passes p ys x (sym (cond-false (p y) (Some y) (find p ys) otherwise) ∙ e))
     (cases_Bool (p y))
 
-word_cases : (bytes : List ℕ) (found : Option Word) → word_spelled bytes ≡ found → ((w : Word) × (word_text w ≡ bytes)) ⊎ ((w : Word) → word_text w ≢ bytes)
+word_cases : (bytes : List ℕ) (found : Option Word) → word_spelled bytes ≡ found →
+    ((w : Word) × (word_text w ≡ bytes)) ⊎ ((w : Word) → word_text w ≢ bytes)
 unfolding word_spelled
 word_cases bytes None e = inr (λ w same. let one = word_spelled-word_text w in let other = ap word_spelled same in cc)
-word_cases bytes (Some w) e = inl (w, (bytes_eq-Decides (word_text w) bytes).0 (find_passes (λ v. bytes_eq (word_text v) bytes) words w e))
+word_cases bytes (Some w) e =
+    inl (w, (bytes_eq-Decides (word_text w) bytes).0 (find_passes (λ v. bytes_eq (word_text v) bytes) words w e))
 
 -- a reserved word is spelled so, or none is
 pub word_decided : (bytes : List ℕ) → ((w : Word) × (word_text w ≡ bytes)) ⊎ ((w : Word) → word_text w ≢ bytes)
@@ -83,7 +89,11 @@ word_text-injective v w same =
 
 -- each sign
 signs : List Sign
-signs = sign.OpenBrace ∷ sign.CloseBrace ∷ sign.OpenParenthesis ∷ sign.CloseParenthesis ∷ sign.OpenBracket ∷ sign.CloseBracket ∷ sign.Semicolon ∷ sign.Comma ∷ sign.Dot ∷ sign.Ellipsis ∷ sign.Colon ∷ sign.Question ∷ sign.Assign ∷ sign.Equal ∷ sign.NotEqual ∷ sign.Less ∷ sign.LessEqual ∷ sign.Greater ∷ sign.GreaterEqual ∷ sign.ShiftLeft ∷ sign.ShiftRight ∷ sign.Plus ∷ sign.Minus ∷ sign.And ∷ sign.AndAnd ∷ sign.Or ∷ sign.OrOr ∷ sign.Xor ∷ sign.Tilde ∷ sign.Bang ∷ sign.Star ∷ []
+signs = sign.OpenBrace ∷ sign.CloseBrace ∷ sign.OpenParenthesis ∷ sign.CloseParenthesis ∷ sign.OpenBracket ∷
+    sign.CloseBracket ∷ sign.Semicolon ∷ sign.Comma ∷ sign.Dot ∷ sign.Ellipsis ∷ sign.Colon ∷ sign.Question ∷
+    sign.Assign ∷ sign.Equal ∷ sign.NotEqual ∷ sign.Less ∷ sign.LessEqual ∷ sign.Greater ∷ sign.GreaterEqual ∷
+    sign.ShiftLeft ∷ sign.ShiftRight ∷ sign.Plus ∷ sign.Minus ∷ sign.And ∷ sign.AndAnd ∷ sign.Or ∷ sign.OrOr ∷ sign.Xor
+    ∷ sign.Tilde ∷ sign.Bang ∷ sign.Star ∷ []
 
 -- the sign that is spelled so
 sign_spelled : List ℕ → Option Sign
@@ -123,10 +133,12 @@ sign_spelled-sign_text sign.Tilde = refl
 sign_spelled-sign_text sign.Bang = refl
 sign_spelled-sign_text sign.Star = refl
 
-sign_cases : (bytes : List ℕ) (found : Option Sign) → sign_spelled bytes ≡ found → ((s : Sign) × (sign_text s ≡ bytes)) ⊎ ((s : Sign) → sign_text s ≢ bytes)
+sign_cases : (bytes : List ℕ) (found : Option Sign) → sign_spelled bytes ≡ found →
+    ((s : Sign) × (sign_text s ≡ bytes)) ⊎ ((s : Sign) → sign_text s ≢ bytes)
 unfolding sign_spelled
 sign_cases bytes None e = inr (λ s same. let one = sign_spelled-sign_text s in let other = ap sign_spelled same in cc)
-sign_cases bytes (Some s) e = inl (s, (bytes_eq-Decides (sign_text s) bytes).0 (find_passes (λ r. bytes_eq (sign_text r) bytes) signs s e))
+sign_cases bytes (Some s) e =
+    inl (s, (bytes_eq-Decides (sign_text s) bytes).0 (find_passes (λ r. bytes_eq (sign_text r) bytes) signs s e))
 
 -- a sign is spelled so, or none is
 pub sign_decided : (bytes : List ℕ) → ((s : Sign) × (sign_text s ≡ bytes)) ⊎ ((s : Sign) → sign_text s ≢ bytes)
@@ -150,7 +162,8 @@ pub data Class : Type 0 where
 
 -- the class of a byte
 abbrev pub class_of : ℕ → Class
-class_of b = cond (is_blank b) blank (cond (b == 47) slash (cond (begins_name b) letter (cond (is_ascii_digit b) digit mark)))
+class_of b = cond (is_blank b) blank
+    (cond (b == 47) slash (cond (begins_name b) letter (cond (is_ascii_digit b) digit mark)))
 
 -- pieces of this kind begin with bytes of this class
 abbrev pub BeginsWith : Option TokenKind → Class → Type 0
@@ -234,7 +247,8 @@ digit_class : (b : ℕ) → is_ascii_digit b ≡ true → class_of b ≡ digit
 digit_class b h = grind (arith, nat_tests)
 
 -- what a piece begins with
-pub piece_class : (kind : Option TokenKind) (bytes : List ℕ) → IsPiece kind bytes → BeginsWith kind (class_of (get_or bytes 0 0))
+pub piece_class : (kind : Option TokenKind) (bytes : List ℕ) → IsPiece kind bytes →
+    BeginsWith kind (class_of (get_or bytes 0 0))
 piece_class None bytes h = ⊎_elim
     (λ h. inl (ap (λ bs. class_of (get_or bs 0 0)) h.2 ∙ blank_class h.0 h.1))
     (λ h. inr (⊎_elim (λ h. ap (λ bs. class_of (get_or bs 0 0)) h.2) (λ h. ap (λ bs. class_of (get_or bs 0 0)) h.2) h))
@@ -250,7 +264,9 @@ piece_class (Some (token.Sign s)) bytes h = ap (λ bs. class_of (get_or bs 0 0))
 
 -- a piece has at least one byte
 pub piece_nonempty : (kind : Option TokenKind) (bytes : List ℕ) → IsPiece kind bytes → 0 < length bytes
-piece_nonempty None [] h = absurd (⊎_elim (λ h. let e = piece_class None [] (inl h) in grind arith) (λ h. ⊎_elim (λ h. let e = h.2 in cc) (λ h. let e = h.2 in cc) h) h)
+piece_nonempty None [] h =
+    absurd (⊎_elim (λ h. let e = piece_class None [] (inl h) in grind arith)
+    (λ h. ⊎_elim (λ h. let e = h.2 in cc) (λ h. let e = h.2 in cc) h) h)
 piece_nonempty (Some token.Name) [] h = absurd h.0
 piece_nonempty (Some token.Number) [] h = let e = piece_class (Some token.Number) [] h in cc
 piece_nonempty (Some (token.Word w)) [] h = let e = piece_class (Some (token.Word w)) [] h in cc
@@ -262,8 +278,10 @@ pub piece_kind : (j k : Option TokenKind) (bytes : List ℕ) → IsPiece j bytes
 piece_kind None None bytes h i = refl
 piece_kind (Some token.Name) (Some token.Name) bytes h i = refl
 piece_kind (Some token.Number) (Some token.Number) bytes h i = refl
-piece_kind (Some (token.Word v)) (Some (token.Word w)) bytes h i = ap (λ w. Some (token.Word w)) (word_text-injective v w (sym h ∙ i))
-piece_kind (Some (token.Sign r)) (Some (token.Sign s)) bytes h i = ap (λ s. Some (token.Sign s)) (sign_text-injective r s (sym h ∙ i))
+piece_kind (Some (token.Word v)) (Some (token.Word w)) bytes h i =
+    ap (λ w. Some (token.Word w)) (word_text-injective v w (sym h ∙ i))
+piece_kind (Some (token.Sign r)) (Some (token.Sign s)) bytes h i =
+    ap (λ s. Some (token.Sign s)) (sign_text-injective r s (sym h ∙ i))
 piece_kind (Some token.Name) (Some (token.Word w)) bytes h i = absurd (h.1 w i)
 piece_kind (Some (token.Word w)) (Some token.Name) bytes h i = absurd (i.1 w h)
 piece_kind j k bytes h i =
@@ -281,7 +299,8 @@ same_fronts a b {x} {y} same whole =
 pub IsEnd : List ℕ → Type 0
 IsEnd rest = (rest ≡ []) ⊎ BeginsNothing rest
 
-nothing_at_end : (rest : List ℕ) (kind : Option TokenKind) (bytes after : List ℕ) → IsEnd rest → IsPiece kind bytes → rest ≡ bytes ++ after → ⊥
+nothing_at_end : (rest : List ℕ) (kind : Option TokenKind) (bytes after : List ℕ) → IsEnd rest → IsPiece kind bytes →
+    rest ≡ bytes ++ after → ⊥
 unfolding IsEnd
 nothing_at_end rest kind bytes after end piece whole =
     let nonempty = piece_nonempty kind bytes piece in
@@ -291,14 +310,18 @@ nothing_at_end rest kind bytes after end piece whole =
     end
 
 -- the first of pieces in a row stands in front
-pub joined-cons : (p : Piece) (ps : List Piece) (rest : List ℕ) → joined (p ∷ ps) ++ rest ≡ p.bytes ++ (joined ps ++ rest)
+pub joined-cons : (p : Piece) (ps : List Piece) (rest : List ℕ) →
+    joined (p ∷ ps) ++ rest ≡ p.bytes ++ (joined ps ++ rest)
 joined-cons p ps rest = append_assoc p.bytes (joined ps) rest
 
 -- a text has one split
-pub splits_agree : (ps qs : List Piece) (x y : List ℕ) → joined ps ++ x ≡ joined qs ++ y → ArePieces ps x → ArePieces qs y → IsEnd x → IsEnd y → (ps ≡ qs) × (x ≡ y)
+pub splits_agree : (ps qs : List Piece) (x y : List ℕ) → joined ps ++ x ≡ joined qs ++ y → ArePieces ps x →
+    ArePieces qs y → IsEnd x → IsEnd y → (ps ≡ qs) × (x ≡ y)
 splits_agree [] [] x y whole p q ends end = (refl, whole)
-splits_agree [] (b ∷ qs) x y whole p q ends end = absurd (nothing_at_end x b.kind b.bytes (joined qs ++ y) ends q.0 (whole ∙ joined-cons b qs y))
-splits_agree (a ∷ ps) [] x y whole p q ends end = absurd (nothing_at_end y a.kind a.bytes (joined ps ++ x) end p.0 (sym whole ∙ joined-cons a ps x))
+splits_agree [] (b ∷ qs) x y whole p q ends end =
+    absurd (nothing_at_end x b.kind b.bytes (joined qs ++ y) ends q.0 (whole ∙ joined-cons b qs y))
+splits_agree (a ∷ ps) [] x y whole p q ends end =
+    absurd (nothing_at_end y a.kind a.bytes (joined ps ++ x) end p.0 (sym whole ∙ joined-cons a ps x))
 splits_agree (a ∷ ps) (b ∷ qs) x y whole p q ends end =
     let parts = sym (joined-cons a ps x) ∙ whole ∙ joined-cons b qs y in
     let below = p.1 b.kind b.bytes (joined qs ++ y) q.0 parts in
@@ -309,8 +332,10 @@ splits_agree (a ∷ ps) (b ∷ qs) x y whole p q ends end =
     (λ i. record { kind = kinds i; bytes = same.0 i } ∷ rest.0 i, rest.1)
 
 -- what is left of two splits of one text is the same, and so are the pieces
-pub Splits-agree : (text : List ℕ) (ps qs : List Piece) (x y : List ℕ) → Splits text ps x → Splits text qs y → IsEnd x → IsEnd y → (ps ≡ qs) × (x ≡ y)
-Splits-agree text ps qs x y one other ends end = splits_agree ps qs x y (sym one.whole ∙ other.whole) one.each other.each ends end
+pub Splits-agree : (text : List ℕ) (ps qs : List Piece) (x y : List ℕ) → Splits text ps x → Splits text qs y → IsEnd x →
+    IsEnd y → (ps ≡ qs) × (x ≡ y)
+Splits-agree text ps qs x y one other ends end =
+    splits_agree ps qs x y (sym one.whole ∙ other.whole) one.each other.each ends end
 
 -- the tokens of a text are determined
 pub tokens_agree : (text : List ℕ) (ts us : List Token) → AreTokens text ts → AreTokens text us → ts ≡ us
@@ -320,15 +345,19 @@ tokens_agree text ts us one other =
     one.are ∙ ap (tokens_behind []) same.0 ∙ sym other.are
 
 -- a text with tokens has no byte fault
-pub tokens_or_fault : (text : List ℕ) (ts : List Token) (place : Place) → AreTokens text ts → HasByteFault text place → ⊥
+pub tokens_or_fault : (text : List ℕ) (ts : List Token) (place : Place) → AreTokens text ts → HasByteFault text place →
+    ⊥
 unfolding IsEnd
 tokens_or_fault text ts place one fault =
-    let same = (Splits-agree text one.pieces fault.pieces [] (fault.byte ∷ fault.rest) one.split fault.split (inl refl) (inr fault.begins_nothing)).1 in
+    let same = (Splits-agree text one.pieces fault.pieces [] (fault.byte ∷ fault.rest) one.split fault.split (inl refl)
+    (inr fault.begins_nothing)).1 in
     cc
 
 -- the byte fault of a text is at one place
-pub faults_agree : (text : List ℕ) (here there : Place) → HasByteFault text here → HasByteFault text there → here ≡ there
+pub faults_agree : (text : List ℕ) (here there : Place) → HasByteFault text here → HasByteFault text there →
+    here ≡ there
 unfolding IsEnd
 faults_agree text here there one other =
-    let same = Splits-agree text one.pieces other.pieces (one.byte ∷ one.rest) (other.byte ∷ other.rest) one.split other.split (inr one.begins_nothing) (inr other.begins_nothing) in
+    let same = Splits-agree text one.pieces other.pieces (one.byte ∷ one.rest) (other.byte ∷ other.rest) one.split
+    other.split (inr one.begins_nothing) (inr other.begins_nothing) in
     one.here ∙ ap (λ ps. place_after (joined ps)) same.0 ∙ sym other.here

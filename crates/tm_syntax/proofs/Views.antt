@@ -13,22 +13,28 @@ use Rattle.tm_syntax.specs.declared.tree.Stmt.TheVariants.{Assign, Call, If, Whi
 use Rattle.tm_syntax.specs.Tree.{StmtTree, assign, invoke, branch, repeat, forever, choose, assert, assume, pause, wait, magic, row_of, alternatives_of}
 use Rattle.tm_syntax.specs.View.{expr_tree, expr_trees, value_tree, stmt_step, stmt_tree, stmt_trees}
 
-pub view-Assign : (p : Path) (i : Option Expr) (v : Value) → stmt_tree (Assign p i v) ≡ assign p.names.items (option_map expr_tree i) (value_tree v)
+pub view-Assign : (p : Path) (i : Option Expr) (v : Value) →
+    stmt_tree (Assign p i v) ≡ assign p.names.items (option_map expr_tree i) (value_tree v)
 view-Assign p i v = ap stmt_tree (sym (rolls-Assign p i v)) ∙ fold-roll-Stmt StmtTree stmt_step _
 
-pub view-Call : (p : Path) (args : Vec Expr Global) → stmt_tree (Call p args) ≡ invoke p.names.items (expr_trees args.items)
+pub view-Call : (p : Path) (args : Vec Expr Global) →
+    stmt_tree (Call p args) ≡ invoke p.names.items (expr_trees args.items)
 view-Call p args = ap stmt_tree (sym (rolls-Call p args)) ∙ fold-roll-Stmt StmtTree stmt_step _
 
-pub view-If : (e : Expr) (a b : Vec Stmt Global) → stmt_tree (If e a b) ≡ branch (expr_tree e) (row_of (stmt_trees a.items)) (row_of (stmt_trees b.items))
+pub view-If : (e : Expr) (a b : Vec Stmt Global) →
+    stmt_tree (If e a b) ≡ branch (expr_tree e) (row_of (stmt_trees a.items)) (row_of (stmt_trees b.items))
 view-If e a b = ap stmt_tree (sym (rolls-If e a b)) ∙ fold-roll-Stmt StmtTree stmt_step _
 
-pub view-While : (at : Place) (e : Expr) (a : Vec Stmt Global) → stmt_tree (While at e a) ≡ repeat at (expr_tree e) (row_of (stmt_trees a.items))
+pub view-While : (at : Place) (e : Expr) (a : Vec Stmt Global) →
+    stmt_tree (While at e a) ≡ repeat at (expr_tree e) (row_of (stmt_trees a.items))
 view-While at e a = ap stmt_tree (sym (rolls-While at e a)) ∙ fold-roll-Stmt StmtTree stmt_step _
 
-pub view-Forever : (at : Place) (a : Vec Stmt Global) → stmt_tree (Forever at a) ≡ forever at (row_of (stmt_trees a.items))
+pub view-Forever : (at : Place) (a : Vec Stmt Global) →
+    stmt_tree (Forever at a) ≡ forever at (row_of (stmt_trees a.items))
 view-Forever at a = ap stmt_tree (sym (rolls-Forever at a)) ∙ fold-roll-Stmt StmtTree stmt_step _
 
-pub view-Choice : (at : Place) (a : Vec (Vec Stmt Global) Global) → stmt_tree (Choice at a) ≡ choose at (alternatives_of (map (λ b. row_of (stmt_trees b.items)) a.items))
+pub view-Choice : (at : Place) (a : Vec (Vec Stmt Global) Global) →
+    stmt_tree (Choice at a) ≡ choose at (alternatives_of (map (λ b. row_of (stmt_trees b.items)) a.items))
 view-Choice at a =
     ap stmt_tree (sym (rolls-Choice at a)) ∙ fold-roll-Stmt StmtTree stmt_step _ ∙
     ap (λ bs. choose at (alternatives_of bs)) (map-map (λ (b : Vec StmtTree Global). row_of b.items) _ a.items)
@@ -49,4 +55,16 @@ pub view-Magic : (at : Place) → stmt_tree (Magic at) ≡ magic at
 view-Magic at = ap stmt_tree (sym (rolls-Magic at)) ∙ fold-roll-Stmt StmtTree stmt_step _
 
 -- the equations of a view, which a proof about statements needs
-pub ruleset views = (view-Assign, view-Call, view-If, view-While, view-Forever, view-Choice, view-Assert, view-Assume, view-Pause, view-Wait, view-Magic)
+pub ruleset views = (
+  view-Assign,
+  view-Call,
+  view-If,
+  view-While,
+  view-Forever,
+  view-Choice,
+  view-Assert,
+  view-Assume,
+  view-Pause,
+  view-Wait,
+  view-Magic,
+)

@@ -27,6 +27,7 @@ pub record InstanceNode : Type 0 where
   pub ports : List ℕ
   pub children : List ℕ
 
+-- what contracts see of an instance
 abbrev pub instance_node : Instance → InstanceNode
 instance_node i = record { path = i.path; template = i.template; ports = i.ports.items; children = i.children.items }
 
@@ -67,6 +68,7 @@ mutual
         slice_get nodes at ≡ Some node → slice_get spec.templates node.template ≡ Some t →
         IsForest spec nodes node t t.instances node.children (at + 1) end → IsSubtree spec nodes at end
 
+  -- instances that a template declares one behind the other, each with all that lie below it
   pub data IsForest (spec : SpecTree) (nodes : List InstanceNode) :
       InstanceNode → TemplateTree → List InstanceTree → List ℕ → ℕ → ℕ → Type 0 where
     none_left : {parent : InstanceNode} {t : TemplateTree} {end : ℕ} → IsForest spec nodes parent t [] [] end end

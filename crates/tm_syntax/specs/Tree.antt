@@ -46,10 +46,12 @@ mutual
     wait : Place → ExprTree → StmtTree
     magic : Place → StmtTree
 
+  -- statements in a row
   pub data StmtRow : Type 0 where
     nothing : StmtRow
     then : StmtTree → StmtRow → StmtRow
 
+  -- blocks in a row
   pub data BlockRow : Type 0 where
     nowhere : BlockRow
     or_else : StmtRow → BlockRow → BlockRow
@@ -98,6 +100,7 @@ pub record NamedTree : Type 0 where
   pub name : Ident
   pub expr : ExprTree
 
+-- a process, lazy or not
 pub record ProcessTree : Type 0 where
   pub lazy : Bool
   pub name : Ident
@@ -110,15 +113,18 @@ pub record TaskTree : Type 0 where
   pub params : List Param
   pub body : BodyTree
 
+-- the declaration of an instance, with the names that its ports stand for
 pub record InstanceTree : Type 0 where
   pub template : Ident
   pub name : Ident
   pub args : List Ident
 
+-- an enum with its constants
 pub record EnumTree : Type 0 where
   pub name : Ident
   pub constants : List Ident
 
+-- a template with all that it declares
 pub record TemplateTree : Type 0 where
   pub name : Ident
   pub ports : List Port

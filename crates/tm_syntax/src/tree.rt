@@ -99,6 +99,7 @@ pub enum TaskKind {
     Procedure(Option<TypeName>),
 }
 
+/// A parameter of a task.
 #[derive(Drop)]
 pub struct Param {
     pub ty: TypeName,
@@ -113,6 +114,7 @@ pub struct Body {
     pub answer: Option<Expr>,
 }
 
+/// The declaration of a local, with the value that it assigns.
 #[derive(Drop)]
 pub struct LocalDef {
     pub ty: TypeName,

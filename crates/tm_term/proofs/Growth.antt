@@ -32,7 +32,8 @@ pub record Has (t : Table) (id : TermId) (term : Term) : Type 0 where
   pub is : term_of t id ≡ Some term
   pub entry : IsEntry t id.0 term (width_of t id)
 
-has_from : (t : Table) (id : TermId) (term : Term) (width : ℕ) → IsSound t → slice_get t.kept id.0 ≡ Some (term, width) → Has t id term
+has_from : (t : Table) (id : TermId) (term : Term) (width : ℕ) → IsSound t →
+    slice_get t.kept id.0 ≡ Some (term, width) → Has t id term
 has_from t id term width sound at =
     record {
       is = ap term_in at;
@@ -104,7 +105,8 @@ FitsBelow-along t u n (Less a b) agrees h = AreAlike-along t u n a b agrees h
 FitsBelow-along t u n (Ite c a b) agrees h = (h.0, agrees.widths c h.0 ∙ h.1, AreAlike-along t u n a b agrees h.2)
 FitsBelow-along t u n (Resize width a) agrees h = h
 
-pub term_width-along : (t u : Table) (n : ℕ) (term : Term) → Agrees t u n → FitsBelow t n term → term_width u term ≡ term_width t term
+pub term_width-along : (t u : Table) (n : ℕ) (term : Term) → Agrees t u n → FitsBelow t n term →
+    term_width u term ≡ term_width t term
 term_width-along t u n (Const width number) agrees h = refl
 term_width-along t u n (Input i) agrees h = ap (λ xs. slice_index xs i) agrees.inputs
 term_width-along t u n (Not a) agrees h = agrees.widths a h
@@ -172,8 +174,10 @@ module _ (t : Table) (term : Term) where
       let len = length-append t.kept ((term, term_width t term) ∷ []) in
       ⊎_elim (λ l. inl l) (λ g. inr (omega (arith, g, len, h))) (Rattle.std.proofs.lemmas.Bool.cases_lt k (count_of t))
 
-  entries-added : IsSound t → Fits t term → (k : ℕ) (some : Term) (width : ℕ) → slice_get (added t term).kept k ≡ Some (some, width) → IsEntry (added t term) k some width
-  entries-added sound fits k some width at = ⊎_elim old new (old_or_new k (slice_get_within (added t term).kept k (some, width) at))
+  entries-added : IsSound t → Fits t term → (k : ℕ) (some : Term) (width : ℕ) →
+      slice_get (added t term).kept k ≡ Some (some, width) → IsEntry (added t term) k some width
+  entries-added sound fits k some width at =
+      ⊎_elim old new (old_or_new k (slice_get_within (added t term).kept k (some, width) at))
     where
       old : k < count_of t → IsEntry (added t term) k some width
       old known =
@@ -187,33 +191,42 @@ module _ (t : Table) (term : Term) where
 
       new : k ≡ count_of t → IsEntry (added t term) k some width
       new e =
-          let same = some_pair_parts term some (term_width t term) width (sym entry-added_new ∙ ap (slice_get (added t term).kept) (sym e) ∙ at) in
+          let same = some_pair_parts term some (term_width t term) width
+          (sym entry-added_new ∙ ap (slice_get (added t term).kept) (sym e) ∙ at) in
           let agrees = agrees-added (count_of t) (omega arith) in
           let fits' = FitsBelow-along t (added t term) (count_of t) term agrees fits in
           let sized' = term_width-along t (added t term) (count_of t) term agrees fits in
           record {
-            fits = subst (λ n. FitsBelow (added t term) n some) (sym e) (subst (FitsBelow (added t term) (count_of t)) same.0 fits');
+            fits = subst (λ n. FitsBelow (added t term) n some) (sym e)
+                (subst (FitsBelow (added t term) (count_of t)) same.0 fits');
             sized = sym same.1 ∙ sym sized' ∙ ap (term_width (added t term)) same.0;
             in_range = subst IsWidth same.1 (IsWidth-term_width t term sound fits);
           }
 
-  distinct-added : IsSound t → ((id : TermId) → term_of t id ≡ Some term → ⊥) → (a b : TermId) (some : Term) → term_of (added t term) a ≡ Some some → term_of (added t term) b ≡ Some some → a ≡ b
-  distinct-added sound absent a b some ha hb = ⊎_elim first_old first_new (old_or_new a.0 (known_term (added t term) a some ha))
+  distinct-added : IsSound t → ((id : TermId) → term_of t id ≡ Some term → ⊥) → (a b : TermId) (some : Term) →
+      term_of (added t term) a ≡ Some some → term_of (added t term) b ≡ Some some → a ≡ b
+  distinct-added sound absent a b some ha hb =
+      ⊎_elim first_old first_new (old_or_new a.0 (known_term (added t term) a some ha))
     where
       -- the new term is no old one
-      apart : (old new : TermId) → IsKnown t old → new.0 ≡ count_of t → term_of (added t term) old ≡ Some some → term_of (added t term) new ≡ Some some → ⊥
+      apart : (old new : TermId) → IsKnown t old → new.0 ≡ count_of t → term_of (added t term) old ≡ Some some →
+          term_of (added t term) new ≡ Some some → ⊥
       apart old new known e ho hn =
           let same = same_Some some term (sym hn ∙ term_of-added_new new e) in
           absent old (sym (term_of-added_old old known) ∙ ho ∙ ap Some same)
 
       second : a.0 < count_of t → (b.0 < count_of t) ⊎ (b.0 ≡ count_of t) → a ≡ b
-      second known = ⊎_elim (λ kb. sound.distinct a b some (sym (term_of-added_old a known) ∙ ha) (sym (term_of-added_old b kb) ∙ hb)) (λ e. absurd (apart a b known e ha hb))
+      second known = ⊎_elim (λ kb.
+          sound.distinct a b some (sym (term_of-added_old a known) ∙ ha) (sym (term_of-added_old b kb) ∙ hb))
+          (λ e. absurd (apart a b known e ha hb))
 
       first_old : a.0 < count_of t → a ≡ b
       first_old known = second known (old_or_new b.0 (known_term (added t term) b some hb))
 
       first_new : a.0 ≡ count_of t → a ≡ b
-      first_new e = ⊎_elim (λ kb. absurd (apart b a kb e hb ha)) (λ eb. TermId-ext a b (e ∙ sym eb)) (old_or_new b.0 (known_term (added t term) b some hb))
+      first_new e = ⊎_elim (λ kb. absurd (apart b a kb e hb ha)) (λ eb. TermId-ext a b (e ∙ sym eb))
+          (old_or_new b.0 (known_term (added t term) b some hb))
 
   pub sound-added : IsSound t → Fits t term → ((id : TermId) → term_of t id ≡ Some term → ⊥) → IsSound (added t term)
-  sound-added sound fits absent = record { inputs = sound.inputs; entries = entries-added sound fits; distinct = distinct-added sound absent }
+  sound-added sound fits absent =
+      record { inputs = sound.inputs; entries = entries-added sound fits; distinct = distinct-added sound absent }

@@ -26,8 +26,10 @@ AreBelow-parts_of t n (Ite c a b) h = (h.0, h.2.0, h.2.1)
 AreBelow-parts_of t n (Resize width a) h = h.1
 
 -- operands by one function are operands by another that agrees with it below n
-pub AreOperands-along : (f g : TermId → ℕ) (n : ℕ) (parts : Parts) (xs : ℕ × ℕ × ℕ) → ((id : TermId) → id.0 < n → f id ≡ g id) → AreBelow n parts → AreOperands f parts xs → AreOperands g parts xs
+pub AreOperands-along : (f g : TermId → ℕ) (n : ℕ) (parts : Parts) (xs : ℕ × ℕ × ℕ) →
+    ((id : TermId) → id.0 < n → f id ≡ g id) → AreBelow n parts → AreOperands f parts xs → AreOperands g parts xs
 AreOperands-along f g n None xs same below h = tt
 AreOperands-along f g n (One a) xs same below h = h ∙ same a below
 AreOperands-along f g n (Two a b) xs same below h = (h.0 ∙ same a below.0, h.1 ∙ same b below.1)
-AreOperands-along f g n (Three c a b) xs same below h = (h.0 ∙ same c below.0, h.1 ∙ same a below.1, h.2 ∙ same b below.2)
+AreOperands-along f g n (Three c a b) xs same below h =
+    (h.0 ∙ same c below.0, h.1 ∙ same a below.1, h.2 ∙ same b below.2)

@@ -28,7 +28,9 @@ difference_cut a b j k h =
     ∙ ap (λ m. m % 2 ^ k) (taken_from a b (2 ^ k) (2 ^ j - 1) h)
     ∙ add-mul-mod_self_right (a + (2 ^ k - b)) (2 ^ j - 1) (2 ^ k)
 
-pub difference_of_word : (a b w : ℕ) → w ≤ 64 → b < 2 ^ w → (a + (2 ^ 64 - b)) % 2 ^ 64 % 2 ^ w ≡ (a + (2 ^ w - b)) % 2 ^ w
+pub difference_of_word : (a b w : ℕ) → w ≤ 64 → b < 2 ^ w →
+    (a + (2 ^ 64 - b)) % 2 ^ 64 % 2 ^ w ≡ (a + (2 ^ w - b)) % 2 ^ w
 difference_of_word a b w h below =
     let e : (64 - w) + w ≡ 64 = omega arith in
-    subst (λ m. (a + (2 ^ m - b)) % 2 ^ m % 2 ^ w ≡ (a + (2 ^ w - b)) % 2 ^ w) e (difference_cut a b (64 - w) w (omega arith))
+    subst (λ m. (a + (2 ^ m - b)) % 2 ^ m % 2 ^ w ≡ (a + (2 ^ w - b)) % 2 ^ w) e
+    (difference_cut a b (64 - w) w (omega arith))

@@ -11,20 +11,25 @@ use Rattle.tm_term.specs.Value.{AreInputs, value_over, value_within, value_of, t
 use Rattle.tm_term.proofs.Growth.{TermId-ext, has_known, has_term, known_term, Agrees, added, agrees-added, known-added, term_of-added_old, width_of-added_old, term_of-added_new, sound-added}
 
 -- a term's value depends on its parts alone
-pub value_over-along : (t u : Table) (n : ℕ) (values : List ℕ) (f g : TermId → ℕ) (term : Term) → Agrees t u n → FitsBelow t n term → ((id : TermId) → id.0 < n → g id ≡ f id) → value_over u values g term ≡ value_over t values f term
+pub value_over-along : (t u : Table) (n : ℕ) (values : List ℕ) (f g : TermId → ℕ) (term : Term) → Agrees t u n →
+    FitsBelow t n term → ((id : TermId) → id.0 < n → g id ≡ f id) →
+    value_over u values g term ≡ value_over t values f term
 value_over-along t u n values f g (Const width number) agrees h same = refl
 value_over-along t u n values f g (Input i) agrees h same = refl
 value_over-along t u n values f g (Not a) agrees h same = rw (same a h, agrees.widths a h)
 value_over-along t u n values f g (And a b) agrees h same = let x = same a h.0 in let y = same b h.1 in cc
 value_over-along t u n values f g (Or a b) agrees h same = let x = same a h.0 in let y = same b h.1 in cc
 value_over-along t u n values f g (Xor a b) agrees h same = let x = same a h.0 in let y = same b h.1 in cc
-value_over-along t u n values f g (Add a b) agrees h same = let x = same a h.0 in let y = same b h.1 in let w = agrees.widths a h.0 in cc
-value_over-along t u n values f g (Sub a b) agrees h same = let x = same a h.0 in let y = same b h.1 in let w = agrees.widths a h.0 in cc
+value_over-along t u n values f g (Add a b) agrees h same = let x = same a h.0 in let y = same b h.1 in let w =
+    agrees.widths a h.0 in cc
+value_over-along t u n values f g (Sub a b) agrees h same = let x = same a h.0 in let y = same b h.1 in let w =
+    agrees.widths a h.0 in cc
 value_over-along t u n values f g (Shl a by) agrees h same = let x = same a h.0 in let w = agrees.widths a h.0 in cc
 value_over-along t u n values f g (Shr a by) agrees h same = let x = same a h.0 in cc
 value_over-along t u n values f g (Eq a b) agrees h same = let x = same a h.0 in let y = same b h.1 in cc
 value_over-along t u n values f g (Less a b) agrees h same = let x = same a h.0 in let y = same b h.1 in cc
-value_over-along t u n values f g (Ite c a b) agrees h same = let z = same c h.0 in let x = same a h.2.0 in let y = same b h.2.1 in cc
+value_over-along t u n values f g (Ite c a b) agrees h same = let z = same c h.0 in let x = same a h.2.0 in let y =
+    same b h.2.1 in cc
 value_over-along t u n values f g (Resize width a) agrees h same = let x = same a h.1 in cc
 
 pub agrees_itself : (t : Table) (n : ℕ) → Agrees t t n
@@ -32,23 +37,29 @@ agrees_itself t n = record { inputs = refl; widths = λ id h. refl }
 
 module _ (t : Table) (values : List ℕ) (sound : IsSound t) where
   -- as many levels as the id and one are enough
-  value_within-enough : (d e : ℕ) (id : TermId) → IsKnown t id → id.0 < d → id.0 < e → value_within d t values id ≡ value_within e t values id
+  value_within-enough : (d e : ℕ) (id : TermId) → IsKnown t id → id.0 < d → id.0 < e →
+      value_within d t values id ≡ value_within e t values id
   unfolding value_within
   value_within-enough zero e id known h k = absurd (omega arith)
   value_within-enough (suc d) zero id known h k = absurd (omega arith)
   value_within-enough (suc d) (suc e) id known h k =
       let has = has_known t id sound known in
-      let part = λ (p : TermId) (below : p.0 < id.0). value_within-enough d e p (omega arith) (omega arith) (omega arith) in
-      rw has.1.is (value_over-along t t id.0 values (value_within e t values) (value_within d t values) has.0 (agrees_itself t id.0) has.1.entry.fits part)
+      let part = λ (p : TermId) (below : p.0 < id.0).
+      value_within-enough d e p (omega arith) (omega arith) (omega arith) in
+      rw has.1.is (value_over-along t t id.0 values (value_within e t values) (value_within d t values) has.0
+      (agrees_itself t id.0) has.1.entry.fits part)
 
   -- the value of an id is that of its term
-  pub value_of-term : (id : TermId) (term : Term) → term_of t id ≡ Some term → value_of t values id ≡ term_value t values term
+  pub value_of-term : (id : TermId) (term : Term) → term_of t id ≡ Some term →
+      value_of t values id ≡ term_value t values term
   unfolding value_of value_within
   value_of-term id term is =
       let has = has_term t id term sound is in
       let known = known_term t id term is in
-      let part = λ (p : TermId) (below : p.0 < id.0). value_within-enough id.0 (suc p.0) p (omega arith) below (omega arith) in
-      rw is (value_over-along t t id.0 values (value_of t values) (value_within id.0 t values) term (agrees_itself t id.0) has.entry.fits part)
+      let part = λ (p : TermId) (below : p.0 < id.0).
+      value_within-enough id.0 (suc p.0) p (omega arith) below (omega arith) in
+      rw is (value_over-along t t id.0 values (value_of t values) (value_within id.0 t values) term
+      (agrees_itself t id.0) has.entry.fits part)
 
 -- ---- a value is below 2 to the width
 bit_below : (b : Bool) → (if b then 1 else 0) < 2 ^ 1
@@ -59,20 +70,28 @@ either_below : (b : Bool) (x y m : ℕ) → x < m → y < m → (if b then x els
 either_below true x y m h k = h
 either_below false x y m h k = k
 
-pub value_over-below : (t : Table) (n : ℕ) (values : List ℕ) (f : TermId → ℕ) (term : Term) → AreInputs t values → FitsBelow t n term → ((id : TermId) → id.0 < n → f id < 2 ^ width_of t id) → value_over t values f term < 2 ^ term_width t term
+pub value_over-below : (t : Table) (n : ℕ) (values : List ℕ) (f : TermId → ℕ) (term : Term) → AreInputs t values →
+    FitsBelow t n term → ((id : TermId) → id.0 < n → f id < 2 ^ width_of t id) →
+    value_over t values f term < 2 ^ term_width t term
 value_over-below t n values f (Const width number) inputs h below = h.1
 value_over-below t n values f (Input i) inputs h below = inputs.in_range i (omega (arith, h, inputs.count))
 value_over-below t n values f (Not a) inputs h below = omega (arith, pow_pos (width_of t a))
 value_over-below t n values f (And a b) inputs h below = omega (arith, below a h.0, and_le_l (f a) (f b))
-value_over-below t n values f (Or a b) inputs h below = or_lt (width_of t a) (f a) (f b) (below a h.0) (rw h.2 (below b h.1))
-value_over-below t n values f (Xor a b) inputs h below = xor_lt (width_of t a) (f a) (f b) (below a h.0) (rw h.2 (below b h.1))
-value_over-below t n values f (Add a b) inputs h below = mod_below (f a + f b) (2 ^ width_of t a) (pow_pos (width_of t a))
-value_over-below t n values f (Sub a b) inputs h below = mod_below (f a + (2 ^ width_of t a - f b)) (2 ^ width_of t a) (pow_pos (width_of t a))
-value_over-below t n values f (Shl a by) inputs h below = mod_below (f a * 2 ^ by) (2 ^ width_of t a) (pow_pos (width_of t a))
+value_over-below t n values f (Or a b) inputs h below =
+    or_lt (width_of t a) (f a) (f b) (below a h.0) (rw h.2 (below b h.1))
+value_over-below t n values f (Xor a b) inputs h below =
+    xor_lt (width_of t a) (f a) (f b) (below a h.0) (rw h.2 (below b h.1))
+value_over-below t n values f (Add a b) inputs h below =
+    mod_below (f a + f b) (2 ^ width_of t a) (pow_pos (width_of t a))
+value_over-below t n values f (Sub a b) inputs h below =
+    mod_below (f a + (2 ^ width_of t a - f b)) (2 ^ width_of t a) (pow_pos (width_of t a))
+value_over-below t n values f (Shl a by) inputs h below =
+    mod_below (f a * 2 ^ by) (2 ^ width_of t a) (pow_pos (width_of t a))
 value_over-below t n values f (Shr a by) inputs h below = omega (arith, below a h.0, shr_le (f a) by)
 value_over-below t n values f (Eq a b) inputs h below = bit_below (f a == f b)
 value_over-below t n values f (Less a b) inputs h below = bit_below (nat_lt (f a) (f b))
-value_over-below t n values f (Ite c a b) inputs h below = either_below (f c == 1) (f a) (f b) (2 ^ width_of t a) (below a h.2.0) (rw h.2.2 (below b h.2.1))
+value_over-below t n values f (Ite c a b) inputs h below =
+    either_below (f c == 1) (f a) (f b) (2 ^ width_of t a) (below a h.2.0) (rw h.2.2 (below b h.2.1))
 value_over-below t n values f (Resize width a) inputs h below = mod_below (f a) (2 ^ width) (pow_pos width)
 
 module _ (t : Table) (values : List ℕ) (sound : IsSound t) (inputs : AreInputs t values) where
@@ -82,7 +101,8 @@ module _ (t : Table) (values : List ℕ) (sound : IsSound t) (inputs : AreInputs
   value_within-below (suc d) id known h =
       let has = has_known t id sound known in
       let part = λ (p : TermId) (below : p.0 < id.0). value_within-below d p (omega arith) (omega arith) in
-      rw (has.1.is, has.1.entry.sized) (value_over-below t id.0 values (value_within d t values) has.0 inputs has.1.entry.fits part)
+      rw (has.1.is, has.1.entry.sized)
+      (value_over-below t id.0 values (value_within d t values) has.0 inputs has.1.entry.fits part)
 
   -- the value of a known id is below 2 to its width
   pub value_of-below : (id : TermId) → IsKnown t id → value_of t values id < 2 ^ width_of t id
@@ -91,15 +111,19 @@ module _ (t : Table) (values : List ℕ) (sound : IsSound t) (inputs : AreInputs
 
 -- ---- what an addition leaves
 module _ (t : Table) (term : Term) (sound : IsSound t) where
-  value_within-added : (values : List ℕ) (d : ℕ) (id : TermId) → IsKnown t id → value_within d (added t term) values id ≡ value_within d t values id
+  value_within-added : (values : List ℕ) (d : ℕ) (id : TermId) → IsKnown t id →
+      value_within d (added t term) values id ≡ value_within d t values id
   unfolding value_within
   value_within-added values zero id known = refl
   value_within-added values (suc d) id known =
       let has = has_known t id sound known in
       let part = λ (p : TermId) (below : p.0 < id.0). value_within-added values d p (omega arith) in
-      rw (term_of-added_old t term id known, has.1.is) (value_over-along t (added t term) id.0 values (value_within d t values) (value_within d (added t term) values) has.0 (agrees-added t term id.0 (omega arith)) has.1.entry.fits part)
+      rw (term_of-added_old t term id known, has.1.is)
+      (value_over-along t (added t term) id.0 values (value_within d t values)
+      (value_within d (added t term) values) has.0 (agrees-added t term id.0 (omega arith)) has.1.entry.fits part)
 
-  pub value_of-added_old : (values : List ℕ) (id : TermId) → IsKnown t id → value_of (added t term) values id ≡ value_of t values id
+  pub value_of-added_old : (values : List ℕ) (id : TermId) → IsKnown t id →
+      value_of (added t term) values id ≡ value_of t values id
   unfolding value_of
   value_of-added_old values id known = value_within-added values (suc id.0) id known
 
@@ -114,14 +138,17 @@ module _ (t : Table) (term : Term) (sound : IsSound t) where
       }
 
   -- the new id has the value of the term
-  pub value_of-added_new : Fits t term → ((id : TermId) → term_of t id ≡ Some term → ⊥) → (values : List ℕ) (id : TermId) → id.0 ≡ count_of t → value_of (added t term) values id ≡ term_value t values term
+  pub value_of-added_new : Fits t term → ((id : TermId) → term_of t id ≡ Some term → ⊥) →
+      (values : List ℕ) (id : TermId) → id.0 ≡ count_of t → value_of (added t term) values id ≡ term_value t values term
   value_of-added_new fits absent values id e =
       value_of-term (added t term) values (sound-added t term sound fits absent) id term (term_of-added_new t term id e)
-      ∙ value_over-along t (added t term) (count_of t) values (value_of t values) (value_of (added t term) values) term (agrees-added t term (count_of t) (omega arith)) fits (value_of-added_old values)
+      ∙ value_over-along t (added t term) (count_of t) values (value_of t values) (value_of (added t term) values) term
+      (agrees-added t term (count_of t) (omega arith)) fits (value_of-added_old values)
 
 -- ---- extension is an order
 pub extends_itself : (t : Table) → Extends t t
-extends_itself t = record { inputs = refl; known = λ id k. k; terms = λ id k. refl; widths = λ id k. refl; values = λ v id k. refl }
+extends_itself t = record
+    { inputs = refl; known = λ id k. k; terms = λ id k. refl; widths = λ id k. refl; values = λ v id k. refl }
 
 pub Extends-trans : (t u v : Table) → Extends t u → Extends u v → Extends t v
 Extends-trans t u v first second =
@@ -134,7 +161,10 @@ Extends-trans t u v first second =
     }
 
 -- ---- a table of the values of the first ids, with one more
-pub values_more : (t : Table) (values table : List ℕ) (k x : ℕ) → ((id : TermId) → id.0 < k → slice_index table id.0 ≡ value_of t values id) → k < length table → x ≡ value_of t values (record { 0 = k }) → (id : TermId) → id.0 < k + 1 → slice_index (slice_set table k x) id.0 ≡ value_of t values id
+pub values_more : (t : Table) (values table : List ℕ) (k x : ℕ) →
+    ((id : TermId) → id.0 < k → slice_index table id.0 ≡ value_of t values id) → k < length table →
+    x ≡ value_of t values (record { 0 = k }) → (id : TermId) → id.0 < k + 1 →
+    slice_index (slice_set table k x) id.0 ≡ value_of t values id
 values_more t values table k x before within is id h = ⊎_elim old new (cases_lt id.0 k)
   where
     old : id.0 < k → slice_index (slice_set table k x) id.0 ≡ value_of t values id
@@ -143,4 +173,5 @@ values_more t values table k x before within is id h = ⊎_elim old new (cases_l
     new : k ≤ id.0 → slice_index (slice_set table k x) id.0 ≡ value_of t values id
     new above =
         let e : id.0 ≡ k = omega arith in
-        ap (λ i. slice_index (slice_set table k x) i) e ∙ get_or-set_same table k x 0 within ∙ is ∙ ap (value_of t values) (sym (TermId-ext id (record { 0 = k }) e))
+        ap (λ i. slice_index (slice_set table k x) i) e ∙ get_or-set_same table k x 0 within ∙ is
+        ∙ ap (value_of t values) (sym (TermId-ext id (record { 0 = k }) e))

@@ -1,3 +1,4 @@
+//! Terms, and the ids of terms.
 ghost use Rattle.std.specs.Prelude.{◌≡◌};
 ghost use Rattle.tm_term.specs.Parts.{parts_of};
 
@@ -39,7 +40,7 @@ pub enum Term {
     Resize(u8, TermId),
 }
 
-// The parts of a term, in order.
+/// The parts of a term, in order.
 pub(crate) enum Parts {
     None,
     One(TermId),

@@ -1,3 +1,4 @@
+//! The table of terms: it makes them and values them.
 ghost use Rattle.std.specs.Prelude.{◌≡◌, ℕ, ◌+◌, ◌^◌, ◌<◌, ◌≤◌, ◌↔◌, length, slice_index, List, Some, Ok, IfOk, OnErr, IsTrue, All};
 ghost use Rattle.tm_term.specs.Table.{Table, count_of, IsKnown, term_of, width_of, IsWidth, AreAlike, FitsBelow, Fits, term_width, IsSound};
 ghost use Rattle.tm_term.specs.Parts.{parts_of, AreBelow, AreOperands};

@@ -82,6 +82,7 @@ fn shown(alloc: Global, action: Move) -> Result<String, AllocError> {
     }
 }
 
+/// The blocks of a text, one behind each `;`.
 pub fn blocks(alloc: Global, text: &str) -> Result<Vec<Block>, AllocError> {
     let mut blocks = Vec::new(alloc);
     for part in text.split(';') {

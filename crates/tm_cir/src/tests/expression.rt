@@ -10,11 +10,13 @@ struct Stack {
     truths: Vec<Truth>,
 }
 
+/// The number that a text writes.
 pub fn num(alloc: Global, text: &str) -> Result<Num64, AllocError> {
     let mut stack = read(alloc, text)?;
     Ok(stack.nums.pop().unwrap_or(Num64::Goal))
 }
 
+/// The truth that a text writes.
 pub fn truth(alloc: Global, text: &str) -> Result<Truth, AllocError> {
     let mut stack = read(alloc, text)?;
     Ok(stack.truths.pop().unwrap_or(Truth::Num(Num64::Goal)))

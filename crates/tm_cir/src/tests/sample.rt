@@ -221,6 +221,7 @@ fn two_items(alloc: Global, first: &[u8], second: &[u8]) -> Result<Vec<Item>, Al
     )?)
 }
 
+/// The design of that specification, with a variable for each element of its array.
 pub fn design(alloc: Global) -> Result<Design, AllocError>
     ensures vars { IfOk result (λ d. length (design_tree d).vars ≡ 3) }
     ensures processes { IfOk result (λ d. length (design_tree d).processes ≡ 2) }

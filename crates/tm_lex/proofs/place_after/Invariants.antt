@@ -7,5 +7,6 @@ abbrev pub invariant-loop-byte : goal.invariant-loop-byte
 invariant-loop-byte l = record {
   line : l.place.line ≤ l.initial.place.line + l.byte-index;
   column : l.place.column ≤ l.initial.place.column + l.byte-index;
-  here : (front : List ℕ) → l.initial.place ≡ place_after front → l.place ≡ place_after (front ++ take l.byte-index l.bytes);
+  here : (front : List ℕ) → l.initial.place ≡ place_after front →
+      l.place ≡ place_after (front ++ take l.byte-index l.bytes);
 }

@@ -8,7 +8,8 @@ use Rattle.tm_small.proofs.declared_names.Goals as goal
 
 pub returns : goal.returns
 returns c =
-    let vars = c.in_ok-names.ensures ∙ ap (map (λ (v : VarDef). v.name.text)) c.deref.ensures.value ∙ sym (vars_declare _) in
+    let vars = c.in_ok-names.ensures ∙ ap (map (λ (v : VarDef). v.name.text)) c.deref.ensures.value
+    ∙ sym (vars_declare _) in
     let tasks = ap (map (λ (k : TaskDef). k.name.text)) c.deref-2.ensures.value ∙ sym (tasks_declare _) in
     let processes = ap (map (λ (p : ProcessDef). p.name.text)) c.deref-3.ensures.value ∙ sym (processes_declare _) in
     let goals = ap (map (λ (g : Named). g.name.text)) c.deref-4.ensures.value ∙ sym (goals_declare _) in

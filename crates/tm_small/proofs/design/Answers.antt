@@ -33,7 +33,8 @@ returns-clause-small c =
     (main_is_small _ (spec_small c.in_ok-template.ensures.spelled c.in_ok-template.ensures.within))
 
 pub returns-in_err-template-clause-refused : goal.returns-in_err-template-clause-refused
-returns-in_err-template-clause-refused c is = no_template c.requires.tokens (c.in_err-template.ensures.refused (search rules))
+returns-in_err-template-clause-refused c is =
+    no_template c.requires.tokens (c.in_err-template.ensures.refused (search rules))
 
 pub returns-then-not-are_distinct-clause-refused : goal.returns-then-not-are_distinct-clause-refused
 returns-then-not-are_distinct-clause-refused c is =

@@ -5,4 +5,5 @@ use Rattle.termite.proofs.number.read_numbers.Given as goal
 
 abbrev pub invariant-loop-field : goal.invariant-loop-field
 invariant-loop-field l =
-    option_map (λ ns. l.numbers.items ++ ns) (numbers_of (map (λ f. f.now) (drop l.field-index l.fields))) ≡ numbers_of (map (λ f. f.now) l.fields)
+    option_map (λ ns. l.numbers.items ++ ns) (numbers_of (map (λ f. f.now) (drop l.field-index l.fields)))
+    ≡ numbers_of (map (λ f. f.now) l.fields)

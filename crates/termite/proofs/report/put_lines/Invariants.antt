@@ -5,5 +5,6 @@ use Rattle.termite.proofs.report.put_lines.Given as goal
 
 abbrev pub invariant-loop-line : goal.invariant-loop-line
 invariant-loop-line g l =
-    (IsTrue g.O.Sink.tells → g.O.Sink.written l.out ≡ g.O.Sink.written l.fn.out ++ flat_map (λ s. s.now) (take l.line-index l.lines))
+    (IsTrue g.O.Sink.tells →
+    g.O.Sink.written l.out ≡ g.O.Sink.written l.fn.out ++ flat_map (λ s. s.now) (take l.line-index l.lines))
     × (g.O.Sink.faults l.fn.out ≤ g.O.Sink.faults l.out)

@@ -7,5 +7,6 @@ use Rattle.termite.proofs.state_text.push_places.Given as goal
 
 abbrev pub invariant-loop-process : goal.invariant-loop-process
 invariant-loop-process l =
-    l.line.items ++ flat_map place_text (zip (iter_rest (zip_first l.process-iterator)) (iter_rest (zip_second l.process-iterator)))
+    l.line.items ++ flat_map place_text
+    (zip (iter_rest (zip_first l.process-iterator)) (iter_rest (zip_second l.process-iterator)))
     ≡ l.initial.line.items ++ flat_map place_text (zip l.processes l.places)

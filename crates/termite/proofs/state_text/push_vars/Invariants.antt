@@ -7,5 +7,6 @@ use Rattle.termite.proofs.state_text.push_vars.Given as goal
 
 abbrev pub invariant-loop-var : goal.invariant-loop-var
 invariant-loop-var l =
-    l.line.items ++ flat_map var_text (zip (iter_rest (zip_first l.var-iterator)) (iter_rest (zip_second l.var-iterator)))
+    l.line.items ++ flat_map var_text
+    (zip (iter_rest (zip_first l.var-iterator)) (iter_rest (zip_second l.var-iterator)))
     ≡ l.initial.line.items ++ flat_map var_text (zip l.vars l.values)

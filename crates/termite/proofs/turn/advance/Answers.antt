@@ -6,5 +6,6 @@ use Rattle.termite.proofs.turn.advance.Goals as goal
 
 pub returns-in-NoOutcome : goal.returns-in-NoOutcome
 returns-in-NoOutcome c =
-    none_stops (design_tree c.args.design.now) (trees_of c.args.blocks.now) c.args.position.now.state c.args.position.now.goal c.args.turn.now c.in-Some.action c.why_none-why.result
+    none_stops (design_tree c.args.design.now) (trees_of c.args.blocks.now) c.args.position.now.state
+    c.args.position.now.goal c.args.turn.now c.in-Some.action c.why_none-why.result
     (search rules) (search rules) (search rules)

@@ -7,7 +7,8 @@ use Rattle.tm_cir.proofs.answering.answer.Given as goal
 abbrev pub invariant-loop-at : goal.invariant-loop-at
 invariant-loop-at l = record {
   in_range : l.at < length l.list;
-  leads : (m : Move) → AnswersFrom (trees_of l.blocks) l.state l.goal l.at m → Answers (trees_of l.blocks) l.state l.goal m;
+  leads : (m : Move) → AnswersFrom (trees_of l.blocks) l.state l.goal l.at m →
+      Answers (trees_of l.blocks) l.state l.goal m;
 }
 
 abbrev pub decreases-loop-at : goal.decreases-loop-at

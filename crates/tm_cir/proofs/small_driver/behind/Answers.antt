@@ -16,4 +16,5 @@ returns-then-not-is_same c =
 pub returns : goal.returns
 returns c =
     rw c.split_at.ensures.back
-    (front_from_reads c.args.tokens.now c.args.front.now c.if-tokens-front.false (λ j d below. c.loop-k.invariant j d (omega arith)))
+    (front_from_reads c.args.tokens.now c.args.front.now c.if-tokens-front.false
+    (λ j d below. c.loop-k.invariant j d (omega arith)))

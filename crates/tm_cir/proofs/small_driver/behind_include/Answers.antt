@@ -17,5 +17,6 @@ returns c =
     let behind = c.in_ok-strip_prefix.field-0 in
     included c.args.text.now c.behind_blanks.result.now behind.now c.behind_line.result
     c.behind_blanks.ensures.skips c.behind_blanks.ensures.ends
-    (strip_prefix_is Decides-eqb c.behind_blanks.result.now INCLUDE.now (Some behind) c.in_ok-strip_prefix.ensures.cases)
+    (strip_prefix_is Decides-eqb c.behind_blanks.result.now INCLUDE.now (Some behind)
+    c.in_ok-strip_prefix.ensures.cases)
     c.behind_line.ensures

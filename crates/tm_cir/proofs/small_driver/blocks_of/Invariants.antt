@@ -8,8 +8,10 @@ use Rattle.tm_cir.proofs.small_driver.blocks_of.Given as goal
 
 abbrev pub invariant-loop-rest : goal.invariant-loop-rest
 invariant-loop-rest l = record {
-  reads : (bs : List BlockTree) → AreBlocks (design_tree l.design) (length l.list.items) l.rest bs → AreBlocks (design_tree l.design) 0 l.initial.rest (block_trees l.list.items ++ bs);
-  refuses : NoBlocks (design_tree l.design) (length l.list.items) l.rest → NoBlocks (design_tree l.design) 0 l.initial.rest;
+  reads : (bs : List BlockTree) → AreBlocks (design_tree l.design) (length l.list.items) l.rest bs →
+      AreBlocks (design_tree l.design) 0 l.initial.rest (block_trees l.list.items ++ bs);
+  refuses : NoBlocks (design_tree l.design) (length l.list.items) l.rest →
+      NoBlocks (design_tree l.design) 0 l.initial.rest;
 }
 
 abbrev pub decreases-loop-rest : goal.decreases-loop-rest

@@ -7,7 +7,8 @@ use Rattle.tm_cir.proofs.Refusals.{none_included, none_spelled, none_function, n
 use Rattle.tm_cir.proofs.small_driver.read_small_driver.Goals as goal
 
 pub returns-in_default-clause-none : goal.returns-in_default-clause-none
-returns-in_default-clause-none c = λ _. none_included (design_tree c.args.design.now) c.args.text.now c.in_default.ensures
+returns-in_default-clause-none c =
+    λ _. none_included (design_tree c.args.design.now) c.args.text.now c.in_default.ensures
 
 pub returns-in_default-2-clause-none : goal.returns-in_default-2-clause-none
 returns-in_default-2-clause-none c = λ _.
@@ -24,7 +25,8 @@ returns-in_default-3-clause-none c = λ _.
 pub returns-clause-none : goal.returns-clause-none
 returns-clause-none c = λ none.
     let d = design_tree c.args.design.now in
-    none_fits d c.args.text.now c.in-Some.body.now c.deref.result.now (block_trees c.in-Some-3.list.items) c.in-Some.ensures
+    none_fits d c.args.text.now c.in-Some.body.now c.deref.result.now (block_trees c.in-Some-3.list.items)
+    c.in-Some.ensures
     (subst (AreTokens d c.in-Some.body.now) (sym c.deref.ensures.value) (rw c.in-Some-2.is at c.in_ok-tokens.ensures))
     (rw c.in-Some-3.is at c.in_ok-list.ensures)
     (λ fits. true≢false (sym (c.new.ensures.exact.1 fits) ∙ none))

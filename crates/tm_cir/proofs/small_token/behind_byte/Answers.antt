@@ -7,4 +7,5 @@ returns-in_err-first c =
 
 pub returns-else-first-byte : goal.returns-else-first-byte
 returns-else-first-byte c =
-    other_byte c.args.text.now c.in_ok-first.behind.now c.in_ok-first.first c.args.byte c.in_ok-first.ensures c.if-first-byte.false
+    other_byte c.args.text.now c.in_ok-first.behind.now c.in_ok-first.first c.args.byte c.in_ok-first.ensures
+    c.if-first-byte.false

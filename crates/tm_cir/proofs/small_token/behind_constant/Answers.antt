@@ -10,5 +10,6 @@ returns-in_err-behind_number c =
 
 pub returns : goal.returns
 returns c =
-    behind_two c.args.text.now (decimal c.args.number) (codes "ULL") c.in_ok-behind_number.field-0.now c.behind_bytes.result
+    behind_two c.args.text.now (decimal c.args.number) (codes "ULL") c.in_ok-behind_number.field-0.now
+    c.behind_bytes.result
     c.in_ok-behind_number.ensures c.behind_bytes.ensures

@@ -5,7 +5,8 @@ use Rattle.tm_cir.proofs.small_token.behind_path.Goals as goal
 
 pub loop-byte-preserved : goal.loop-byte-preserved
 loop-byte-preserved c =
-    path_step (λ (r : List ℕ). c.args.text.now ≡ map name_byte c.args.path.now ++ r) c.loop-byte.rest.now c.in_ok-rest.rest.now
+    path_step (λ (r : List ℕ). c.args.text.now ≡ map name_byte c.args.path.now ++ r) c.loop-byte.rest.now
+    c.in_ok-rest.rest.now
     c.loop-byte.left.now c.in-Some.others.now c.in-Some.byte c.in-Some.ensures
     (c.in_ok-rest.ensures ∙ ap (λ (b : ℕ). b ∷ c.in_ok-rest.rest.now) c.name_byte.ensures) c.loop-byte.invariant
 
@@ -19,5 +20,6 @@ returns-in_err-rest c =
 
 pub returns : goal.returns
 returns c =
-    path_end (λ (r : List ℕ). c.args.text.now ≡ map name_byte c.args.path.now ++ r) c.loop-byte.rest.now c.loop-byte.left.now
+    path_end (λ (r : List ℕ). c.args.text.now ≡ map name_byte c.args.path.now ++ r) c.loop-byte.rest.now
+    c.loop-byte.left.now
     c.in_default.ensures c.loop-byte.invariant

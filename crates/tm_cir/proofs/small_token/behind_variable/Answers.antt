@@ -10,7 +10,8 @@ pub returns-in_err-var : goal.returns-in_err-var
 returns-in_err-var c =
     rw c.from_residual.ensures
     (no_text (design_tree c.args.design.now) (Variable c.args.number) c.args.text.now
-    (no_item (λ (x : Var). x.path) 118 c.args.number c.args.design.now.vars.items c.deref.result.now c.deref.ensures.value
+    (no_item (λ (x : Var). x.path) 118 c.args.number c.args.design.now.vars.items c.deref.result.now
+    c.deref.ensures.value
     c.in_err-var.ensures.lookup.0))
 
 pub returns : goal.returns
@@ -18,7 +19,9 @@ returns c =
     let here : c.in_ok-var.var.now ≡ get_or c.deref.result.now c.args.number c.in_ok-var.var.now = search rules in
     let below : c.args.number < length c.deref.result.now =
     ltb-true c.args.number (length c.deref.result.now) (sym c.in_ok-var.ensures.lookup.0) in
-    spelled_in_front (design_tree c.args.design.now) (Variable c.args.number) (item_name 118 c.args.number c.as_bytes.result.now)
+    spelled_in_front (design_tree c.args.design.now) (Variable c.args.number)
+    (item_name 118 c.args.number c.as_bytes.result.now)
     c.args.text.now c.behind_item.result
-    (some_item (λ (x : Var). x.path) 118 c.args.number c.args.design.now.vars.items c.deref.result.now c.in_ok-var.var.now
+    (some_item (λ (x : Var). x.path) 118 c.args.number c.args.design.now.vars.items c.deref.result.now
+    c.in_ok-var.var.now
     c.as_bytes.result.now c.deref.ensures.value below here c.as_bytes.ensures) c.behind_item.ensures

@@ -11,5 +11,6 @@ loop-first-preserved c =
     number_step (number_in_front c.args.text.now) c.loop-first.number c.saturating_add-number.result c.in-Some.first
     c.in-Some-to_digit.digit c.loop-first.rest.now c.in-Some.behind.now c.in-Some.ensures
     (subst (λ (b : ℕ). digit_value b < 10) same told.0) (told.1 ∙ ap digit_value same)
-    (c.saturating_add-number.ensures ∙ ap (λ (m : ℕ). min (m + c.in-Some-to_digit.digit) (2 ^ 32 - 1)) c.saturating_mul.ensures)
+    (c.saturating_add-number.ensures
+    ∙ ap (λ (m : ℕ). min (m + c.in-Some-to_digit.digit) (2 ^ 32 - 1)) c.saturating_mul.ensures)
     c.loop-first.invariant

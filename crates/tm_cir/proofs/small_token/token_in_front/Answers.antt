@@ -7,7 +7,8 @@ use Rattle.tm_cir.proofs.small_token.token_in_front.Goals as goal
 pub returns-then-begins_digit-clause-only : goal.returns-then-begins_digit-clause-only
 returns-then-begins_digit-clause-only c =
     only_numbered c.args.text.now Constant (number_in_front c.args.text.now) c.number_in_front.result
-    (constant_read c.args.text.now c.begins_digit.result c.begins_digit.ensures c.if-begins_digit.true) refl c.number_in_front.ensures
+    (constant_read c.args.text.now c.begins_digit.result c.begins_digit.ensures c.if-begins_digit.true) refl
+    c.number_in_front.ensures
 
 pub returns-in_err-first-clause-only : goal.returns-in_err-first-clause-only
 returns-in_err-first-clause-only c =
@@ -60,19 +61,24 @@ returns-in-114-clause-only c =
 pub returns-in-76-clause-only : goal.returns-in-76-clause-only
 returns-in-76-clause-only c =
     only_numbered c.args.text.now Label (number_in_front c.in_ok-first.behind.now) c.number_in_front-in-76.result
-    (label_read c.args.text.now c.in_ok-first.behind.now c.in_ok-first.first c.in_ok-first.ensures c.in-76.is) refl c.number_in_front-in-76.ensures
+    (label_read c.args.text.now c.in_ok-first.behind.now c.in_ok-first.first c.in_ok-first.ensures c.in-76.is) refl
+    c.number_in_front-in-76.ensures
 
 pub returns-in-118-clause-only : goal.returns-in-118-clause-only
 returns-in-118-clause-only c =
-    only_so c.args.text.now c.in_ok-first.behind.now c.in_ok-first.first 118 _ c.in_ok-first.ensures c.in-118.is c.variable_or_void.ensures.only
+    only_so c.args.text.now c.in_ok-first.behind.now c.in_ok-first.first 118 _ c.in_ok-first.ensures c.in-118.is
+    c.variable_or_void.ensures.only
 
 pub returns-in-116-clause-only : goal.returns-in-116-clause-only
 returns-in-116-clause-only c =
-    only_so c.args.text.now c.in_ok-first.behind.now c.in_ok-first.first 116 _ c.in_ok-first.ensures c.in-116.is c.task_or_leave.ensures.only
+    only_so c.args.text.now c.in_ok-first.behind.now c.in_ok-first.first 116 _ c.in_ok-first.ensures c.in-116.is
+    c.task_or_leave.ensures.only
 
 pub returns-in_default-clause-only : goal.returns-in_default-clause-only
 returns-in_default-clause-only c =
     only_none c.args.text.now c.in_ok-first.behind.now c.in_ok-first.first c.in_ok-first.ensures
     (sym c.begins_digit.ensures ∙ c.if-begins_digit.false)
-    (λ e. omega arith) (λ e. omega arith) (λ e. omega arith) (λ e. omega arith) (λ e. omega arith) (λ e. omega arith) (λ e. omega arith)
-    (λ e. omega arith) (λ e. omega arith) (λ e. omega arith) (λ e. omega arith) (λ e. omega arith) (λ e. omega arith) (λ e. omega arith)
+    (λ e. omega arith) (λ e. omega arith) (λ e. omega arith) (λ e. omega arith) (λ e. omega arith) (λ e. omega arith)
+    (λ e. omega arith)
+    (λ e. omega arith) (λ e. omega arith) (λ e. omega arith) (λ e. omega arith) (λ e. omega arith) (λ e. omega arith)
+    (λ e. omega arith)

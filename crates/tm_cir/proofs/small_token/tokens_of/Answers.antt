@@ -10,9 +10,11 @@ pub loop-first-preserved-then-is_blank : goal.loop-first-preserved-then-is_blank
 loop-first-preserved-then-is_blank c = record {
   reads = λ ts are.
       c.loop-first.invariant.reads ts
-      (subst (λ t. AreTokens (design_tree c.args.design.now) t ts) (sym c.in-Some.ensures) (blank (sym c.is_blank.ensures ∙ c.if-is_blank.true) are));
+      (subst (λ t. AreTokens (design_tree c.args.design.now) t ts) (sym c.in-Some.ensures)
+      (blank (sym c.is_blank.ensures ∙ c.if-is_blank.true) are));
   refuses = λ none. c.loop-first.invariant.refuses
-      (none_blank (design_tree c.args.design.now) c.in-Some.first c.in-Some.behind.now c.loop-first.rest.now c.in-Some.ensures
+      (none_blank (design_tree c.args.design.now) c.in-Some.first c.in-Some.behind.now c.loop-first.rest.now
+      c.in-Some.ensures
       (sym c.is_blank.ensures ∙ c.if-is_blank.true) none);
 }
 
@@ -24,17 +26,20 @@ loop-first-preserved c =
       reads = λ ts are.
           let pushed : c.loop-first.tokens.items ++ t ∷ ts ≡ c.push.new.self.items ++ ts =
           sym (ap (λ l. l ++ ts) c.in_ok-push.ensures.items ∙ append_assoc c.loop-first.tokens.items (t ∷ []) ts) in
-          subst (AreTokens (design_tree c.args.design.now) c.args.text.now) pushed (c.loop-first.invariant.reads (t ∷ ts) (token begins are));
+          subst (AreTokens (design_tree c.args.design.now) c.args.text.now) pushed
+          (c.loop-first.invariant.reads (t ∷ ts) (token begins are));
       refuses = λ none. c.loop-first.invariant.refuses
           (λ ts are. none_token (design_tree c.args.design.now) c.in-Some-first_token.behind.now t begins none are);
     }
 
 pub returns-in_default-first_token : goal.returns-in_default-first_token
 returns-in_default-first_token c = c.loop-first.invariant.refuses
-    (none_first (design_tree c.args.design.now) c.in-Some.first c.in-Some.behind.now c.loop-first.rest.now c.in-Some.ensures
+    (none_first (design_tree c.args.design.now) c.in-Some.first c.in-Some.behind.now c.loop-first.rest.now
+    c.in-Some.ensures
     (sym c.is_blank.ensures ∙ c.if-is_blank.false) c.in_default-first_token.ensures.exact)
 
 pub returns : goal.returns
 returns c =
     subst (AreTokens (design_tree c.args.design.now) c.args.text.now) (append-nil c.loop-first.tokens.items)
-    (c.loop-first.invariant.reads [] (subst (λ t. AreTokens (design_tree c.args.design.now) t []) (sym c.in_default.ensures) no_more))
+    (c.loop-first.invariant.reads []
+    (subst (λ t. AreTokens (design_tree c.args.design.now) t []) (sym c.in_default.ensures) no_more))

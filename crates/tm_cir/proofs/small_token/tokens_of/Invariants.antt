@@ -7,7 +7,8 @@ use Rattle.tm_cir.proofs.small_token.tokens_of.Given as goal
 
 abbrev pub invariant-loop-first : goal.invariant-loop-first
 invariant-loop-first l = record {
-  reads : (ts : List Token) → AreTokens (design_tree l.design) l.rest ts → AreTokens (design_tree l.design) l.text (l.tokens.items ++ ts);
+  reads : (ts : List Token) → AreTokens (design_tree l.design) l.rest ts →
+      AreTokens (design_tree l.design) l.text (l.tokens.items ++ ts);
   refuses : NoTokens (design_tree l.design) l.rest → NoTokens (design_tree l.design) l.text;
 }
 

@@ -7,10 +7,12 @@ use Rattle.tm_cir.proofs.small_token.variable_or_void.Goals as goal
 pub returns-then-begins_digit-clause-only : goal.returns-then-begins_digit-clause-only
 returns-then-begins_digit-clause-only c =
     only_numbered (118 ∷ c.args.behind.now) Variable (number_in_front c.args.behind.now) c.number_in_front.result
-    ((item_or_word 118 c.args.behind.now Variable Void c.begins_digit.result refl c.begins_digit.ensures).0 c.if-begins_digit.true)
+    ((item_or_word 118 c.args.behind.now Variable Void c.begins_digit.result refl c.begins_digit.ensures).0
+    c.if-begins_digit.true)
     refl c.number_in_front.ensures
 
 pub returns-else-begins_digit-clause-only : goal.returns-else-begins_digit-clause-only
 returns-else-begins_digit-clause-only c =
     only_as (118 ∷ c.args.behind.now) (Some Void)
-    ((item_or_word 118 c.args.behind.now Variable Void c.begins_digit.result refl c.begins_digit.ensures).1 c.if-begins_digit.false)
+    ((item_or_word 118 c.args.behind.now Variable Void c.begins_digit.result refl c.begins_digit.ensures).1
+    c.if-begins_digit.false)

@@ -10,7 +10,8 @@ is_complement : (c : goal.After-constant-then-eq-2) → c.args.branch ≡ comple
 is_complement c = same_ids _ _ c.if-eq-2.ensures ∙ c.complement.ensures.value
 
 pub returns-then-eq-2-clause-constant : goal.returns-then-eq-2-clause-constant
-returns-then-eq-2-clause-constant c h = absurd (c.requires (constant_of-complement c.args.test (subst IsConstant (is_complement c) h)))
+returns-then-eq-2-clause-constant c h =
+    absurd (c.requires (constant_of-complement c.args.test (subst IsConstant (is_complement c) h)))
 
 pub returns-then-eq-2-clause-meaning : goal.returns-then-eq-2-clause-meaning
 returns-then-eq-2-clause-meaning c s v h =
@@ -25,4 +26,8 @@ returns-then-eq-clause-deep c s reduced known =
 
 pub returns-then-eq-2-clause-deep : goal.returns-then-eq-2-clause-deep
 returns-then-eq-2-clause-deep c s reduced known =
-    omega (arith, reduced.constants c.constant-then-eq-2.result c.constant-then-eq-2.ensures.constant, reduced.within c.args.branch known)
+    omega (
+      arith,
+      reduced.constants c.constant-then-eq-2.result c.constant-then-eq-2.ensures.constant,
+      reduced.within c.args.branch known,
+    )

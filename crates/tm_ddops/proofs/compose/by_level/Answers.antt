@@ -11,8 +11,12 @@ loop-level-preserved c =
     let is : c.loop-level.table.len ≡ length old = c.loop-level.table.ok.0 in
     let same : length new ≡ length old = c.set_first.auto.table ∙ c.deref_mut.ensures.len ∙ is in (
       length-written_back new old c.loop-level.table.len same is ∙ is ∙ c.loop-level.invariant.0,
-      λ k below. written_back new old c.loop-level.table.len k same is (omega (arith, below, is, c.loop-level.invariant.0))
-          ∙ table_step c.args.parts.now c.loop-level.level-index (0, FALSE) c.loop-level-test.true old new c.args.count c.loop-level.invariant.1
+      λ k below. written_back new old c.loop-level.table.len k same is
+          (omega (arith, below, is, c.loop-level.invariant.0))
+          ∙ table_step c.args.parts.now c.loop-level.level-index (0, FALSE) c.loop-level-test.true old new c.args.count
+          c.loop-level.invariant.1
           (λ j h. c.set_first.ensures j (omega (arith, h, c.deref_mut.ensures.len, is, c.loop-level.invariant.0))
-          ∙ ap (λ xs. if eqb (get_or c.args.parts.now c.loop-level.level-index (0, FALSE)).0 j then first_of (part_at xs j) (Some (get_or c.args.parts.now c.loop-level.level-index (0, FALSE)).1) else part_at xs j) c.deref_mut.ensures.value) k below,
+          ∙ ap (λ xs. if eqb (get_or c.args.parts.now c.loop-level.level-index (0, FALSE)).0 j
+          then first_of (part_at xs j) (Some (get_or c.args.parts.now c.loop-level.level-index (0, FALSE)).1)
+          else part_at xs j) c.deref_mut.ensures.value) k below,
     )

@@ -8,7 +8,8 @@ use Rattle.tm_ddops.proofs.copy.copies.Goals as goal
 
 pub copy-requires-clause-known : goal.copy-requires-clause-known
 copy-requires-clause-known c =
-    c.requires.known (get_or c.args.roots.now c.loop-root.root-index FALSE) (Contains-get_or c.args.roots.now c.loop-root.root-index FALSE c.loop-root-test.true)
+    c.requires.known (get_or c.args.roots.now c.loop-root.root-index FALSE)
+    (Contains-get_or c.args.roots.now c.loop-root.root-index FALSE c.loop-root-test.true)
 
 pub loop-root-preserved : goal.loop-root-preserved
 loop-root-preserved c =
@@ -22,11 +23,14 @@ loop-root-preserved c =
       levels = c.copy.ensures.extends.same_levels ∙ c.loop-root.invariant.levels;
       found = c.copy.ensures.found;
       same =
-          subst (λ xs. MeanTheSame from xs c.copy.new.to c.push.new.self.items) (sym (take_more roots k FALSE c.loop-root-test.true))
+          subst (λ xs. MeanTheSame from xs c.copy.new.to c.push.new.self.items)
+          (sym (take_more roots k FALSE c.loop-root-test.true))
           (subst (MeanTheSame from (take k roots ++ get_or roots k FALSE ∷ []) c.copy.new.to) (sym pushed)
-          (means_more from c.loop-root.to c.copy.new.to c.copy.ensures.extends (take k roots) old c.loop-root.invariant.same (get_or roots k FALSE) c.in_ok-id.id c.in_ok-id.ensures.answer));
+          (means_more from c.loop-root.to c.copy.new.to c.copy.ensures.extends (take k roots) old
+          c.loop-root.invariant.same (get_or roots k FALSE) c.in_ok-id.id c.in_ok-id.ensures.answer));
       reached =
           subst (AllReached c.copy.new.to) (sym pushed)
-          (reached_more from c.loop-root.to c.copy.new.to c.loop-root.invariant.reduced c.copy.ensures.extends (take k roots) old c.loop-root.invariant.same c.in_ok-id.id
+          (reached_more from c.loop-root.to c.copy.new.to c.loop-root.invariant.reduced c.copy.ensures.extends
+          (take k roots) old c.loop-root.invariant.same c.in_ok-id.id
           c.loop-root.invariant.reached c.in_ok-id.ensures.reached);
     }

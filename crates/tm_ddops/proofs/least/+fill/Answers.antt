@@ -14,7 +14,8 @@ inner t c h = let e = c.if-is_constant.ensures.1 h in cc
 
 pub returns-then-is_constant : goal.returns-then-is_constant
 returns-then-is_constant t c =
-    filled_constant c.args.store.now c.requires.reduced c.args.f (c.if-is_constant.ensures.0 refl) c.requires.not_false c.args.values.now
+    filled_constant c.args.store.now c.requires.reduced c.args.f (c.if-is_constant.ensures.0 refl) c.requires.not_false
+    c.args.values.now
 
 pub fill-requires : goal.fill-requires
 fill-requires t c =
@@ -34,8 +35,10 @@ fill-requires t c =
             (
               length-set old c.node-node.result.level true ∙ c.requires.one_a_level,
               subst P (sym c.node-node.ensures.value)
-                  (subst (λ l. IsClearFrom s (node_of s c.args.f).hi (set old l true)) (sym (c.requires.reduced.nodes c.args.f c.requires.known is_inner).level)
-                  (clear_hi s c.requires.reduced c.args.f c.requires.known is_inner old c.requires.one_a_level c.requires.clear)),
+                  (subst (λ l. IsClearFrom s (node_of s c.args.f).hi (set old l true))
+                  (sym (c.requires.reduced.nodes c.args.f c.requires.known is_inner).level)
+                  (clear_hi s c.requires.reduced c.args.f c.requires.known is_inner old c.requires.one_a_level
+                  c.requires.clear)),
             ),
           ),
         ),
@@ -51,7 +54,8 @@ returns-then-eq t c =
     let Q : Node → Type 0 = λ n. IsFilled s n.hi (set old n.level true) c.fill.new.values in
     filled_hi s c.requires.reduced c.args.f c.requires.known is_inner old c.requires.one_a_level c.requires.clear
     (sym (ap (λ n. n.lo) c.node-node.ensures.value) ∙ lo_false) c.fill.new.values
-    (subst (λ l. IsFilled s (node_of s c.args.f).hi (set old l true) c.fill.new.values) (c.requires.reduced.nodes c.args.f c.requires.known is_inner).level
+    (subst (λ l. IsFilled s (node_of s c.args.f).hi (set old l true) c.fill.new.values)
+    (c.requires.reduced.nodes c.args.f c.requires.known is_inner).level
     (subst Q c.node-node.ensures.value c.fill.ensures))
 
 pub fill-requires-else-eq : goal.fill-requires-else-eq
@@ -70,7 +74,8 @@ fill-requires-else-eq t c =
             (
               c.requires.one_a_level,
               subst (λ n. IsClearFrom s n.lo old) (sym c.node-node.ensures.value)
-                  (clear_lo s c.requires.reduced c.args.f c.requires.known is_inner old c.requires.one_a_level c.requires.clear),
+                  (clear_lo s c.requires.reduced c.args.f c.requires.known is_inner old c.requires.one_a_level
+                  c.requires.clear),
             ),
           ),
         ),
@@ -82,5 +87,6 @@ returns-else-eq t c =
     let s = c.args.store.now in
     let old = c.args.values.now in
     let is_inner = inner t (goal.at.returns-else-eq t c).After-node-node in
-    filled_lo s c.requires.reduced c.args.f c.requires.known is_inner old c.requires.one_a_level c.requires.clear c.fill-else-eq.new.values
+    filled_lo s c.requires.reduced c.args.f c.requires.known is_inner old c.requires.one_a_level c.requires.clear
+    c.fill-else-eq.new.values
     (subst (λ n. IsFilled s n.lo old c.fill-else-eq.new.values) c.node-node.ensures.value c.fill-else-eq.ensures)

@@ -8,7 +8,8 @@ pub returns-then-is_constant : goal.returns-then-is_constant
 returns-then-is_constant t c =
     elim c.then-is_constant.branch [
       | then-is_constant-via-then-is_constant w ↦
-          gathered_already c.args.store.now c.args.f c.args.inner.now.keys c.requires.closed (inl (w.if-is_constant.ensures.0 refl))
+          gathered_already c.args.store.now c.args.f c.args.inner.now.keys c.requires.closed
+          (inl (w.if-is_constant.ensures.0 refl))
       | then-is_constant-via-else-is_constant+then-contains w ↦
           gathered_already c.args.store.now c.args.f c.args.inner.now.keys c.requires.closed
           (inr (in_set c.args.inner.now.keys c.args.f (sym w.contains.ensures ∙ w.if-contains.true)))
@@ -34,4 +35,5 @@ returns t c =
     gathered s c.args.f (λ h. let e = c.if-is_constant.ensures.1 h in cc) a b k c.insert.new.self.keys
     (subst (λ n. IsGathered s n.lo a b) c.node-node.ensures.value c.in_ok-gather.ensures)
     (subst (λ n. IsGathered s n.hi b k) c.node-node.ensures.value c.in_ok-gather-2.ensures)
-    (set_there k c.insert.new.self.keys c.args.f updates) (set_more k c.insert.new.self.keys c.args.f updates) (set_only k c.insert.new.self.keys c.args.f updates)
+    (set_there k c.insert.new.self.keys c.args.f updates) (set_more k c.insert.new.self.keys c.args.f updates)
+    (set_only k c.insert.new.self.keys c.args.f updates)

@@ -10,14 +10,17 @@ pub node-node-requires-clause-known : goal.node-node-requires-clause-known
 node-node-requires-clause-known c =
     let keys = c.in_ok-inner.inner.keys in
     let there =
-    item_there deref keys _ _ _ _ _ c.in-Some.id c.into_iter-id-iterator.ensures.into_iter_gives.0 c.loop-id.yielded_by c.in-Some.is c.next.ensures.steps in
-    known_reached c.args.store.now c.levels.ensures.reduced c.args.f c.in-Some.id.now c.requires (c.in_ok-inner.ensures.reached c.in-Some.id.now there)
+    item_there deref keys _ _ _ _ _ c.in-Some.id c.into_iter-id-iterator.ensures.into_iter_gives.0 c.loop-id.yielded_by
+    c.in-Some.is c.next.ensures.steps in
+    known_reached c.args.store.now c.levels.ensures.reduced c.args.f c.in-Some.id.now c.requires
+    (c.in_ok-inner.ensures.reached c.in-Some.id.now there)
 
 pub node-node-requires-clause-inner : goal.node-node-requires-clause-inner
 node-node-requires-clause-inner c =
     let keys = c.in_ok-inner.inner.keys in
     let there =
-    item_there deref keys _ _ _ _ _ c.in-Some.id c.into_iter-id-iterator.ensures.into_iter_gives.0 c.loop-id.yielded_by c.in-Some.is c.next.ensures.steps in
+    item_there deref keys _ _ _ _ _ c.in-Some.id c.into_iter-id-iterator.ensures.into_iter_gives.0 c.loop-id.yielded_by
+    c.in-Some.is c.next.ensures.steps in
     c.in_ok-inner.ensures.inner c.in-Some.id.now there
 
 pub loop-id-preserved : goal.loop-id-preserved
@@ -25,7 +28,8 @@ loop-id-preserved c =
     let s = c.args.store.now in
     let node = c.node-node.ensures.is_node in (
       length-set c.loop-id.marks.items _ _ ∙ c.loop-id.invariant.0,
-      marked_more (λ id. level_of s id.now) s.levels c.loop-id.marks.items c.loop-id.yielded c.in-Some.id c.node-node.result.level node.level
+      marked_more (λ id. level_of s id.now) s.levels c.loop-id.marks.items c.loop-id.yielded c.in-Some.id
+          c.node-node.result.level node.level
           (omega (arith, node.below, c.loop-id.invariant.0)) c.loop-id.invariant.1,
     )
 
@@ -34,6 +38,9 @@ returns-clause-exact c =
     let s = c.args.store.now in
     let keys = c.in_ok-inner.inner.keys in
     let end =
-    iter_end deref keys c.loop-id.yielded _ _ _ _ c.into_iter-id-iterator.ensures.into_iter_gives.0 c.loop-id.yielded_by c.in-None.is c.next.ensures.steps in
-    support_exact s c.levels.ensures.reduced c.args.f c.requires keys c.in_ok-inner.ensures c.loop-id.marks.items c.loop-id.invariant.0
-    (λ k below. c.loop-id.invariant.1 k below ∙ any-map deref (λ id. eqb (level_of s id) k) c.loop-id.yielded ∙ ap (list_any (λ id. eqb (level_of s id) k)) end.0)
+    iter_end deref keys c.loop-id.yielded _ _ _ _ c.into_iter-id-iterator.ensures.into_iter_gives.0 c.loop-id.yielded_by
+    c.in-None.is c.next.ensures.steps in
+    support_exact s c.levels.ensures.reduced c.args.f c.requires keys c.in_ok-inner.ensures c.loop-id.marks.items
+    c.loop-id.invariant.0
+    (λ k below. c.loop-id.invariant.1 k below ∙ any-map deref (λ id. eqb (level_of s id) k) c.loop-id.yielded
+    ∙ ap (list_any (λ id. eqb (level_of s id) k)) end.0)

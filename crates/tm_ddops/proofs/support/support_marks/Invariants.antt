@@ -5,4 +5,6 @@ use Rattle.tm_ddops.proofs.support.support_marks.Given as goal
 
 abbrev pub invariant-loop-id : goal.invariant-loop-id
 invariant-loop-id l =
-    (length l.marks.items ≡ l.store.levels) × ((k : ℕ) → k < l.store.levels → get_or l.marks.items k false ≡ list_any (λ id. eqb (level_of l.store id.now) k) l.yielded)
+    (length l.marks.items ≡ l.store.levels)
+    × ((k : ℕ) → k < l.store.levels →
+    get_or l.marks.items k false ≡ list_any (λ id. eqb (level_of l.store id.now) k) l.yielded)

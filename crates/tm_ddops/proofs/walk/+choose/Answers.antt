@@ -7,31 +7,50 @@ use Rattle.tm_ddops.proofs.Walks.{NotesOnlyMet-below, NotesOnlyMet-trans, NotesO
 use Rattle.tm_ddops.proofs.walk.+choose.Goals as goal
 
 pub returns-in-Some-get-clause-answer : goal.returns-in-Some-get-clause-answer
-returns-in-Some-get-clause-answer g t c = c.requires.notes c.args.choice c.in-Some-get.known.now (sym c.in-Some-get.ensures.value)
+returns-in-Some-get-clause-answer g t c =
+    c.requires.notes c.args.choice c.in-Some-get.known.now (sym c.in-Some-get.ensures.value)
 
 pub choose-requires : goal.choose-requires
 choose-requires g t c κs within =
     let s = c.args.store.now in
     let k = c.args.choice in
     let open_ : IsOpen k = c.in_default.ensures.open in
-    let down = child_falls s c.requires.reduced k c.cofactors.result.0 false c.requires.known open_ c.cofactors.ensures.low in
-    (omega (arith, down, c.decreases), (within, (c.requires.reduced, (child_known s c.requires.reduced k c.cofactors.result.0 false c.requires.known open_ c.cofactors.ensures.low, c.requires.notes))))
+    let down = child_falls s c.requires.reduced k c.cofactors.result.0 false c.requires.known open_
+    c.cofactors.ensures.low in (
+      omega (arith, down, c.decreases),
+      (
+        within,
+        (
+          c.requires.reduced,
+          (
+            child_known s c.requires.reduced k c.cofactors.result.0 false c.requires.known open_
+                c.cofactors.ensures.low,
+            c.requires.notes,
+          ),
+        ),
+      ),
+    )
 
 pub returns-in_err-lo-clause-met : goal.returns-in_err-lo-clause-met
 returns-in_err-lo-clause-met g t c =
     let s = c.args.store.now in
     let k = c.args.choice in
     let open_ : IsOpen k = c.in_default.ensures.open in
-    let low = child_later s c.requires.reduced k c.cofactors.result.0 false c.requires.known open_ c.cofactors.ensures.low c.choose.new.store c.choose.ensures.extends in
-    NotesOnlyMet-below c.choose.new.store k c.cofactors.result.0 false c.args.memo.now c.choose.new.memo open_ low c.choose.ensures.met
+    let low = child_later s c.requires.reduced k c.cofactors.result.0 false c.requires.known open_
+    c.cofactors.ensures.low c.choose.new.store c.choose.ensures.extends in
+    NotesOnlyMet-below c.choose.new.store k c.cofactors.result.0 false c.args.memo.now c.choose.new.memo open_ low
+    c.choose.ensures.met
 
 pub returns-in_err-lo-clause-unnoted : goal.returns-in_err-lo-clause-unnoted
 returns-in_err-lo-clause-unnoted g t c =
     let s = c.args.store.now in
     let k = c.args.choice in
     let open_ : IsOpen k = c.in_default.ensures.open in
-    let low = child_later s c.requires.reduced k c.cofactors.result.0 false c.requires.known open_ c.cofactors.ensures.low c.choose.new.store c.choose.ensures.extends in
-    on_err c.from_residual.result (IsUnnoted-below c.choose.new.store k c.cofactors.result.0 false c.choose.new.memo open_ low c.in_err-lo.ensures.unnoted)
+    let low = child_later s c.requires.reduced k c.cofactors.result.0 false c.requires.known open_
+    c.cofactors.ensures.low c.choose.new.store c.choose.ensures.extends in
+    on_err c.from_residual.result
+    (IsUnnoted-below c.choose.new.store k c.cofactors.result.0 false c.choose.new.memo open_ low
+    c.in_err-lo.ensures.unnoted)
 
 pub choose-requires-2 : goal.choose-requires-2
 choose-requires-2 g t c κs within =
@@ -48,7 +67,8 @@ choose-requires-2 g t c κs within =
         (
           c.choose.ensures.reduced,
           (
-            KnowsChoice-Extends s t1 e c.cofactors.result.1 (child_known s c.requires.reduced k c.cofactors.result.1 true c.requires.known open_ high),
+            KnowsChoice-Extends s t1 e c.cofactors.result.1
+                (child_known s c.requires.reduced k c.cofactors.result.1 true c.requires.known open_ high),
             c.choose.ensures.notes,
           ),
         ),
@@ -60,7 +80,8 @@ returns-in_err-hi-clause-met g t c =
     let s = c.args.store.now in
     let k = c.args.choice in
     let open_ : IsOpen k = c.in_default.ensures.open in
-    met_twice s c.requires.reduced k c.requires.known open_ c.choose.new.store c.choose.ensures.reduced c.choose.ensures.extends c.choose-2.new.store c.choose-2.ensures.reduced c.choose-2.ensures.extends
+    met_twice s c.requires.reduced k c.requires.known open_ c.choose.new.store c.choose.ensures.reduced
+    c.choose.ensures.extends c.choose-2.new.store c.choose-2.ensures.reduced c.choose-2.ensures.extends
     c.cofactors.result.0 c.cofactors.result.1 c.cofactors.ensures.low c.cofactors.ensures.high
     c.args.memo.now c.choose.new.memo c.choose-2.new.memo c.choose.ensures.met c.choose-2.ensures.met
 
@@ -70,16 +91,19 @@ returns-in_err-hi-clause-unnoted g t c =
     let k = c.args.choice in
     let open_ : IsOpen k = c.in_default.ensures.open in
     let e = Extends-trans _ _ _ c.choose.ensures.extends c.choose-2.ensures.extends in
-    let high = child_later s c.requires.reduced k c.cofactors.result.1 true c.requires.known open_ c.cofactors.ensures.high c.choose-2.new.store e in
+    let high = child_later s c.requires.reduced k c.cofactors.result.1 true c.requires.known open_
+    c.cofactors.ensures.high c.choose-2.new.store e in
     on_err c.from_residual-in_err-hi.result
-    (IsUnnoted-below c.choose-2.new.store k c.cofactors.result.1 true c.choose-2.new.memo open_ high c.in_err-hi.ensures.unnoted)
+    (IsUnnoted-below c.choose-2.new.store k c.cofactors.result.1 true c.choose-2.new.memo open_ high
+    c.in_err-hi.ensures.unnoted)
 
 pub join-requires-clause-absent : goal.join-requires-clause-absent
 join-requires-clause-absent g t c =
     let s = c.args.store.now in
     let k = c.args.choice in
     let open_ : IsOpen k = c.in_default.ensures.open in
-    still_absent_twice s c.requires.reduced k c.requires.known open_ c.choose.new.store c.choose.ensures.reduced c.choose.ensures.extends c.choose-2.new.store c.choose-2.ensures.reduced c.choose-2.ensures.extends
+    still_absent_twice s c.requires.reduced k c.requires.known open_ c.choose.new.store c.choose.ensures.reduced
+    c.choose.ensures.extends c.choose-2.new.store c.choose-2.ensures.reduced c.choose-2.ensures.extends
     c.cofactors.result.0 c.cofactors.result.1 c.cofactors.ensures.low c.cofactors.ensures.high
     c.args.memo.now c.choose.new.memo c.choose-2.new.memo c.choose.ensures.met c.choose-2.ensures.met
     (none_from_copied c.in_default-get.is c.get.ensures.value)
@@ -90,12 +114,15 @@ join-requires-clause-lo g t c =
     let k = c.args.choice in
     let open_ : IsOpen k = c.in_default.ensures.open in
     let e = Extends-trans _ _ _ c.choose.ensures.extends c.choose-2.ensures.extends in
-    let low = child_later s c.requires.reduced k c.cofactors.result.0 false c.requires.known open_ c.cofactors.ensures.low c.choose-2.new.store e in
+    let low = child_later s c.requires.reduced k c.cofactors.result.0 false c.requires.known open_
+    c.cofactors.ensures.low c.choose-2.new.store e in
     subst (λ d. IsChoice c.choose-2.new.store d c.in_ok-lo.lo) low
-    (IsChoice-Extends c.choose.new.store c.choose-2.new.store c.choose-2.ensures.extends c.cofactors.result.0 c.in_ok-lo.lo c.in_ok-lo.ensures.answer)
+    (IsChoice-Extends c.choose.new.store c.choose-2.new.store c.choose-2.ensures.extends c.cofactors.result.0
+    c.in_ok-lo.lo c.in_ok-lo.ensures.answer)
 
 pub returns-clause-extends : goal.returns-clause-extends
-returns-clause-extends g t c = Extends-trans _ _ _ (Extends-trans _ _ _ c.choose.ensures.extends c.choose-2.ensures.extends) c.join.ensures.extends
+returns-clause-extends g t c =
+    Extends-trans _ _ _ (Extends-trans _ _ _ c.choose.ensures.extends c.choose-2.ensures.extends) c.join.ensures.extends
 
 pub returns-clause-met : goal.returns-clause-met
 returns-clause-met g t c =
@@ -105,8 +132,10 @@ returns-clause-met g t c =
     let u = c.choose-2.new.store in
     let whole = Extends-trans _ _ _ c.choose.ensures.extends c.choose-2.ensures.extends in
     NotesOnlyMet-trans c.join.new.store k c.args.memo.now c.choose-2.new.memo c.join.new.memo
-    (NotesOnlyMet-Extends u c.join.new.store c.choose-2.ensures.reduced c.join.ensures.extends k c.args.memo.now c.choose-2.new.memo (KnowsChoice-Extends s u whole k c.requires.known)
-    (met_twice s c.requires.reduced k c.requires.known open_ c.choose.new.store c.choose.ensures.reduced c.choose.ensures.extends u c.choose-2.ensures.reduced c.choose-2.ensures.extends
+    (NotesOnlyMet-Extends u c.join.new.store c.choose-2.ensures.reduced c.join.ensures.extends k c.args.memo.now
+    c.choose-2.new.memo (KnowsChoice-Extends s u whole k c.requires.known)
+    (met_twice s c.requires.reduced k c.requires.known open_ c.choose.new.store c.choose.ensures.reduced
+    c.choose.ensures.extends u c.choose-2.ensures.reduced c.choose-2.ensures.extends
     c.cofactors.result.0 c.cofactors.result.1 c.cofactors.ensures.low c.cofactors.ensures.high
     c.args.memo.now c.choose.new.memo c.choose-2.new.memo c.choose.ensures.met c.choose-2.ensures.met))
     c.join.ensures.met
@@ -120,13 +149,16 @@ join-requires-clause-hi g t c =
     let k = c.args.choice in
     let open_ : IsOpen k = c.in_default.ensures.open in
     let e = Extends-trans _ _ _ c.choose.ensures.extends c.choose-2.ensures.extends in
-    let high = child_later s c.requires.reduced k c.cofactors.result.1 true c.requires.known open_ c.cofactors.ensures.high c.choose-2.new.store e in
+    let high = child_later s c.requires.reduced k c.cofactors.result.1 true c.requires.known open_
+    c.cofactors.ensures.high c.choose-2.new.store e in
     subst (λ d. IsChoice c.choose-2.new.store d c.in_ok-hi.hi) high c.in_ok-hi.ensures.answer
 
 pub returns-clause-refused_requests : goal.returns-clause-refused_requests
 returns-clause-refused_requests g t c =
-    on_err_weaker c.join.result (λ h. omega (arith, h, c.in_ok-lo.ensures.requests, c.in_ok-hi.ensures.requests)) c.join.ensures.refused_requests
+    on_err_weaker c.join.result (λ h. omega (arith, h, c.in_ok-lo.ensures.requests, c.in_ok-hi.ensures.requests))
+    c.join.ensures.refused_requests
 
 pub returns-clause-refused_nodes : goal.returns-clause-refused_nodes
 returns-clause-refused_nodes g t c =
-    on_err_weaker c.join.result (λ h. omega (arith, h, c.in_ok-lo.ensures.nodes, c.in_ok-hi.ensures.nodes)) c.join.ensures.refused_nodes
+    on_err_weaker c.join.result (λ h. omega (arith, h, c.in_ok-lo.ensures.nodes, c.in_ok-hi.ensures.nodes))
+    c.join.ensures.refused_nodes

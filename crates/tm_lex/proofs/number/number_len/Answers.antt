@@ -9,10 +9,13 @@ use Rattle.tm_lex.proofs.number.number_len.Goals.{then-starts_with+else-digits-g
 
 pub returns-then-digits-gt0 : goal.returns-then-digits-gt0
 returns-then-digits-gt0 c =
-    let digits = c.hexadecimal_len-digits.ensures.value ∙ ap (prefix_len is_ascii_hexdigit) (take_rest c.args.bytes.now 2) in
+    let digits = c.hexadecimal_len-digits.ensures.value
+    ∙ ap (prefix_len is_ascii_hexdigit) (take_rest c.args.bytes.now 2) in
     let some = c.if-digits-gt0.true in
     rw digits
-    (first_hexadecimal c.args.bytes.now (drop 2 c.args.bytes.now) (begins_so c.args.bytes.now (codes "0x") c.starts_with.result c.starts_with.ensures.value c.if-starts_with.true) c.requires.digit (omega (arith, digits)))
+    (first_hexadecimal c.args.bytes.now (drop 2 c.args.bytes.now)
+    (begins_so c.args.bytes.now (codes "0x") c.starts_with.result c.starts_with.ensures.value c.if-starts_with.true)
+    c.requires.digit (omega (arith, digits)))
 
 -- where a `0x` begins the bytes, no hexadecimal digit follows it
 pub returns : goal.returns
@@ -21,8 +24,11 @@ returns c =
     (first_decimal c.args.bytes.now c.requires.some c.requires.digit (λ rest begin.
     elim c.if-starts_with.branch [
       | then-starts_with+else-digits-gt0 w ↦
-          let digits = w.hexadecimal_len-digits.ensures.value ∙ ap (prefix_len is_ascii_hexdigit) (take_rest c.args.bytes.now 2 ∙ ap (drop 2) begin) in
+          let digits = w.hexadecimal_len-digits.ensures.value
+          ∙ ap (prefix_len is_ascii_hexdigit) (take_rest c.args.bytes.now 2 ∙ ap (drop 2) begin) in
           let none = w.if-digits-gt0.false in
           omega (arith, digits)
-      | else-starts_with w ↦ absurd (begins_otherwise c.args.bytes.now (codes "0x") c.starts_with.result c.starts_with.ensures.value w.if-starts_with.false rest begin)
+      | else-starts_with w ↦ absurd
+          (begins_otherwise c.args.bytes.now (codes "0x") c.starts_with.result c.starts_with.ensures.value
+          w.if-starts_with.false rest begin)
     ]))

@@ -6,4 +6,5 @@ use Rattle.tm_sem.proofs.bodies.task_stmts.Goals as goal
 pub returns : goal.returns
 returns c =
     rw c.as_slice.ensures.value
-    (task_body_at (design_tree c.args.design.now) c.requires c.args.number (body_tree c.in_ok-task.task.now.body) c.in_ok-task.ensures)
+    (task_body_at (design_tree c.args.design.now) c.requires c.args.number (body_tree c.in_ok-task.task.now.body)
+    c.in_ok-task.ensures)

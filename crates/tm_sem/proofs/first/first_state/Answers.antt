@@ -4,9 +4,12 @@ use Rattle.tm_sem.proofs.Firsts.{first_initial, initial_valid}
 use Rattle.tm_sem.proofs.first.first_state.Goals as goal
 
 pub returns-clause-initial : goal.returns-clause-initial
-returns-clause-initial c = first_initial (design_tree c.args.design.now) c.args.choices.now _ (record { values = c.in_ok-values.ensures.ok; places = search rules; last = search rules })
+returns-clause-initial c =
+    first_initial (design_tree c.args.design.now) c.args.choices.now _
+    (record { values = c.in_ok-values.ensures.ok; places = search rules; last = search rules })
 
 pub returns-clause-valid : goal.returns-clause-valid
 returns-clause-valid c =
     initial_valid (design_tree c.args.design.now) c.requires _
-    (first_initial (design_tree c.args.design.now) c.args.choices.now _ (record { values = c.in_ok-values.ensures.ok; places = search rules; last = search rules }))
+    (first_initial (design_tree c.args.design.now) c.args.choices.now _
+    (record { values = c.in_ok-values.ensures.ok; places = search rules; last = search rules }))

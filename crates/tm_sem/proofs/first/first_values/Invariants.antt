@@ -13,5 +13,6 @@ invariant-loop-var l = record {
   same : l.var-items ≡ l.design.vars.items;
   bools : AllByRecursion (λ (v : Var). v.ty ≡ bool_type) (drop l.var-index l.var-items);
   so_far : first_values (design_tree l.design).spec l.design.vars.items l.choices ≡
-      option_map (λ ns. l.values.items ++ ns) (first_values (design_tree l.design).spec (drop l.var-index l.var-items) l.left);
+      option_map (λ ns. l.values.items ++ ns)
+      (first_values (design_tree l.design).spec (drop l.var-index l.var-items) l.left);
 }

@@ -7,4 +7,5 @@ use Rattle.tm_sem.proofs.flat.behind_magic.Given as goal
 
 abbrev pub invariant-loop-index : goal.invariant-loop-index
 invariant-loop-index l =
-    (scope : Scope) → slice_get (magic_blocks scope (stmt_trees (drop l.index l.stmts))) l.before ≡ slice_get (magic_blocks scope (stmt_trees l.stmts)) l.number
+    (scope : Scope) → slice_get (magic_blocks scope (stmt_trees (drop l.index l.stmts))) l.before
+    ≡ slice_get (magic_blocks scope (stmt_trees l.stmts)) l.number

@@ -6,6 +6,8 @@ use Rattle.tm_sem.proofs.flat.magic_count.Given as goal
 
 abbrev pub invariant-loop-stmt : goal.invariant-loop-stmt
 invariant-loop-stmt l = record {
-  counted : (scope : Scope) → l.count + length (magic_blocks scope (stmt_trees (drop l.stmt-index l.stmts))) ≡ length (magic_blocks scope (stmt_trees l.stmts));
+  counted : (scope : Scope) →
+      l.count + length (magic_blocks scope (stmt_trees (drop l.stmt-index l.stmts)))
+      ≡ length (magic_blocks scope (stmt_trees l.stmts));
   few : l.count ≤ l.stmt-index;
 }

@@ -9,7 +9,8 @@ use Rattle.tm_sem.proofs.flat.magics_before.Given as goal
 abbrev pub invariant-loop-stmt : goal.invariant-loop-stmt
 invariant-loop-stmt l = record {
   passed : (scope : Scope) →
-      l.before + position_or_len (is_location_at l.place []) (magic_blocks scope (stmt_trees (drop l.stmt-index l.stmts)))
+      l.before + position_or_len (is_location_at l.place [])
+      (magic_blocks scope (stmt_trees (drop l.stmt-index l.stmts)))
       ≡ position_or_len (is_location_at l.place []) (magic_blocks scope (stmt_trees l.stmts));
   few : l.before ≤ l.stmt-index;
 }

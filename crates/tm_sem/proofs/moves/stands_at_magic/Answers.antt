@@ -8,6 +8,7 @@ use Rattle.tm_sem.proofs.moves.stands_at_magic.Goals as goal
 
 pub returns-then-place-gt0 : goal.returns-then-place-gt0
 returns-then-place-gt0 c =
-    sym (magic_number (design_tree c.args.design.now) c.args.number (stmt_trees c.process_stmts.result.now) c.process_stmts.ensures c.place_of-place.result c.magic_count.result (omega arith)
+    sym (magic_number (design_tree c.args.design.now) c.args.number (stmt_trees c.process_stmts.result.now)
+    c.process_stmts.ensures c.place_of-place.result c.magic_count.result (omega arith)
     (c.magic_count.ensures.count (main_scope c.process_stmts.ensures.body)))
     ∙ ap (is_magic_at (design_tree c.args.design.now) c.args.number) c.place_of-place.ensures

@@ -18,7 +18,8 @@ returns-clause-valid c = λ valid.
     let truths = subst AreTruths (sym values_are) before.truths in
     let kept = c.run-halt.ensures.keeps truths in
     subst (LeadsToState d) (sym c.outcome.ensures)
-    (outcome_valid d c.requires c.run-halt.new.values.items c.in_ok-places.places.items c.in-Some.job.mover c.in-Some.job.last c.run-halt.result (record {
+    (outcome_valid d c.requires c.run-halt.new.values.items c.in_ok-places.places.items c.in-Some.job.mover
+    c.in-Some.job.last c.run-halt.result (record {
       count = kept.count ∙ ap length values_are ∙ before.count;
       truths = kept.truths truths;
       places = subst (ArePlaces d) (sym places_are) before.places;

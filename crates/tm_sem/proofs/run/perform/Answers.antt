@@ -18,7 +18,8 @@ pub returns-in-Some-Star-clause-progress : goal.returns-in-Some-Star-clause-prog
 returns-in-Some-Star-clause-progress c = λ body.
     let arm = c.in-Some-Star in
     progress_of_star (design_tree c.args.design.now) c.requires.small body c.args.values.now.items c.args.choices.now
-    (stmt_tree c.args.stmt.now) c.in-Assign.path.names.items (option_map expr_tree c.in-Assign.field-1) arm.name.now c.requires.stmt
+    (stmt_tree c.args.stmt.now) c.in-Assign.path.names.items (option_map expr_tree c.in-Assign.field-1) arm.name.now
+    c.requires.stmt
     (sym (arm.ensures.value ∙ ap (λ names. slice_get names 0) c.deref.ensures.value)) arm.field-0-1
     (ap stmt_tree c.in-Assign.is ∙ view-Assign c.in-Assign.path c.in-Assign.field-1 c.in-Assign.value
     ∙ ap (λ v. assign c.in-Assign.path.names.items (option_map expr_tree c.in-Assign.field-1) (value_tree v)) arm.is-1)
@@ -30,10 +31,13 @@ returns-in-Some-Plain-clause-progress c = λ body.
     let d = design_tree c.args.design.now in
     let values = c.args.values.now.items in
     progress_of_plain d c.requires.small body values c.args.choices.now
-    (stmt_tree c.args.stmt.now) c.in-Assign.path.names.items (option_map expr_tree c.in-Assign.field-1) arm.name.now c.requires.stmt
+    (stmt_tree c.args.stmt.now) c.in-Assign.path.names.items (option_map expr_tree c.in-Assign.field-1) arm.name.now
+    c.requires.stmt
     (sym (arm.ensures.value ∙ ap (λ names. slice_get names 0) c.deref.ensures.value)) (expr_tree arm.literal)
     (ap stmt_tree c.in-Assign.is ∙ view-Assign c.in-Assign.path c.in-Assign.field-1 c.in-Assign.value
     ∙ ap (λ v. assign c.in-Assign.path.names.items (option_map expr_tree c.in-Assign.field-1) (value_tree v)) arm.is-1)
     ∙ ap (λ n. goes_on [] (plain_memory (assigned values (variable_number d arm.name.now) n)) c.args.choices.now)
-    (sym (c.literal_value-value.ensures.value body ∙ ap (λ vs. value d (main_scope body) (plain_memory vs) bool_type (expr_tree arm.literal)) c.deref-in-Some-Plain.ensures.value))
+    (sym (c.literal_value-value.ensures.value body
+    ∙ ap (λ vs. value d (main_scope body) (plain_memory vs) bool_type (expr_tree arm.literal))
+    c.deref-in-Some-Plain.ensures.value))
     ∙ ap (λ vs. goes_on [] (plain_memory vs) c.args.choices.now) (sym c.assign.ensures.assigned)

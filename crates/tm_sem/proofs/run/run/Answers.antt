@@ -15,7 +15,8 @@ returns-in-Err-clause-run c = λ body.
 
 pub loop-stmt-preserved : goal.loop-stmt-preserved
 loop-stmt-preserved c = record {
-  small = (small_from c.args.stmts.now c.loop-stmt.stmt-index c.stmt-item.result (omega arith) c.stmt-item.is c.loop-stmt.invariant.small).1;
+  small = (small_from c.args.stmts.now c.loop-stmt.stmt-index c.stmt-item.result (omega arith) c.stmt-item.is
+      c.loop-stmt.invariant.small).1;
   leads = λ body e run.
       c.loop-stmt.invariant.leads body e
       (run_goes c.args.stmts.now c.loop-stmt.stmt-index c.stmt-item.result (omega arith) c.stmt-item.is

@@ -14,7 +14,9 @@ abbrev pub invariant-loop-stmt : goal.invariant-loop-stmt
 invariant-loop-stmt l = record {
   small : AllByRecursion IsSmallStmt (stmt_trees (drop l.stmt-index l.stmts));
   leads : (body : BodyName) (e : Ending) →
-      Run (design_tree l.design) (map (perform (main_scope body) []) (stmt_trees (drop l.stmt-index l.stmts))) (plain_memory l.values.items) l.left e →
-      Run (design_tree l.design) (map (perform (main_scope body) []) (stmt_trees l.stmts)) (plain_memory l.initial.values.items) l.initial.left e;
+      Run (design_tree l.design) (map (perform (main_scope body) []) (stmt_trees (drop l.stmt-index l.stmts)))
+      (plain_memory l.values.items) l.left e →
+      Run (design_tree l.design) (map (perform (main_scope body) []) (stmt_trees l.stmts))
+      (plain_memory l.initial.values.items) l.initial.left e;
   keeps : AreTruths l.initial.values.items → KeepsTruths l.initial.values.items l.values.items;
 }

@@ -21,5 +21,6 @@ returns c =
 pub returns-then-is_among : goal.returns-then-is_among
 returns-then-is_among c = (
   (λ same. absurd (false≢true same)),
-  (λ distinct. absurd (stands_before c.args.names.now c.loop-i.i c.index-names-i.result c.loop-i-test.true c.index-names-i.is (c.if-is_among.ensures.0 refl) distinct)),
+  (λ distinct. absurd (stands_before c.args.names.now c.loop-i.i c.index-names-i.result c.loop-i-test.true
+      c.index-names-i.is (c.if-is_among.ensures.0 refl) distinct)),
 )

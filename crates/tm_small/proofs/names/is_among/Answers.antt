@@ -7,5 +7,7 @@ use Rattle.tm_small.proofs.names.is_among.Goals as goal
 
 pub returns : goal.returns
 returns c =
-    let decides = Decides-contains c.args.names.now c.args.name.now c.contains.result (contains_decides (pointwise nat_eq) bytes_eq-Decides c.args.names.now c.args.name.now c.contains.result c.contains.ensures.cases) in
+    let decides = Decides-contains c.args.names.now c.args.name.now c.contains.result
+    (contains_decides (pointwise nat_eq) bytes_eq-Decides c.args.names.now c.args.name.now c.contains.result
+    c.contains.ensures.cases) in
     search rules

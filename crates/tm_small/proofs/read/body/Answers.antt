@@ -7,15 +7,22 @@ use Rattle.tm_small.proofs.RefusedRows.{more_stmts}
 use Rattle.tm_small.proofs.read.body.Goals as goal
 
 pub returns-in_err-rest-clause-refused : goal.returns-in_err-rest-clause-refused
-returns-in_err-rest-clause-refused c is = no_body (λ x b h. absurd ((c.in_err-rest.ensures.refused (search rules)) x b h))
+returns-in_err-rest-clause-refused c is =
+    no_body (λ x b h. absurd ((c.in_err-rest.ensures.refused (search rules)) x b h))
 
 pub returns-in_err-stmts-clause-refused : goal.returns-in_err-stmts-clause-refused
 returns-in_err-stmts-clause-refused c is =
-    no_body (past_mark _ c.in_ok-rest.ensures.spelled (λ xs d h p e m. absurd (c.in_err-stmts.ensures.refused (search rules) xs d h p e m)))
+    no_body (past_mark _ c.in_ok-rest.ensures.spelled
+    (λ xs d h p e m. absurd (c.in_err-stmts.ensures.refused (search rules) xs d h p e m)))
 
 pub returns-in_err-rest-2-clause-refused : goal.returns-in_err-rest-2-clause-refused
 returns-in_err-rest-2-clause-refused c is =
     let no_brace = c.in_err-rest-2.ensures.refused (search rules) in
     no_body (past_mark _ c.in_ok-rest.ensures.spelled (λ xs d h p e m.
     let further = more_stmts c.in_ok-stmts.ensures.spelled no_brace xs d h p e m in
-    omega (arith, c.in_ok-stmts.ensures.full no_brace, length-map c.in_ok-stmts.stmts.items stmt_tree, c.in_ok-stmts.stmts.ok.0)))
+    omega (
+      arith,
+      c.in_ok-stmts.ensures.full no_brace,
+      length-map c.in_ok-stmts.stmts.items stmt_tree,
+      c.in_ok-stmts.stmts.ok.0,
+    )))

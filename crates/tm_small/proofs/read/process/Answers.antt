@@ -9,8 +9,10 @@ returns-in_err-rest-clause-refused c is =
 
 pub returns-in_err-name-clause-refused : goal.returns-in_err-name-clause-refused
 returns-in_err-name-clause-refused c is =
-    no_process (past_mark _ c.in_ok-rest.ensures.spelled (λ x b h. absurd ((c.in_err-name.ensures.refused (search rules)) x b h)))
+    no_process (past_mark _ c.in_ok-rest.ensures.spelled
+    (λ x b h. absurd ((c.in_err-name.ensures.refused (search rules)) x b h)))
 
 pub returns-in_err-body-clause-refused : goal.returns-in_err-body-clause-refused
 returns-in_err-body-clause-refused c is =
-    no_process (past_mark _ c.in_ok-rest.ensures.spelled (past_name _ c.in_ok-name.ensures.spelled (c.in_err-body.ensures.refused (search rules))))
+    no_process (past_mark _ c.in_ok-rest.ensures.spelled
+    (past_name _ c.in_ok-name.ensures.spelled (c.in_err-body.ensures.refused (search rules))))

@@ -7,14 +7,20 @@ use Rattle.tm_small.proofs.read.stmts.Goals.{else-loop-count-test, then-loop-cou
 
 pub loop-count-preserved : goal.loop-count-preserved
 loop-count-preserved c = record {
-  spelled = another_viewed stmt_tree _ _ c.in_ok-push.ensures.items c.loop-count.invariant.spelled c.in_ok-stmt.ensures.spelled;
+  spelled = another_viewed stmt_tree _ _ c.in_ok-push.ensures.items c.loop-count.invariant.spelled
+      c.in_ok-stmt.ensures.spelled;
   within = omega (arith, c.in_ok-push.ensures.len);
 }
 
 pub returns-in_err-stmt-clause-refused : goal.returns-in_err-stmt-clause-refused
 returns-in_err-stmt-clause-refused c is =
-    no_stmts c.loop-count.invariant.spelled (c.in_err-stmt.ensures.refused (search rules)) (c.mark.ensures.refused (search rules))
+    no_stmts c.loop-count.invariant.spelled (c.in_err-stmt.ensures.refused (search rules))
+    (c.mark.ensures.refused (search rules))
 
 pub returns-clause-full : goal.returns-clause-full
 returns-clause-full c =
-    elim c.loop-count-test.branch [ else-loop-count-test w ↦ λ none. omega arith | then-loop-count-test+then-is_some w ↦ λ none. absurd (begun w.mark.result w.mark.ensures.spelled (search rules) none) ]
+    elim c.loop-count-test.branch [
+      | else-loop-count-test w ↦ λ none. omega arith
+      | then-loop-count-test+then-is_some w ↦ λ none.
+          absurd (begun w.mark.result w.mark.ensures.spelled (search rules) none)
+    ]

@@ -25,11 +25,19 @@ main = record {
   name = at (codes "main");
   ports = [];
   instances = [];
-  vars = record { ty = written.Uint PLACE BYTE; name = at (codes "b"); size = None; init = None } ∷ record { ty = written.Bool PLACE; name = at (codes "a"); size = Some TWO; init = None } ∷ [];
+  vars = record { ty = written.Uint PLACE BYTE; name = at (codes "b"); size = None; init = None } ∷ record
+      { ty = written.Bool PLACE; name = at (codes "a"); size = Some TWO; init = None } ∷ [];
   goals = [];
   fairs = [];
-  processes = record { lazy = false; name = at (codes "p"); body = nothing } ∷ record { lazy = false; name = at (codes "q"); body = nothing } ∷ [];
-  tasks = record { kind = Controllable; name = at (codes "set"); params = []; body = nothing } ∷ record { kind = Controllable; name = at (codes "write"); params = record { ty = written.Uint PLACE BYTE; name = at (codes "v") } ∷ []; body = nothing } ∷ [];
+  processes = record { lazy = false; name = at (codes "p"); body = nothing } ∷ record
+      { lazy = false; name = at (codes "q"); body = nothing } ∷ [];
+  tasks = record { kind = Controllable; name = at (codes "set"); params = []; body = nothing } ∷ record {
+    kind = Controllable;
+    name = at (codes "write");
+    params =
+        record { ty = written.Uint PLACE BYTE; name = at (codes "v") } ∷ [];
+    body = nothing;
+  } ∷ [];
 }
 
 abbrev node : InstanceNode
@@ -55,7 +63,13 @@ sample = record {
 is_design : IsDesign sample
 unfolding digits
 is_design = record {
-  instances = record { path = refl; template = refl; ports = refl; all = subtree {node = node} {t = main} refl refl none_left };
+  instances = record {
+    path = refl;
+    template = refl;
+    ports = refl;
+    all =
+        subtree {node = node} {t = main} refl refl none_left;
+  };
   vars = refl;
   processes = refl;
   tasks = refl;
@@ -63,9 +77,20 @@ is_design = record {
   fairs = refl;
 }
 
-carried : (spec : SpecTree) (instances : List InstanceNode) (vars : List Var) (processes tasks goals fairs : List Item) →
-    spec ≡ sample.spec → instances ≡ sample.instances → vars ≡ sample.vars → processes ≡ sample.processes → tasks ≡ sample.tasks → goals ≡ sample.goals → fairs ≡ sample.fairs →
-    IsDesign (record { spec = spec; instances = instances; vars = vars; processes = processes; tasks = tasks; goals = goals; fairs = fairs })
+carried : (spec : SpecTree) (instances : List InstanceNode) (vars : List Var)
+    (processes tasks goals fairs : List Item) →
+    spec ≡ sample.spec → instances ≡ sample.instances → vars ≡ sample.vars → processes ≡ sample.processes →
+    tasks ≡ sample.tasks → goals ≡ sample.goals → fairs ≡ sample.fairs →
+    IsDesign (record {
+      spec = spec;
+      instances = instances;
+      vars = vars;
+      processes = processes;
+      tasks = tasks;
+      goals =
+          goals;
+      fairs = fairs;
+    })
 carried spec instances vars processes tasks goals fairs e f g h i j k = rw (e, f, g, h, i, j, k) is_design
 
 pub invariant_of-result : goal.invariant_of-result

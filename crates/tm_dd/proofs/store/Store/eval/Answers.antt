@@ -8,7 +8,8 @@ use Rattle.tm_dd.proofs.store.Store.eval.Goals as goal
 pub returns-clause-value : goal.returns-clause-value
 returns-clause-value c =
     c.eq.ensures
-    ∙ sym (means-IsConstant c.args.self.now c.loop-rest.rest (assignment c.args.values.now) (c.loop-rest-test.ensures.0 refl))
+    ∙ sym (means-IsConstant c.args.self.now c.loop-rest.rest (assignment c.args.values.now)
+    (c.loop-rest-test.ensures.0 refl))
     ∙ c.loop-rest.invariant.same
 
 pub returns-clause-reduced : goal.returns-clause-reduced

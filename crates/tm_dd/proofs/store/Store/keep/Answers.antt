@@ -11,7 +11,8 @@ OnErr_always (Ok x) p = tt
 OnErr_always (Err e) p = p
 
 -- the keys after the insert are the entries of the table with the node
-keys : (levels : _) (s : Table) (ks after : List Node) (n : Node) → levels ≡ s.levels → ks ≡ entries s → after ≡ (if list_any (node_eq n) ks then ks else ks ++ n ∷ [])
+keys : (levels : _) (s : Table) (ks after : List Node) (n : Node) → levels ≡ s.levels → ks ≡ entries s →
+    after ≡ (if list_any (node_eq n) ks then ks else ks ++ n ∷ [])
     → after ≡ entries (inserted s n)
 keys levels s ks after n same held e =
     e ∙ ap (λ l. if list_any (node_eq n) l then l else l ++ n ∷ []) held ∙ sym (entries-inserted s n)
@@ -28,11 +29,13 @@ invariant_of-self-2 c =
     let s = c.args.self.now in
     let n = c.args.node in
     let levels = ap (λ (t : Table). t.levels) c.self.view_is in
-    let after = keys c.self.inside.levels s c.self.inside.entries.keys c.insert_full.new.self.keys n levels (c.self.invariant.layout ∙ ap entries c.self.view_is) c.in_ok-position.ensures.keys in
+    let after = keys c.self.inside.levels s c.self.inside.entries.keys c.insert_full.new.self.keys n levels
+    (c.self.invariant.layout ∙ ap entries c.self.view_is) c.in_ok-position.ensures.keys in
     let table = table-inserted s n c.self.inside.levels c.insert_full.new.self.keys levels after in
     record {
       layout = after ∙ sym (ap entries table);
-      unique = subst IsUniqueTable (sym table) (IsUniqueTable-inserted s n (subst IsUniqueTable c.self.view_is c.self.invariant.unique) c.requires);
+      unique = subst IsUniqueTable (sym table)
+          (IsUniqueTable-inserted s n (subst IsUniqueTable c.self.view_is c.self.invariant.unique) c.requires);
     }
 
 pub returns-clause-kept : goal.returns-clause-kept
@@ -40,11 +43,13 @@ returns-clause-kept c =
     let s = c.args.self.now in
     let n = c.args.node in
     let levels = ap (λ (t : Table). t.levels) c.self.view_is in
-    let after = keys c.self.inside.levels s c.self.inside.entries.keys c.insert_full.new.self.keys n levels (c.self.invariant.layout ∙ ap entries c.self.view_is) c.in_ok-position.ensures.keys in
+    let after = keys c.self.inside.levels s c.self.inside.entries.keys c.insert_full.new.self.keys n levels
+    (c.self.invariant.layout ∙ ap entries c.self.view_is) c.in_ok-position.ensures.keys in
     let table = table-inserted s n c.self.inside.levels c.insert_full.new.self.keys levels after in
     let stored = c.in_ok-position.ensures.stored in
     subst (λ t. IsKept s t n c.in_ok-position.position) (sym table)
-    (IsKept-inserted s n c.in_ok-position.position stored.0 (ap (λ l. slice_get l c.in_ok-position.position) (sym after) ∙ stored.1) stored.2)
+    (IsKept-inserted s n c.in_ok-position.position stored.0
+    (ap (λ l. slice_get l c.in_ok-position.position) (sym after) ∙ stored.1) stored.2)
 
 pub returns-clause-unique : goal.returns-clause-unique
 returns-clause-unique c = (invariant_of-self-2 c).unique

@@ -16,7 +16,8 @@ use Rattle.tm_dd.proofs.store.Store.make.Goals as goal
 -- ---- equal children
 
 pub returns-then-eq-clause-reduced : goal.returns-then-eq-clause-reduced
-returns-then-eq-clause-reduced g c = reduced c.args.self.now (subst IsUniqueTable c.self.view_is c.self.invariant.unique)
+returns-then-eq-clause-reduced g c =
+    reduced c.args.self.now (subst IsUniqueTable c.self.view_is c.self.invariant.unique)
 
 same_branches : (b x : Bool) → (if b then x else x) ≡ x
 same_branches true x = refl
@@ -27,15 +28,18 @@ returns-then-eq-clause-found g c id known same =
     let s = c.args.self.now in
     let lo = c.args.lo in
     let equal = same_number c.args.hi lo (sym (eqb-true _ _ (sym c.if-eq.ensures))) in
-    let e : lo ≡ id = ids_canonical s (subst IsUniqueTable c.self.view_is c.self.invariant.unique) lo id c.requires.lo_known known
-    (λ v. sym (same_branches (v c.args.level) (means s lo v)) ∙ ap (λ h. if v c.args.level then means s h v else means s lo v) (sym equal) ∙ sym (same v)) in
+    let e : lo ≡ id = ids_canonical s (subst IsUniqueTable c.self.view_is c.self.invariant.unique) lo id
+    c.requires.lo_known known
+    (λ v. sym (same_branches (v c.args.level) (means s lo v))
+    ∙ ap (λ h. if v c.args.level then means s h v else means s lo v) (sym equal) ∙ sym (same v)) in
     ap Ok e
 
 -- ---- a node to keep
 
 -- the node that is kept is the one that was asked for, under the mark of its `lo`
 marked : (level : ℕ) (lo hi lo' hi' : NodeId) (m : Bool) → lo' ≡ marked_id m lo → hi' ≡ marked_id m hi
-    → (let n : Node = record { level = level; lo = lo'; hi = hi' } in n) ≡ marked_node m (record { level = level; lo = lo; hi = hi })
+    → (let n : Node = record { level = level; lo = lo'; hi = hi' } in n)
+    ≡ marked_node m (record { level = level; lo = lo; hi = hi })
 marked level lo hi lo' hi' m e_lo e_hi = (λ i. record { level = level; lo = e_lo i; hi = e_hi i })
 
 different : (lo hi : NodeId) → false ≡ eqb lo.0 hi.0 → ¬ (lo ≡ hi)
@@ -46,8 +50,12 @@ keep-requires g c =
     let s = c.args.self.now in
     let m = c.is_marked-marked.ensures in
     let n : Node = record { level = c.args.level; lo = c.args.lo; hi = c.args.hi } in
-    subst (IsEntry s (kept s + 1)) (ap (λ b. marked_node b n) (sym m) ∙ sym (marked c.args.level c.args.lo c.args.hi _ _ _ c.complement_if.ensures.value c.complement_if-2.ensures.value))
-    (IsEntry-marked s c.args.level c.args.lo c.args.hi c.requires.level c.requires.lo_known c.requires.hi_known c.requires.lo_deeper c.requires.hi_deeper
+    subst (IsEntry s (kept s + 1))
+    (ap (λ b. marked_node b n) (sym m)
+    ∙ sym (marked c.args.level c.args.lo c.args.hi _ _ _ c.complement_if.ensures.value
+    c.complement_if-2.ensures.value))
+    (IsEntry-marked s c.args.level c.args.lo c.args.hi c.requires.level c.requires.lo_known c.requires.hi_known
+    c.requires.lo_deeper c.requires.hi_deeper
     (different c.args.lo c.args.hi c.if-eq.ensures))
 
 pub returns-in_err-position-clause-reduced : goal.returns-in_err-position-clause-reduced
@@ -60,10 +68,13 @@ no_such_id g c id known same =
     let s = c.args.self.now in
     let n : Node = record { level = c.args.level; lo = c.args.lo; hi = c.args.hi } in
     let m = c.is_marked-marked.ensures in
-    let kept_node = marked c.args.level c.args.lo c.args.hi _ _ _ c.complement_if.ensures.value c.complement_if-2.ensures.value ∙ ap (λ b. marked_node b n) m in
-    let ok = IsEntry-marked s c.args.level c.args.lo c.args.hi c.requires.level c.requires.lo_known c.requires.hi_known c.requires.lo_deeper c.requires.hi_deeper
+    let kept_node = marked c.args.level c.args.lo c.args.hi _ _ _ c.complement_if.ensures.value
+    c.complement_if-2.ensures.value ∙ ap (λ b. marked_node b n) m in
+    let ok = IsEntry-marked s c.args.level c.args.lo c.args.hi c.requires.level c.requires.lo_known c.requires.hi_known
+    c.requires.lo_deeper c.requires.hi_deeper
     (different c.args.lo c.args.hi c.if-eq.ensures) in
-    not_found s (subst IsUniqueTable c.self.view_is c.self.invariant.unique) n (is_marked c.args.lo) c.requires.level c.requires.lo_known c.requires.hi_known ok
+    not_found s (subst IsUniqueTable c.self.view_is c.self.invariant.unique) n (is_marked c.args.lo) c.requires.level
+    c.requires.lo_known c.requires.hi_known ok
     (λ p within here. c.in_err-position.ensures.absent p within (here ∙ sym kept_node)) id known same
 
 pub returns-in_err-position-clause-found : goal.returns-in_err-position-clause-found
@@ -78,7 +89,8 @@ pub returns-clause-reduced : goal.returns-clause-reduced
 returns-clause-reduced g c = reduced c.keep.new.self c.keep.ensures.unique
 
 made_here : (g : given.Over) (c : goal.After-complement_if-3 g)
-    → IsMade c.args.self.now c.keep.new.self (record { level = c.args.level; lo = c.args.lo; hi = c.args.hi }) c.complement_if-3.result
+    → IsMade c.args.self.now c.keep.new.self (record { level = c.args.level; lo = c.args.lo; hi = c.args.hi })
+    c.complement_if-3.result
 made_here g c =
     let old = c.args.self.now in
     let new = c.keep.new.self in
@@ -88,7 +100,8 @@ made_here g c =
     (marked c.args.level c.args.lo c.args.hi _ _ _ c.complement_if.ensures.value c.complement_if-2.ensures.value)
     (subst (IsKept old new held) (sym c.at.ensures.position) c.in_ok-position.ensures.kept) in
     subst (IsMade old new n) (sym c.complement_if-3.ensures.value)
-    (made old new c.keep.ensures.unique n c.is_marked-marked.result c.at.result c.at.ensures.unmarked c.requires.level c.requires.lo_known c.requires.hi_known is_kept)
+    (made old new c.keep.ensures.unique n c.is_marked-marked.result c.at.result c.at.ensures.unmarked c.requires.level
+    c.requires.lo_known c.requires.hi_known is_kept)
 
 pub returns-clause-extends : goal.returns-clause-extends
 returns-clause-extends g c = (made_here g c).extends

@@ -5,7 +5,11 @@ use Rattle.tm_ddops.proofs.choice.Choice.cofactors.Goals.{After-level-level}
 
 -- the choice stands on a level
 within : (c : After-level-level) → c.level-level.result < c.args.store.now.levels
-within c = omega (arith, choice_level-open c.args.store.now c.level-level.ensures.reduced c.args.self c.requires.known c.requires.open, c.level-level.ensures.value)
+within c = omega (
+  arith,
+  choice_level-open c.args.store.now c.level-level.ensures.reduced c.args.self c.requires.known c.requires.open,
+  c.level-level.ensures.value,
+)
 
 pub cofactors-requires-clause-below : goal.cofactors-requires-clause-below
 cofactors-requires-clause-below c = within ((goal.at.cofactors-requires-clause-below c).After-level-level)

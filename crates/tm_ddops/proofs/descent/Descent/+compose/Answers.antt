@@ -10,7 +10,9 @@ returns-in-Some-clause-answer t c = c.requires.found c.args.f c.in-Some.known.no
 pub compose_branches-requires-clause-lo : goal.compose_branches-requires-clause-lo
 compose_branches-requires-clause-lo t c =
     let whole = Extends-trans _ _ _ c.compose.ensures.extends c.compose-2.ensures.extends in
-    subst (λ n. IsReplaced c.compose-2.new.store c.args.table.now n.lo c.in_ok-lo.lo) (c.node-node.ensures.value ∙ sym (whole.same_node c.args.f c.requires.known))
+    subst (λ n. IsReplaced c.compose-2.new.store c.args.table.now n.lo c.in_ok-lo.lo)
+    (c.node-node.ensures.value ∙ sym (whole.same_node c.args.f c.requires.known))
     (IsReplaced-Extends c.compose.new.store c.compose-2.new.store c.compose-2.ensures.extends c.args.table.now
-    (KnowsParts-Extends c.args.store.now c.compose.new.store c.compose.ensures.extends c.args.table.now c.requires.parts)
+    (KnowsParts-Extends c.args.store.now c.compose.new.store c.compose.ensures.extends c.args.table.now
+    c.requires.parts)
     c.node-node.result.lo c.in_ok-lo.lo c.in_ok-lo.ensures.answer)

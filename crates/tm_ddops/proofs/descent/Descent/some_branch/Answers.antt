@@ -14,16 +14,22 @@ choose-requires c = record {
 pub returns-then-marks-level-clause-answer : goal.returns-then-marks-level-clause-answer
 returns-then-marks-level-clause-answer c =
     IfOk-weaker c.choose.result _ _
-    (λ id x. exists_after_choice c.args.store.now c.choose.new.store c.choose.ensures.extends c.choose.ensures.reduced c.args.marks.now c.args.f c.requires.known c.requires.inner c.args.lo c.args.hi
+    (λ id x. exists_after_choice c.args.store.now c.choose.new.store c.choose.ensures.extends c.choose.ensures.reduced
+    c.args.marks.now c.args.f c.requires.known c.requires.inner c.args.lo c.args.hi
     c.requires.lo c.requires.hi c.node-level.result c.node-level.ensures.value c.if-marks-level.true id x)
     c.choose.ensures.answer
 
 pub returns-else-marks-level-clause-choices : goal.returns-else-marks-level-clause-choices
-returns-else-marks-level-clause-choices c = AreChoices-Extends c.args.store.now c.branch-store.new.store c.branch-store.ensures.extends c.args.self.now.choices c.requires.choices
+returns-else-marks-level-clause-choices c =
+    AreChoices-Extends c.args.store.now c.branch-store.new.store c.branch-store.ensures.extends c.args.self.now.choices
+    c.requires.choices
 
 pub returns-else-marks-level-clause-answer : goal.returns-else-marks-level-clause-answer
 returns-else-marks-level-clause-answer c =
     IfOk-branch c.branch-store.result _ _ _ _
-    (λ id known deep meaning. exists_after_branch c.args.store.now c.branch-store.new.store c.branch-store.ensures.extends c.branch-store.ensures.reduced c.args.marks.now c.args.f c.requires.known c.requires.inner c.args.lo c.args.hi
-    c.requires.lo c.requires.hi c.node-level.result c.node-level.ensures.value c.if-marks-level.false id known deep meaning)
+    (λ id known deep meaning.
+    exists_after_branch c.args.store.now c.branch-store.new.store c.branch-store.ensures.extends
+    c.branch-store.ensures.reduced c.args.marks.now c.args.f c.requires.known c.requires.inner c.args.lo c.args.hi
+    c.requires.lo c.requires.hi c.node-level.result c.node-level.ensures.value c.if-marks-level.false id known deep
+    meaning)
     c.branch-store.ensures.known c.branch-store.ensures.deep c.branch-store.ensures.meaning

@@ -11,7 +11,8 @@ absent g c id h = let found = c.known.ensures.found id h in let none = c.in_defa
 
 pub walked-requires-clause-absent : goal.walked-requires-clause-absent
 walked-requires-clause-absent g c other h =
-    absent g (goal.at.walked-requires-clause-absent g c).In_default other (subst (λ m. Remembers m c.args.operation other) (c.known.ensures.missed c.in_default.is) h)
+    absent g (goal.at.walked-requires-clause-absent g c).In_default other
+    (subst (λ m. Remembers m c.args.operation other) (c.known.ensures.missed c.in_default.is) h)
 
 pub returns-in-Some-clause-again : goal.returns-in-Some-clause-again
 returns-in-Some-clause-again g c id h =

@@ -19,21 +19,29 @@ pub answered-requires : goal.answered-requires
 answered-requires g c =
     let s = c.args.self.now.table in
     record {
-      operands = λ h x. operands_known s c.args.connective c.args.f c.args.g c.requires.f c.requires.g h (subst (λ o. Contains (operands o) h) c.operation.ensures x);
-      choice = subst (KnowsChoice s) (sym c.choice-choice.ensures) (knows_connective s c.args.connective c.args.f c.args.g c.requires.f c.requires.g);
-      same = λ t v. (λ i. choice_value t (c.choice-choice.ensures i) v) ∙ same_value c.args.connective c.args.f c.args.g t v ∙ sym (λ i. operation_value t (c.operation.ensures i) v);
+      operands = λ h x. operands_known s c.args.connective c.args.f c.args.g c.requires.f c.requires.g h
+          (subst (λ o. Contains (operands o) h) c.operation.ensures x);
+      choice = subst (KnowsChoice s) (sym c.choice-choice.ensures)
+          (knows_connective s c.args.connective c.args.f c.args.g c.requires.f c.requires.g);
+      same = λ t v. (λ i. choice_value t (c.choice-choice.ensures i) v)
+          ∙ same_value c.args.connective c.args.f c.args.g t v ∙ sym (λ i. operation_value t (c.operation.ensures i) v);
     }
 
 -- what holds of the manager at the call
 manager : (g : Over) (c : In-Some g) → IsManager c.args.self.now
 manager g c = subst IsManager c.self.view_is c.self.invariant.manager
 
-function : (g : Over) (c : In-Some g) → IsFunction c.args.self.now.table c.in-Some.known (λ v. connective_value c.args.connective (means c.args.self.now.table c.args.f v) (means c.args.self.now.table c.args.g v))
+function : (g : Over) (c : In-Some g) →
+    IsFunction c.args.self.now.table c.in-Some.known
+    (λ v. connective_value c.args.connective (means c.args.self.now.table c.args.f v)
+    (means c.args.self.now.table c.args.g v))
 function g c =
     let s = c.args.self.now.table in
     function_of_choice s c.args.connective c.args.f c.args.g c.in-Some.known
     (subst (λ k. IsChoice s k c.in-Some.known) c.choice-choice.ensures
-    (c.in-Some.ensures.answer s (manager g c).reduced (subst (KnowsChoice s) (sym c.choice-choice.ensures) (knows_connective s c.args.connective c.args.f c.args.g c.requires.f c.requires.g))))
+    (c.in-Some.ensures.answer s (manager g c).reduced
+    (subst (KnowsChoice s) (sym c.choice-choice.ensures)
+    (knows_connective s c.args.connective c.args.f c.args.g c.requires.f c.requires.g))))
 
 pub returns-in-Some-clause-manager : goal.returns-in-Some-clause-manager
 returns-in-Some-clause-manager g c = manager g c
@@ -45,17 +53,23 @@ pub returns-in-Some-clause-answer : goal.returns-in-Some-clause-answer
 returns-in-Some-clause-answer g c = function g c
 
 pub returns-in-Some-clause-requests : goal.returns-in-Some-clause-requests
-returns-in-Some-clause-requests g c = rises_by_none c.args.self.now.table (manager g c).reduced c.args.f c.args.g c.requires.f c.requires.g c.args.steps.now
+returns-in-Some-clause-requests g c =
+    rises_by_none c.args.self.now.table (manager g c).reduced c.args.f c.args.g c.requires.f c.requires.g
+    c.args.steps.now
 
 pub returns-in-Some-clause-nodes : goal.returns-in-Some-clause-nodes
-returns-in-Some-clause-nodes g c = rises_by_none c.args.self.now.table (manager g c).reduced c.args.f c.args.g c.requires.f c.requires.g (kept c.args.self.now.table)
+returns-in-Some-clause-nodes g c =
+    rises_by_none c.args.self.now.table (manager g c).reduced c.args.f c.args.g c.requires.f c.requires.g
+    (kept c.args.self.now.table)
 
 pub returns-in-Some-clause-remembered : goal.returns-in-Some-clause-remembered
 returns-in-Some-clause-remembered g c two =
     elim c.then-is_constant.branch [
       | then-is_constant-via-then-is_constant w ↦ absurd (two.f_inner (w.if-is_constant.ensures.0 refl))
-      | then-is_constant-via-else-is_constant+then-is_constant-2 w ↦ absurd (two.g_inner (w.if-is_constant-2.ensures.0 refl))
-      | then-is_constant-via-else-is_constant+else-is_constant-2+then-eq w ↦ absurd (two.differ (same_ids c.args.f c.args.g w.if-eq.ensures))
+      | then-is_constant-via-else-is_constant+then-is_constant-2 w ↦ absurd
+          (two.g_inner (w.if-is_constant-2.ensures.0 refl))
+      | then-is_constant-via-else-is_constant+else-is_constant-2+then-eq w ↦ absurd
+          (two.differ (same_ids c.args.f c.args.g w.if-eq.ensures))
     ]
 
 pub returns-in-Some-clause-again : goal.returns-in-Some-clause-again
@@ -69,28 +83,37 @@ returns-in-Some-clause-again g c id h =
 pub returns-clause-answer : goal.returns-clause-answer
 returns-clause-answer g c =
     IfOk-weaker c.answered.result _ _
-    (λ id r. function_of_result c.answered.new.self.table c.args.connective c.args.f c.args.g id (subst (λ o. IsResult c.answered.new.self.table o id) c.operation.ensures r))
+    (λ id r. function_of_result c.answered.new.self.table c.args.connective c.args.f c.args.g id
+    (subst (λ o. IsResult c.answered.new.self.table o id) c.operation.ensures r))
     c.answered.ensures.answer
 
 pub returns-clause-requests : goal.returns-clause-requests
 returns-clause-requests g c =
     let m = subst IsManager c.self.view_is c.self.invariant.manager in
-    rises_by_pairs c.args.self.now.table c.answered.new.self.table m.reduced c.answered.ensures.manager.reduced c.answered.ensures.grows.extends
+    rises_by_pairs c.args.self.now.table c.answered.new.self.table m.reduced c.answered.ensures.manager.reduced
+    c.answered.ensures.grows.extends
     c.args.connective c.args.f c.args.g c.requires.f c.requires.g c.args.steps.now c.answered.new.steps
-    (λ choices has. c.answered.ensures.requests choices (subst (λ k. HasOpen c.answered.new.self.table k choices) (sym c.choice-choice.ensures) has))
+    (λ choices has. c.answered.ensures.requests choices
+    (subst (λ k. HasOpen c.answered.new.self.table k choices) (sym c.choice-choice.ensures) has))
 
 pub returns-clause-nodes : goal.returns-clause-nodes
 returns-clause-nodes g c =
     let m = subst IsManager c.self.view_is c.self.invariant.manager in
-    rises_by_pairs c.args.self.now.table c.answered.new.self.table m.reduced c.answered.ensures.manager.reduced c.answered.ensures.grows.extends
-    c.args.connective c.args.f c.args.g c.requires.f c.requires.g (kept c.args.self.now.table) (kept c.answered.new.self.table)
-    (λ choices has. c.answered.ensures.nodes choices (subst (λ k. HasOpen c.answered.new.self.table k choices) (sym c.choice-choice.ensures) has))
+    rises_by_pairs c.args.self.now.table c.answered.new.self.table m.reduced c.answered.ensures.manager.reduced
+    c.answered.ensures.grows.extends
+    c.args.connective c.args.f c.args.g c.requires.f c.requires.g (kept c.args.self.now.table)
+    (kept c.answered.new.self.table)
+    (λ choices has. c.answered.ensures.nodes choices
+    (subst (λ k. HasOpen c.answered.new.self.table k choices) (sym c.choice-choice.ensures) has))
 
 pub returns-clause-again : goal.returns-clause-again
-returns-clause-again g c id h = c.answered.ensures.again id (subst (λ o. Remembers c.args.self.now o id) (sym c.operation.ensures) h)
+returns-clause-again g c id h =
+    c.answered.ensures.again id (subst (λ o. Remembers c.args.self.now o id) (sym c.operation.ensures) h)
 
 pub returns-clause-again_same : goal.returns-clause-again_same
-returns-clause-again_same g c id h = c.answered.ensures.again_same id (subst (λ o. Remembers c.args.self.now o id) (sym c.operation.ensures) h)
+returns-clause-again_same g c id h =
+    c.answered.ensures.again_same id (subst (λ o. Remembers c.args.self.now o id) (sym c.operation.ensures) h)
 
 pub returns-clause-again_free : goal.returns-clause-again_free
-returns-clause-again_free g c id h = c.answered.ensures.again_free id (subst (λ o. Remembers c.args.self.now o id) (sym c.operation.ensures) h)
+returns-clause-again_free g c id h =
+    c.answered.ensures.again_free id (subst (λ o. Remembers c.args.self.now o id) (sym c.operation.ensures) h)

@@ -8,4 +8,5 @@ copies-requires-clause-known c f there = subst (λ m. Knows m.table f) (sym c.se
 
 pub returns-clause-reached : goal.returns-clause-reached
 returns-clause-reached c =
-    subst (AllReached c.copies.new.to) (sym (c.copy_from_slice.ensures.after ∙ c.deref.ensures.value)) c.in_ok-new_roots.ensures.reached
+    subst (AllReached c.copies.new.to) (sym (c.copy_from_slice.ensures.after ∙ c.deref.ensures.value))
+    c.in_ok-new_roots.ensures.reached

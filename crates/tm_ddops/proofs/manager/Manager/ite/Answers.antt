@@ -6,7 +6,8 @@ use Rattle.tm_ddops.proofs.manager.Manager.ite.Goals as goal
 
 pub answered-requires : goal.answered-requires
 answered-requires c = record {
-  operands = λ x there. one_of_three (Knows c.args.self.now.table) c.args.f c.args.g c.args.h x c.requires.f c.requires.g c.requires.h there;
+  operands = λ x there. one_of_three (Knows c.args.self.now.table) c.args.f c.args.g c.args.h x c.requires.f
+      c.requires.g c.requires.h there;
   choice = record { test = c.requires.f; if_true = c.requires.g; if_false = c.requires.h };
   same = λ s v. refl;
 }

@@ -15,7 +15,8 @@ clear c k below =
     ∙ get_or-replicate c.levels.result k false false (omega (arith, below, c.levels.ensures.value))
 
 many : (c : After-deref_mut) → length c.deref_mut.result.now ≡ c.self.inside.store.levels
-many c = ap length (c.deref_mut.ensures.value ∙ c.in_ok-values.ensures) ∙ length-replicate c.levels.result false ∙ c.levels.ensures.value
+many c = ap length (c.deref_mut.ensures.value ∙ c.in_ok-values.ensures) ∙ length-replicate c.levels.result false
+    ∙ c.levels.ensures.value
 
 pub fill-requires : goal.fill-requires
 fill-requires c = record {
@@ -33,6 +34,9 @@ returns c =
     let old = c.in_ok-values.values.items in
     let same : length new ≡ length c.deref_mut.result.now = c.fill.auto.values in
     let known = subst (λ m. Knows m.table c.args.f) (sym c.self.view_is) c.requires in
-    subst (IsLeast c.args.self.now.table c.args.f) (sym (back_is new old c.in_ok-values.values.len (same ∙ ap length c.deref_mut.ensures.value) c.in_ok-values.values.ok.0))
+    subst (IsLeast c.args.self.now.table c.args.f)
+    (sym (back_is new old c.in_ok-values.values.len (same ∙ ap length c.deref_mut.ensures.value)
+    c.in_ok-values.values.ok.0))
     (subst (λ m. IsLeast m.table c.args.f new) c.self.view_is
-    (least_of_filled c.self.inside.store c.args.f (c.levels.ensures.reduced.within c.args.f known) c.deref_mut.result.now new (same ∙ many d) (clear d) c.fill.ensures))
+    (least_of_filled c.self.inside.store c.args.f (c.levels.ensures.reduced.within c.args.f known)
+    c.deref_mut.result.now new (same ∙ many d) (clear d) c.fill.ensures))

@@ -6,8 +6,10 @@ use Rattle.tm_ddops.proofs.manager.Manager.make.Goals as goal
 use Rattle.tm_ddops.proofs.manager.Manager.make.Goals.{After-make}
 use Rattle.tm_ddops.proofs.manager.Manager.make.Given.{Over}
 
-sound : (g : Over) (c : After-make g) → IsManager (record { table = c.make.new.self; results = c.self.inside.cache.entries })
-sound g c = manager_extended (diagrams_of c.self.inside) _ c.self.invariant.manager c.make.ensures.extends c.make.ensures.reduced refl
+sound : (g : Over) (c : After-make g) →
+    IsManager (record { table = c.make.new.self; results = c.self.inside.cache.entries })
+sound g c = manager_extended (diagrams_of c.self.inside) _ c.self.invariant.manager c.make.ensures.extends
+    c.make.ensures.reduced refl
 
 pub invariant_of-self : goal.invariant_of-self
 invariant_of-self g c = record { manager = sound g c; room = c.self.invariant.room }

@@ -10,15 +10,19 @@ pub complement-requires-clause-in_range : goal.complement-requires-clause-in_ran
 complement-requires-clause-in_range c =
     let t = c.args.self.now in
     let fits = subst (Fits t) c.in-Not.is c.requires.fits in
-    let is = subst (λ term. AreOperands (value_of t c.args.values.now) (parts_of term) c.args.operands) c.in-Not.is c.requires.operands in
-    rw (is, c.width.ensures.width) (value_of-below t c.args.values.now c.requires.sound c.requires.inputs c.in-Not.a fits)
+    let is = subst (λ term. AreOperands (value_of t c.args.values.now) (parts_of term) c.args.operands) c.in-Not.is
+    c.requires.operands in
+    rw (is, c.width.ensures.width)
+    (value_of-below t c.args.values.now c.requires.sound c.requires.inputs c.in-Not.a fits)
 
 pub difference-requires-clause-in_range : goal.difference-requires-clause-in_range
 difference-requires-clause-in_range c =
     let t = c.args.self.now in
     let fits = subst (Fits t) c.in-Sub.is c.requires.fits in
-    let are = subst (λ term. AreOperands (value_of t c.args.values.now) (parts_of term) c.args.operands) c.in-Sub.is c.requires.operands in
-    rw (are.1, c.width-in-Sub.ensures.width, fits.2) (value_of-below t c.args.values.now c.requires.sound c.requires.inputs c.in-Sub.field-1 fits.1)
+    let are = subst (λ term. AreOperands (value_of t c.args.values.now) (parts_of term) c.args.operands) c.in-Sub.is
+    c.requires.operands in
+    rw (are.1, c.width-in-Sub.ensures.width, fits.2)
+    (value_of-below t c.args.values.now c.requires.sound c.requires.inputs c.in-Sub.field-1 fits.1)
 
 pub overflow_shr-result : goal.overflow_shr-result
 overflow_shr-result c =

@@ -12,4 +12,5 @@ returns-then-place-len-clause-in_range c =
 pub returns-clause-in_range : goal.returns-clause-in_range
 returns-clause-in_range c =
     let sound = subst IsSound c.self.view_is c.self.invariant in
-    rw c.eval_parts.ensures (value_of-below c.args.self.now c.args.values.now sound c.requires.inputs c.args.id c.requires.known)
+    rw c.eval_parts.ensures (value_of-below c.args.self.now c.args.values.now sound c.requires.inputs c.args.id
+    c.requires.known)
