@@ -1,6 +1,7 @@
 //! Counts what operations on decision diagrams cost: each line of the input is a task, done in a manager of its own.
 #![tactic(auto)]
 
+mod failure;
 mod mix;
 mod product;
 mod quantify;

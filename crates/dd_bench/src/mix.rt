@@ -1,8 +1,9 @@
 //! Functions that are drawn, and mixed.
 ghost use Rattle.std.specs.Prelude.{◌<◌};
 
+use crate::failure::Failure;
 use crate::workbench::{FALSE, Function, TRUE, Workbench};
-use std::alloc::{AllocError, Global};
+use std::alloc::Global;
 
 /// The number of levels.
 const LEVELS: u32 = 24;
@@ -41,7 +42,7 @@ impl Draws {
 }
 
 /// A cube of four literals.
-fn cube(bench: &mut Workbench, draws: &mut Draws) -> Result<Function, AllocError> {
+fn cube(bench: &mut Workbench, draws: &mut Draws) -> Result<Function, Failure> {
     let mut cube = TRUE;
     for _ in 0..4 {
         let mut literal = bench.literal(draws.draw(u64::from(LEVELS)) as u32);
@@ -54,7 +55,7 @@ fn cube(bench: &mut Workbench, draws: &mut Draws) -> Result<Function, AllocError
 }
 
 /// The exclusive sum of six cubes.
-fn drawn(bench: &mut Workbench, draws: &mut Draws) -> Result<Function, AllocError> {
+fn drawn(bench: &mut Workbench, draws: &mut Draws) -> Result<Function, Failure> {
     let mut function = FALSE;
     for _ in 0..6 {
         let cube = cube(bench, draws)?;
@@ -68,7 +69,7 @@ fn mix_two(
     bench: &mut Workbench,
     draws: &mut Draws,
     functions: &mut [Function; FUNCTIONS],
-) -> Result<(), AllocError> {
+) -> Result<(), Failure> {
     let a = functions[draws.draw(16) as usize];
     let b = functions[draws.draw(16) as usize];
     let c = draws.draw(16) as usize;
@@ -81,7 +82,7 @@ fn mix_two(
 }
 
 /// The sizes of 16 functions that are drawn and then mixed in so many rounds.
-pub fn mix(alloc: Global, seed: u64, rounds: u32) -> Result<Counts, AllocError> {
+pub fn mix(alloc: Global, seed: u64, rounds: u32) -> Result<Counts, Failure> {
     let mut bench = Workbench::new(alloc, LEVELS)?;
     let mut draws = Draws { state: seed };
     let mut functions = [FALSE; FUNCTIONS];

@@ -1,8 +1,9 @@
 //! The bits of a product.
 ghost use Rattle.std.specs.Prelude.{◌≡◌, ◌<◌, ◌*◌, IfOk, length};
 
+use crate::failure::Failure;
 use crate::workbench::{FALSE, Function, Workbench};
-use std::alloc::{AllocError, Global};
+use std::alloc::Global;
 
 /// What the diagrams of all bits of a product cost.
 #[derive(Clone, Copy)]
@@ -21,7 +22,7 @@ fn add_bit(
     sum: &mut Function,
     bit: Function,
     carry: Function,
-) -> Result<Function, AllocError> {
+) -> Result<Function, Failure> {
     let old = *sum;
     let halves = bench.xor(old, bit)?;
     *sum = bench.xor(halves, carry)?;
@@ -31,7 +32,7 @@ fn add_bit(
 }
 
 /// Adds the second factor, shifted by `i`, to the sum where bit `i` of the first factor is set.
-fn add_row(bench: &mut Workbench, sum: &mut [Function], width: u8, i: u8) -> Result<(), AllocError>
+fn add_row(bench: &mut Workbench, sum: &mut [Function], width: u8, i: u8) -> Result<(), Failure>
     requires i { i < width }
     requires sum { length sum.old ≡ 2 * width }
     ensures { length sum.new ≡ length sum.old }
@@ -49,7 +50,7 @@ fn add_row(bench: &mut Workbench, sum: &mut [Function], width: u8, i: u8) -> Res
 
 /// The bits of the product of two factors, the least significant first. The factors are the levels in order, each with
 /// its most significant bit first.
-pub fn bits(alloc: Global, bench: &mut Workbench, width: u8) -> Result<Vec<Function>, AllocError>
+pub fn bits(alloc: Global, bench: &mut Workbench, width: u8) -> Result<Vec<Function>, Failure>
     ensures { IfOk result (λ sum. length sum.items ≡ 2 * width) }
 {
     let mut sum = vec![in alloc; FALSE; 2 * usize::from(width)]?;
@@ -60,7 +61,7 @@ pub fn bits(alloc: Global, bench: &mut Workbench, width: u8) -> Result<Vec<Funct
 }
 
 /// The bits of a product of two factors of this width.
-pub fn product(alloc: Global, width: u8) -> Result<Counts, AllocError> {
+pub fn product(alloc: Global, width: u8) -> Result<Counts, Failure> {
     let mut bench = Workbench::new(alloc, 2 * u32::from(width))?;
     let sum = bits(alloc, &mut bench, width)?;
     let middle = match sum.get(usize::from(width).saturating_sub(1)) {

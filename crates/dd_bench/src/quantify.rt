@@ -1,9 +1,10 @@
 //! Quantification and substitution over the bits of a product.
 ghost use Rattle.std.specs.Prelude.{◌<◌};
 
+use crate::failure::Failure;
 use crate::product::bits;
 use crate::workbench::{Function, Workbench};
-use std::alloc::{AllocError, Global};
+use std::alloc::Global;
 
 /// What the diagrams of all results cost, for each operation together.
 #[derive(Clone, Copy)]
@@ -19,7 +20,7 @@ pub struct Counts {
 }
 
 /// Every fourth level below `count`, from 0.
-fn fourth_levels(alloc: Global, count: u32) -> Result<Vec<u32>, AllocError> {
+fn fourth_levels(alloc: Global, count: u32) -> Result<Vec<u32>, Failure> {
     let mut levels = Vec::new(alloc);
     for level in (0..count).step_by(4) {
         levels.push(level)?;
@@ -28,7 +29,7 @@ fn fourth_levels(alloc: Global, count: u32) -> Result<Vec<u32>, AllocError> {
 }
 
 /// What stands in the place of a level: the next one, in a circle, or for odd levels the exclusive sum of both.
-fn part(bench: &mut Workbench, level: u32, count: u32) -> Result<Function, AllocError>
+fn part(bench: &mut Workbench, level: u32, count: u32) -> Result<Function, Failure>
     requires { level < count }
 {
     let next = bench.literal(if level + 1 < count { level + 1 } else { 0 });
@@ -44,7 +45,7 @@ fn parts(
     alloc: Global,
     bench: &mut Workbench,
     count: u32,
-) -> Result<Vec<(u32, Function)>, AllocError> {
+) -> Result<Vec<(u32, Function)>, Failure> {
     let mut parts = Vec::new(alloc);
     for level in 0..count {
         parts.push((level, part(bench, level, count)?))?;
@@ -58,7 +59,7 @@ fn exists_size(
     bench: &mut Workbench,
     bits: &[Function],
     levels: &[u32],
-) -> Result<u64, AllocError> {
+) -> Result<u64, Failure> {
     let mut results = Vec::new(alloc);
     for bit in bits {
         results.push(bench.exists(*bit, levels)?)?;
@@ -72,7 +73,7 @@ fn forall_size(
     bench: &mut Workbench,
     bits: &[Function],
     levels: &[u32],
-) -> Result<u64, AllocError> {
+) -> Result<u64, Failure> {
     let mut results = Vec::new(alloc);
     for bit in bits {
         results.push(bench.forall(*bit, levels)?)?;
@@ -86,7 +87,7 @@ fn composed_size(
     bench: &mut Workbench,
     bits: &[Function],
     parts: &[(u32, Function)],
-) -> Result<u64, AllocError> {
+) -> Result<u64, Failure> {
     let mut results = Vec::new(alloc);
     for bit in bits {
         results.push(bench.compose(*bit, parts)?)?;
@@ -100,7 +101,7 @@ fn quantify_each(
     bench: &mut Workbench,
     functions: &[Function],
     count: u32,
-) -> Result<Counts, AllocError> {
+) -> Result<Counts, Failure> {
     let levels = fourth_levels(alloc, count)?;
     let parts = parts(alloc, bench, count)?;
     let exists = exists_size(alloc, bench, functions, &levels)?;
@@ -115,7 +116,7 @@ fn quantify_each(
 }
 
 /// Quantifies and substitutes in each bit of a product of two factors of this width.
-pub fn quantify(alloc: Global, width: u8) -> Result<Counts, AllocError> {
+pub fn quantify(alloc: Global, width: u8) -> Result<Counts, Failure> {
     let count = 2 * u32::from(width);
     let mut bench = Workbench::new(alloc, count)?;
     let sum = bits(alloc, &mut bench, width)?;

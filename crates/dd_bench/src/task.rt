@@ -1,11 +1,12 @@
 //! The tasks that lines name.
 ghost use Rattle.std.specs.Prelude.{◌≤◌, IfSome};
 
+use crate::failure::Failure;
 use crate::mix::mix;
 use crate::product::product;
 use crate::quantify::quantify;
 use crate::queens::queens;
-use std::alloc::{AllocError, Global};
+use std::alloc::Global;
 
 /// The greatest size of a board and the greatest width of a factor.
 const MOST: u8 = 16;
@@ -51,8 +52,8 @@ impl Task {
     }
 
     /// What the task counts.
-    pub fn answer(self, alloc: Global) -> Result<String, AllocError> {
-        match self {
+    pub fn answer(self, alloc: Global) -> Result<String, Failure> {
+        let line = match self {
             Task::Queens(n) => {
                 let counts = queens(alloc, n)?;
                 format!(in alloc; "queens {n}: {}, {} requests", counts.size, counts.requests)
@@ -78,6 +79,7 @@ impl Task {
                     counts.exists, counts.forall, counts.composed, counts.requests
                 )
             }
-        }
+        };
+        Ok(line?)
     }
 }

@@ -2,6 +2,7 @@
 ghost use Rattle.std.specs.Prelude.{All, IfOk};
 ghost use Rattle.tm_dd.specs.Table.{Knows};
 
+use crate::failure::Failure;
 use std::alloc::{AllocError, Global};
 use std::collections::HashSet;
 use std::marker::Model;
@@ -18,7 +19,7 @@ pub const FALSE: Function = Function(0);
 /// The function that is always true.
 pub const TRUE: Function = Function(1);
 
-/// A manager, with all functions that were made in it. A number that none of them has stands for `FALSE`.
+/// A manager, with all functions that were made in it. One that was not made here is refused.
 #[derive(Drop)]
 pub struct Workbench {
     alloc: Global,
@@ -42,7 +43,7 @@ impl Model for Workbench {
 
 impl Workbench {
     /// A workbench with the constants and the value of each level.
-    pub fn new(alloc: Global, levels: u32) -> Result<Workbench, AllocError> {
+    pub fn new(alloc: Global, levels: u32) -> Result<Workbench, Failure> {
         let mut manager = Manager::new(alloc, levels)?;
         let mut steps = Steps::new(());
         let mut ids = Vec::new(alloc);
@@ -70,88 +71,84 @@ impl Workbench {
     }
 
     /// Both of two functions.
-    pub fn and(&mut self, f: Function, g: Function) -> Result<Function, AllocError> {
-        let f = self.id(f);
-        let g = self.id(g);
+    pub fn and(&mut self, f: Function, g: Function) -> Result<Function, Failure> {
+        let f = self.id(f)?;
+        let g = self.id(g)?;
         let both = self.manager.and(f, g, &mut self.steps)?;
         self.number(both)
     }
 
     /// At least one of two functions.
-    pub fn or(&mut self, f: Function, g: Function) -> Result<Function, AllocError> {
-        let f = self.id(f);
-        let g = self.id(g);
+    pub fn or(&mut self, f: Function, g: Function) -> Result<Function, Failure> {
+        let f = self.id(f)?;
+        let g = self.id(g)?;
         let some = self.manager.or(f, g, &mut self.steps)?;
         self.number(some)
     }
 
     /// Exactly one of two functions.
-    pub fn xor(&mut self, f: Function, g: Function) -> Result<Function, AllocError> {
-        let f = self.id(f);
-        let g = self.id(g);
+    pub fn xor(&mut self, f: Function, g: Function) -> Result<Function, Failure> {
+        let f = self.id(f)?;
+        let g = self.id(g)?;
         let one = self.manager.xor(f, g, &mut self.steps)?;
         self.number(one)
     }
 
     /// The complement of a function.
-    pub fn not(&mut self, f: Function) -> Result<Function, AllocError> {
-        let f = self.id(f);
+    pub fn not(&mut self, f: Function) -> Result<Function, Failure> {
+        let f = self.id(f)?;
         let opposite = self.manager.not(f)?;
         self.number(opposite)
     }
 
     /// The function that is true where `f` is true for some values of the levels.
-    pub fn exists(&mut self, f: Function, levels: &[u32]) -> Result<Function, AllocError> {
-        let f = self.id(f);
+    pub fn exists(&mut self, f: Function, levels: &[u32]) -> Result<Function, Failure> {
+        let f = self.id(f)?;
         let some = self.manager.exists(f, levels)?;
         self.number(some)
     }
 
     /// The function that is true where `f` is true for all values of the levels.
-    pub fn forall(&mut self, f: Function, levels: &[u32]) -> Result<Function, AllocError> {
-        let f = self.id(f);
+    pub fn forall(&mut self, f: Function, levels: &[u32]) -> Result<Function, Failure> {
+        let f = self.id(f)?;
         let all = self.manager.forall(f, levels)?;
         self.number(all)
     }
 
     /// The function `f` with each part's function in the place of its level.
-    pub fn compose(
-        &mut self,
-        f: Function,
-        parts: &[(u32, Function)],
-    ) -> Result<Function, AllocError> {
+    pub fn compose(&mut self, f: Function, parts: &[(u32, Function)]) -> Result<Function, Failure> {
         let parts = self.parts(parts)?;
-        let f = self.id(f);
+        let f = self.id(f)?;
         let composed = self.manager.compose(f, &parts)?;
         self.number(composed)
     }
 
     /// How many ids of inner nodes are reached from a function.
-    pub fn size(&self, f: Function) -> Result<u64, AllocError> {
-        self.manager.size(self.id(f))
+    pub fn size(&self, f: Function) -> Result<u64, Failure> {
+        Ok(self.manager.size(self.id(f)?)?)
     }
 
     /// How many ids of inner nodes are reached from some of these functions.
-    pub fn size_together(&self, functions: &[Function]) -> Result<u64, AllocError> {
+    pub fn size_together(&self, functions: &[Function]) -> Result<u64, Failure> {
         let mut inner = HashSet::new(self.alloc);
         for f in functions {
-            gather(self.manager.store(), self.id(*f), &mut inner)?;
+            gather(self.manager.store(), self.id(*f)?, &mut inner)?;
         }
         Ok(inner.len() as u64)
     }
 
     // The id of a function.
-    fn id(&self, f: Function) -> NodeId
-        ensures { Knows self.now.table result }
+    fn id(&self, f: Function) -> Result<NodeId, Failure>
+        ensures { IfOk result (Knows self.now.table) }
     {
         match self.ids.get(f.0) {
-            Some(id) => *id,
-            None => tm_dd::FALSE,
+            Some(id) => Ok(*id),
+            None => Err(Failure::UnknownFunction),
         }
     }
 
     // The number of a function that was made.
-    fn number(&mut self, id: NodeId) -> Result<Function, AllocError>
+    fn number(&mut self, id: NodeId) -> Result<Function, Failure>
         requires { Knows self.old.table id }
     {
         let function = Function(self.ids.len());
@@ -160,12 +157,12 @@ impl Workbench {
     }
 
     // The ids of the parts of a substitution.
-    fn parts(&self, parts: &[(u32, Function)]) -> Result<Vec<(u32, NodeId)>, AllocError>
+    fn parts(&self, parts: &[(u32, Function)]) -> Result<Vec<(u32, NodeId)>, Failure>
         ensures { IfOk result (λ ids. All (λ p. Knows self.now.table p.1) ids.items) }
     {
         let mut ids = Vec::new(self.alloc);
         for (level, f) in parts {
-            ids.push((*level, self.id(*f)))?;
+            ids.push((*level, self.id(*f)?))?;
         }
         Ok(ids)
     }
