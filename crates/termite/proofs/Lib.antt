@@ -7,6 +7,5 @@ mod Playing
 mod Reaching
 mod Running
 mod ReadNumbers
-mod ReadTurns
 mod SplitLines
 mod Stopping

@@ -1,5 +1,5 @@
 -- Digits, one after another.
-use Rattle.std.proofs.Common.{◌≡◌, ℕ, suc, ◌+◌, ◌-◌, ◌*◌, ◌^◌, ◌<◌, ◌≤◌, Bool, true, false, ◌&&◌, nat_lt, Some, None, List, [], ◌∷◌, length, drop, get_or, refl, sym, ap, ◌∙◌, arith, add-one, drop-cons}
+use Rattle.std.proofs.Common.{◌≡◌, ℕ, suc, ◌+◌, ◌-◌, ◌*◌, ◌^◌, ◌<◌, ◌≤◌, Bool, true, false, ◌&&◌, nat_lt, Some, None, List, [], ◌∷◌, length, drop, get_or, refl, sym, ap, ◌∙◌, arith, drop-cons}
 use Rattle.std.specs.Bool.{then_some}
 use Rattle.std.specs.Char.{is_ascii_digit}
 use Rattle.std.specs.Str.{all_ascii_digits}
@@ -55,12 +55,6 @@ pub digits_none_at : (field : List ℕ) (i n d : ℕ) → i < length field → d
     digits_after n (d ∷ []) ≡ None → digits_after n (drop i field) ≡ None
 digits_none_at field i n d within is none =
     rw (drop-cons field i 0 within, sym is) (digits_none n d (drop (suc i) field) none)
-
-pub digits_some_at : (field : List ℕ) (i n d m : ℕ) → i < length field → d ≡ get_or field i 0 →
-    digits_after n (d ∷ []) ≡ Some m →
-    digits_after n (drop i field) ≡ digits_after m (drop (i + 1) field)
-digits_some_at field i n d m within is some =
-    rw (add-one i, drop-cons field i 0 within, sym is) (digits_some n d m (drop (suc i) field) some)
 
 ends_at : (b : Bool) (n : ℕ) → b ≡ true → then_some b n ≡ Some n
 ends_at b n is = rw is refl

@@ -104,31 +104,6 @@ module _ (contents : List ℕ → Option (List ℕ)) (spec driver choices : List
   part_puts last old new before now text (Stopped n why) loads so_put cut r = elim r [ ]
   part_puts last old new before now text (Unbuilt name) loads so_put cut r = elim r [ ]
 
-module _ (d : DesignTree) (bs : List BlockTree) (c : ScriptData) where
-  -- the end of a play is no fault and no usage
-  pub ends_shown : (names : List (List ℕ)) (reads : Option ℕ) (old new : List ℕ → ℕ) (writes : Option ℕ)
-      (old_out new_out : ℕ) (text : List ℕ) (status : Status) →
-      Ends d bs c text status → IsFaultShown names reads old new writes old_out new_out status
-  ends_shown names reads old new writes old_out new_out text (ReadFault name) e = elim e [ ]
-  ends_shown names reads old new writes old_out new_out text (WriteFault name) e = elim e [ ]
-  ends_shown names reads old new writes old_out new_out text Memory e = tt
-  ends_shown names reads old new writes old_out new_out text (Played n) e = tt
-  ends_shown names reads old new writes old_out new_out text Usage e = tt
-  ends_shown names reads old new writes old_out new_out text (BadText name why) e = tt
-  ends_shown names reads old new writes old_out new_out text (Stopped n why) e = tt
-  ends_shown names reads old new writes old_out new_out text (Unbuilt name) e = tt
-
-  pub ends_took : (tells : Bool) (last : Option ℕ) (old new : ℕ) (text : List ℕ) (status : Status) →
-      Ends d bs c text status → TookTooMany tells last old new status
-  ends_took tells last old new text (BadText name why) e = elim e [ ]
-  ends_took tells last old new text (ReadFault name) e = tt
-  ends_took tells last old new text (WriteFault name) e = tt
-  ends_took tells last old new text Memory e = tt
-  ends_took tells last old new text (Played n) e = tt
-  ends_took tells last old new text Usage e = tt
-  ends_took tells last old new text (Stopped n why) e = tt
-  ends_took tells last old new text (Unbuilt name) e = tt
-
 -- nothing of an empty text was put
 put_nothing : (mid now : List ℕ) → AppendsPrefix [] mid now → now ≡ mid
 put_nothing mid now cut = cut.1 ∙ ap (λ t. mid ++ t) (take_all cut.0 [] (omega arith)) ∙ append-nil mid
@@ -277,10 +252,6 @@ refusal_took tells reads old new writes old_out new_out Usage r = tt
 refusal_took tells reads old new writes old_out new_out (BadText name why) r = elim r [ ]
 refusal_took tells reads old new writes old_out new_out (Stopped n why) r = tt
 refusal_took tells reads old new writes old_out new_out (Unbuilt name) r = tt
-
-pub refusal_no_usage : (last : Option ℕ) (old new : ℕ) (status : Status) → IsRefusal last old new status →
-    status ≡ Usage → ⊥
-refusal_no_usage last old new status r is = subst (IsRefusal last old new) is r
 
 pub refusal_usage : (command : Option Command) (last : Option ℕ) (old new : ℕ) (status : Status) →
     IsRefusal last old new status → IsUsageShown command status

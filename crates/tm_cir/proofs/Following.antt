@@ -86,11 +86,6 @@ fits_at bs trees s at item b one same below here is =
     (fits_there one.design s (length trees) at (block_tree b) one.state
     (one.blocks.each at (block_tree b) (block_at bs trees at item b same below here is)))
 
--- there is a first block
-pub some_block : (bs : List Block) (trees : List BlockTree) (s : StateData) → AreOfOneDesign trees s →
-    block_trees bs ≡ trees → 0 < length bs
-some_block bs trees s one same = subst (λ n. 0 < n) (length_trees bs trees same) one.blocks.some
-
 -- what holds of each number's tree holds of each tree
 pub All-trees : (vars processes : ℕ) (nums : List Num64) → All (FitsNum vars processes) (map num_tree nums) →
     All (λ n. FitsNum vars processes (num_tree n)) nums

@@ -1,5 +1,5 @@
 -- What a text begins with, piece by piece.
-use Rattle.std.proofs.Common.{◌≡◌, ◌≢◌, ℕ, ◌+◌, ◌*◌, ◌/◌, ◌%◌, ◌^◌, ◌-◌, ◌<◌, ◌≤◌, min, Bool, true, false, cond, ltb, Option, None, Some, ◌==◌, inr, ⊎_elim, ◌↔◌, List, [], ◌∷◌, ◌++◌, map, length, get_or, drop, refl, ap, sym, subst, ◌∙◌, append_assoc, length-append, lt-ltb, ltb-true, ltb-false, arith}
+use Rattle.std.proofs.Common.{◌≡◌, ◌≢◌, ℕ, ◌+◌, ◌*◌, ◌/◌, ◌%◌, ◌^◌, ◌-◌, ◌<◌, ◌≤◌, min, Bool, true, false, cond, ltb, Option, None, Some, ◌==◌, ⊎_elim, ◌↔◌, List, [], ◌∷◌, ◌++◌, map, length, get_or, drop, refl, ap, sym, subst, ◌∙◌, append_assoc, lt-ltb, ltb-false, arith}
 use Rattle.std.specs.Prelude.{MatchOption, slice_get}
 use Rattle.std.specs.Option.{option_map}
 use Rattle.std.proofs.lemmas.Option.{slice_get_read, slice_get_past}
@@ -14,7 +14,7 @@ use Rattle.tm_cir.specs.declared.small_token.Token.{Token}
 use Rattle.tm_cir.specs.declared.small_token.Token.TheVariants.{Label, Constant}
 use Rattle.tm_cir.specs.SmallText.{name_byte, item_name, token_text, is_sign, token_number, BeginsNoWord, BeginsWith}
 use Rattle.tm_cir.specs.Front.{is_digit, begins_digit, number_after, number_in_front, IsBehind, IsSpelled, IsOnlyToken}
-use Rattle.tm_cir.proofs.TokenTexts.{same_inside, sign_or_word, token_in_front, token_read}
+use Rattle.tm_cir.proofs.TokenTexts.{same_inside, sign_or_word, token_in_front}
 use Rattle.tm_cir.proofs.TokenLists.{front_is}
 
 -- two pieces, one behind the other
@@ -137,19 +137,6 @@ number_step v n m first digit rest behind here is_one is next before small =
     let same : m ≡ k = omega arith in
     ap (λ (x : ℕ). number_after x behind) same ∙ all
 
-pub number_end : (v n first : ℕ) (rest behind : List ℕ) → rest ≡ first ∷ behind → (digit_value first < 10 → ⊥) →
-    (v < 2 ^ 32 → number_after n rest ≡ v) → v < 2 ^ 32 → n ≡ v
-number_end v n first rest behind here never before small = of (is_digit first) refl
-  where
-    of : (w : Bool) → is_digit first ≡ w → n ≡ v
-    of true is = absurd (never (ltb-true (digit_value first) 10 is))
-    of false is =
-        sym (ap (number_after n) here
-        ∙ ap (λ (w : Bool). cond w (number_after (n * 10 + digit_value first) behind) n) is) ∙ before small
-
-pub number_all : (v n : ℕ) (rest : List ℕ) → rest ≡ [] → (v < 2 ^ 32 → number_after n rest ≡ v) → v < 2 ^ 32 → n ≡ v
-number_all v n rest none before small = sym (ap (number_after n) none) ∙ before small
-
 -- the token that the first bytes tell
 pub only_as : (text : List ℕ) (found : Option Token) → token_in_front text ≡ found → IsOnlyToken text found
 only_as text found is = λ d t rest begins. sym is ∙ front_is d text rest t begins
@@ -220,17 +207,6 @@ none_ends d text behind found only s no_sign no_end t rest begins =
     append_cancel_left s.bytes rest behind (ap (λ (w : List ℕ). w ++ rest) bytes ∙ sym other.whole ∙ s.whole) in
     ⊎_elim (λ is. no_sign (ap is_sign (same_inside (only d t rest begins)) ∙ is))
     (λ none. no_end (subst BeginsNoWord left none)) begins.ends
-
-pub token_shorter : (d : DesignTree) (text rest : List ℕ) (t : Token) → BeginsWith d text t rest →
-    length rest < length text
-token_shorter d text rest t begins = of begins.bytes begins.spelled begins.whole
-  where
-    of : (bytes : List ℕ) → token_text d t ≡ Some bytes → text ≡ bytes ++ rest → length rest < length text
-    of [] spelled whole =
-        let same : None ≡ Some t = token_read d t [] [] begins.small spelled (inr tt) in cc
-    of (b ∷ bs) spelled whole =
-        let long : length text ≡ length ((b ∷ bs) ++ rest) = ap length whole in
-        omega (arith, length-append (b ∷ bs) rest)
 
 pub constant_read : (text : List ℕ) (v : Bool) → v ≡ begins_digit text → v ≡ true →
     token_in_front text ≡ Some (Constant (number_in_front text))

@@ -1,5 +1,5 @@
 -- What is refused spells no tokens, no blocks and no driver.
-use Rattle.std.proofs.Common.{◌==◌, ◌||◌, ◌↔◌, ◌≡◌, ◌≢◌, ℕ, ◌+◌, ◌<◌, ◌≤◌, Bool, true, false, cond, Option, None, Some, List, [], ◌∷◌, ◌++◌, length, get_or, refl, ap, ap₂, sym, subst, ◌∙◌, true≢false, length-append, IfSome, arith}
+use Rattle.std.proofs.Common.{◌==◌, ◌||◌, ◌↔◌, ◌≡◌, ◌≢◌, ℕ, ◌+◌, ◌<◌, Bool, true, false, cond, Option, None, Some, List, [], ◌∷◌, ◌++◌, length, get_or, refl, ap, ap₂, sym, subst, ◌∙◌, true≢false, length-append, IfSome, arith}
 use Rattle.std.specs.Prelude.{MatchOption, IsNone}
 use Rattle.std.specs.Borrow.{Bor}
 use Rattle.std.proofs.lemmas.Bool.Decides.{Decides-eqb}
@@ -8,7 +8,7 @@ use Rattle.tm_syntax.specs.Tokens.{is_blank}
 use Rattle.tm_syntax.specs.Design.{DesignTree}
 use Rattle.tm_cir.specs.declared.small_token.Token.{Token}
 use Rattle.tm_cir.specs.declared.small_token.Token.TheVariants.{Void, If, Else, Goto, Return, TermiteLeave, Label, Variable, Task, Constant, OpenParenthesis, CloseParenthesis, CloseBrace, Colon, Semicolon}
-use Rattle.tm_cir.specs.declared.small_driver.TheConstants.{INCLUDE, MOST_BYTES}
+use Rattle.tm_cir.specs.declared.small_driver.TheConstants.{INCLUDE}
 use Rattle.tm_cir.specs.declared.block.Block.{Block}
 use Rattle.tm_cir.specs.Tree.{BlockTree}
 use Rattle.tm_cir.specs.View.{block_tree}
@@ -329,11 +329,6 @@ pub included : (text one behind : List ℕ) (r : Option (Bor (List ℕ))) → Sk
 included text one behind None skips ends here never = no_line text one behind skips ends here never
 included text one behind (Some x) skips ends here line =
     record { behind = behind; include = subst (SkipsBlanks text) here skips; line = line }
-
--- no driver
-pub too_long : (d : DesignTree) (text : List ℕ) → MOST_BYTES < length text →
-    (bs : List BlockTree) → IsSmallDriverText d text bs → ⊥
-too_long d text long bs is = let short : length text ≤ MOST_BYTES = is.short in omega arith
 
 pub none_included : (d : DesignTree) (text : List ℕ) → ((body : List ℕ) → HasInclude text body → ⊥) →
     (bs : List BlockTree) → IsSmallDriverText d text bs → ⊥

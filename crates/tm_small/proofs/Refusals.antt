@@ -1,5 +1,5 @@
 -- Where one part of a form is refused, there is no form: what was read before that part is what each form begins with.
-use Rattle.std.proofs.Common.{◌≢◌, ℕ, List, refl, sym, subst}
+use Rattle.std.proofs.Common.{ℕ, List, refl, sym, subst}
 use Rattle.std.specs.List.{Contains}
 use Rattle.tm_base.specs.declared.place.Place.{Place}
 use Rattle.tm_syntax.specs.declared.token.Token.{Token}
@@ -9,9 +9,9 @@ use Rattle.tm_syntax.specs.declared.token.Word.TheVariants as word
 use Rattle.tm_syntax.specs.declared.token.Sign.TheVariants as sign
 use Rattle.tm_syntax.specs.declared.tree.Ident.{Ident}
 use Rattle.tm_syntax.specs.Tree.{ExprTree, ValueTree}
-use Rattle.tm_small.specs.Grammar.{IsMark, IsName, IsTruth, truth_true, truth_false, IsVariable, variable, IsAtom, atom_truth, atom_name, IsLit, lit_plain, lit_not, IsValue, value_any, value_lit}
+use Rattle.tm_small.specs.Grammar.{IsMark, IsName, IsTruth, IsVariable, variable, IsAtom, IsLit, lit_plain, lit_not, IsValue, value_any, value_lit}
 use Rattle.tm_small.specs.Refusal.{BeginsNone}
-use Rattle.tm_small.proofs.FormsAgree.{mark_kind, same_kind, mark_rest, name_agree, truth_agree, variable_agree, atom_no_sign, lit_agree, value_agree}
+use Rattle.tm_small.proofs.FormsAgree.{mark_kind, mark_rest, name_agree, truth_agree, variable_agree, atom_no_sign, lit_agree, value_agree}
 
 pub past_mark : {k : TokenKind} {p : Place} {a b : List Token} (P : List Token → Type 0) → IsMark k p a b → P b →
     (q : Place) (d : List Token) → IsMark k q a d → P d
@@ -38,33 +38,15 @@ pub past_value : {text : List ℕ} {known : List (List ℕ)} {x : ValueTree} {a 
     IsValue text known x a b → P b → (y : ValueTree) (d : List Token) → IsValue text known y a d → P d
 past_value P m holds y d n = subst P (value_agree m n refl).1 holds
 
-pub no_truth : {a : List Token} → BeginsNone (IsMark (token.Word word.True)) a →
-    BeginsNone (IsMark (token.Word word.False)) a → BeginsNone IsTruth a
-no_truth no_true no_false x b (truth_true m) = no_true _ _ m
-no_truth no_true no_false x b (truth_false m) = no_false _ _ m
-
-pub no_variable_name : {text : List ℕ} {known : List (List ℕ)} {a : List Token} → BeginsNone (IsName text) a →
-    BeginsNone (IsVariable text known) a
-no_variable_name refused x b (variable n in_known) = refused _ _ n
-
 pub unknown_variable : {text : List ℕ} {known : List (List ℕ)} {name : Ident} {a b : List Token} →
     IsName text name a b → ¬ Contains known name.text → BeginsNone (IsVariable text known) a
 unknown_variable {known} h unknown x d (variable n in_known) =
     unknown (subst (λ (i : Ident). Contains known i.text) (sym (name_agree h n refl).0) in_known)
 
-pub no_atom : {text : List ℕ} {known : List (List ℕ)} {a : List Token} → BeginsNone IsTruth a →
-    BeginsNone (IsVariable text known) a → BeginsNone (IsAtom text known) a
-no_atom no_constant no_name x b (atom_truth h) = no_constant _ _ h
-no_atom no_constant no_name x b (atom_name h) = no_name _ _ h
-
 pub no_plain_lit : {text : List ℕ} {known : List (List ℕ)} {a : List Token} →
     BeginsNone (IsMark (token.Sign sign.Bang)) a → BeginsNone (IsAtom text known) a → BeginsNone (IsLit text known) a
 no_plain_lit no_bang refused x b (lit_plain h) = refused _ _ h
 no_plain_lit no_bang refused x b (lit_not m h) = no_bang _ _ m
-
--- a token of one kind begins no form that a token of another kind begins
-pub other_mark : {k l : TokenKind} {p : Place} {a b : List Token} → IsMark k p a b → k ≢ l → BeginsNone (IsMark l) a
-other_mark m differ q d n = differ (same_kind (mark_kind m) (mark_kind n) refl)
 
 pub no_negation : {text : List ℕ} {known : List (List ℕ)} {p : Place} {a b : List Token} →
     IsMark (token.Sign sign.Bang) p a b → BeginsNone (IsAtom text known) b → BeginsNone (IsLit text known) a

@@ -9,8 +9,7 @@ use Rattle.tm_syntax.specs.declared.tree.Ident.{Ident}
 use Rattle.tm_syntax.specs.Tree.{ExprTree, ValueTree, StmtTree, assign, assert, magic, BodyTree, NamedTree, ProcessTree, TaskTree}
 use Rattle.tm_small.specs.Grammar.{IsMark, IsName, AreEach, IsTruth, IsVariable, IsLit, IsValue, IsStmt, stmt_assign, stmt_assert, stmt_magic, IsBody, braces, IsVar, bool, IsTask, task, IsProcess, process, AreGoals, no_goal, goal}
 use Rattle.tm_small.specs.Refusal.{BeginsNone}
-use Rattle.tm_small.proofs.FormsAgree.{mark_kind, same_kind, mark_rest, variable_kind}
-use Rattle.tm_small.proofs.Refusals.{other_mark}
+use Rattle.tm_small.proofs.FormsAgree.{mark_kind, same_kind, mark_rest}
 
 pub no_assign : {text : List ℕ} {known : List (List ℕ)} {in_process : Bool} {a : List Token} →
     ((ns : List Ident) (b : List Token) → IsVariable text known ns a b → (p : Place) (c : List Token) →
@@ -33,26 +32,6 @@ pub no_magic : {text : List ℕ} {known : List (List ℕ)} {a : List Token} →
     BeginsNone (IsMark (token.Sign sign.Semicolon)) b) →
     (at : Place) (c : List Token) → ¬ IsStmt text known true (magic at) a c
 no_magic parts at c (stmt_magic m n) = parts _ _ m _ _ n
-
--- where a magic block begins, there is no other statement
-pub only_magic : {text : List ℕ} {known : List (List ℕ)} {in_process : Bool} {a : List Token} →
-    ¬ BeginsNone (IsMark (token.Sign sign.Ellipsis)) a →
-    ((at : Place) (e : List Token) → ¬ IsStmt text known true (magic at) a e) →
-    BeginsNone (IsStmt text known in_process) a
-only_magic begins refused x e (stmt_assign h m w n) =
-    begins (λ q d o. let k = same_kind (variable_kind h) (mark_kind o) refl in cc)
-only_magic begins refused x e (stmt_assert m o t q r) = begins (other_mark m (λ k. cc))
-only_magic begins refused x e (stmt_magic m n) = refused _ _ (stmt_magic m n)
-
--- where an assertion begins, there is no other statement
-pub only_assertion : {text : List ℕ} {known : List (List ℕ)} {in_process : Bool} {a : List Token} →
-    ¬ BeginsNone (IsMark (token.Word word.Assert)) a →
-    ((at : Place) (test : ExprTree) (e : List Token) → ¬ IsStmt text known in_process (assert at test) a e) →
-    BeginsNone (IsStmt text known in_process) a
-only_assertion begins refused x e (stmt_assign h m w n) =
-    begins (λ q d o. let k = same_kind (variable_kind h) (mark_kind o) refl in cc)
-only_assertion begins refused x e (stmt_assert m o t q r) = refused _ _ _ (stmt_assert m o t q r)
-only_assertion begins refused x e (stmt_magic m n) = begins (other_mark m (λ k. cc))
 
 -- where neither begins, there is no statement but an assignment
 pub only_assignment : {text : List ℕ} {known : List (List ℕ)} {in_process : Bool} {a : List Token} →

@@ -1,14 +1,16 @@
 //! A temporary reader of small specifications, until the whole language is read.
 #![tactic(auto)]
 
-ghost use Rattle.std.specs.Prelude.{◌≡◌, ◌<◌, ◌≤◌, ℕ, List, length, map, count_by, All, AllPairs, Err, IsNone, IfOk, IfSome};
+ghost use Rattle.std.specs.Prelude.{◌≡◌, ◌<◌, ◌≤◌, ℕ, List, length, map, count_by, slice_range, ◌++◌, ◌∷◌, AllPairs, Err, IsNone, IfOk, IfSome};
 ghost use Rattle.tm_syntax.specs.declared.token.Token.{Token};
+ghost use Rattle.tm_syntax.specs.declared.token.TokenKind.TheVariants as token;
 ghost use Rattle.tm_syntax.specs.Tokens.{AreTokens};
 ghost use Rattle.tm_syntax.specs.View.{template_tree};
 ghost use Rattle.tm_syntax.specs.Design.{DesignTree};
 ghost use Rattle.tm_syntax.specs.DesignView.{design_tree};
 ghost use Rattle.tm_syntax.specs.Small.{IsSmall};
 ghost use Rattle.tm_small.specs.declared.stop.Stop.TheVariants.{Form};
+ghost use Rattle.tm_small.specs.Grammar.{IsName};
 ghost use Rattle.tm_small.specs.SmallText.{IsSmallText, is_star, declared_names};
 
 mod main_design;
@@ -108,10 +110,11 @@ pub fn read_small(alloc: Global, text: &[u8]) -> Result<Option<Design>, AllocErr
     }
 }
 
-/// Each token of a text has a span in it, so that the small grammar asks no more of a name than its bytes.
-pub fn tokens_stand_in_their_text()
-    ensures { (text : List ℕ) (tokens : List Token) → AreTokens text tokens
-        → All (λ (t : Token). (t.start ≤ t.end) × (t.end ≤ length text)) tokens }
+/// Each token of a text that is a name of at most 63 bytes is a `NAME` of the small grammar, wherever it stands.
+pub fn name_tokens_are_names()
+    ensures { (text : List ℕ) (front rest : List Token) (t : Token) → AreTokens text (front ++ t ∷ rest)
+        → t.kind ≡ token.Name → length (slice_range text t.start t.end) ≤ 63
+        → IsName text (record { text = slice_range text t.start t.end; place = t.place }) (t ∷ rest) rest }
 {}
 
 /// A text spells one design, so what `read_small` answers is all that the definitions allow.
