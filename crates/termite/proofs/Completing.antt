@@ -1,5 +1,6 @@
 -- A command has one end.
 use Rattle.std.proofs.Common.{◌≡◌, ℕ, ◌<◌, ◌≤◌, Option, None, Some, Ok, Err, List, length, refl, sym, ap, subst, ◌∙◌, arith}
+use Rattle.tm_syntax.specs.Limits.{file_limit}
 use Rattle.tm_base.specs.Files.{IsLonger}
 use Rattle.tm_syntax.specs.Design.{DesignTree}
 use Rattle.tm_small.specs.SmallText.{IsSmallText}
@@ -19,10 +20,10 @@ use Rattle.termite.specs.Answer.{RunEnds, refused, ended, CommandEnds, Explains,
 use Rattle.termite.proofs.OneEnd.{one_end}
 
 -- a text within the limit is not longer
-not_longer : (told : Option (List ℕ)) (text : List ℕ) → told ≡ Some text → length text ≤ 16777216 →
-    IsLonger told 16777216 → ⊥
+not_longer : (told : Option (List ℕ)) (text : List ℕ) → told ≡ Some text → length text ≤ file_limit →
+    IsLonger told file_limit → ⊥
 not_longer told text is short long =
-    let longer : 16777216 < length text = subst (λ (t : Option (List ℕ)). IsLonger t 16777216) is long in omega arith
+    let longer : file_limit < length text = subst (λ (t : Option (List ℕ)). IsLonger t file_limit) is long in omega arith
 
 module _ (contents : List ℕ → Option (List ℕ)) where
   -- a file tells one text
@@ -59,7 +60,7 @@ module _ (contents : List ℕ → Option (List ℕ)) where
       sym p.reads ∙ ap (reading_of d.processes) (sym (one_text choices p.text q.text p.told q.told)) ∙ q.reads in cc
 
   driver_short : (driver : List ℕ) (d : DesignTree) (bs : List BlockTree) → TellsBlocks contents driver d bs →
-      IsLonger (contents driver) 16777216 → ⊥
+      IsLonger (contents driver) file_limit → ⊥
   driver_short driver d bs p long = not_longer (contents driver) p.text p.told p.spelled.short long
 
   no_design : (spec : List ℕ) (d : DesignTree) → TellsNoDesign contents spec → TellsDesign contents spec d → ⊥

@@ -1,6 +1,7 @@
 -- Why files are not loaded.
 use Rattle.std.proofs.Common.{◌≡◌, ℕ, ◌≤◌, Bool, Option, None, Some, List, [], ◌∷◌, refl, sym, subst, arith}
 use Rattle.std.specs.Prelude.{IsTrue, Contains, length}
+use Rattle.tm_syntax.specs.Limits.{file_limit}
 use Rattle.tm_base.specs.Count.{Rose}
 use Rattle.tm_base.specs.Files.{IsLonger}
 use Rattle.tm_syntax.specs.Design.{DesignTree}
@@ -44,7 +45,7 @@ spells_no_design contents spec text read is same none =
 
 -- a file within the limit whose text spells no blocks
 pub spells_no_blocks : (contents : List ℕ → Option (List ℕ)) (driver : List ℕ) (d : DesignTree) (text read : List ℕ) →
-    contents driver ≡ Some text → length text ≤ 16777216 → read ≡ text →
+    contents driver ≡ Some text → length text ≤ file_limit → read ≡ text →
     ((bs : List BlockTree) → ¬ (IsSmallDriverText d read bs)) → TellsNoBlocks contents driver d
 spells_no_blocks contents driver d text read is short same none =
     record {
@@ -89,7 +90,7 @@ module _ (tells : Bool) (last : Option ℕ) (contents : List ℕ → Option (Lis
   driver_refused old mid new before d (BadText name TooLong) design same later r = λ told.
       subst (λ x. Refused contents spec driver choices (BadText x TooLong)) (sym r.0)
       (long_driver (design told)
-      (subst (λ (f : List ℕ → Option (List ℕ)). IsLonger (f driver) 16777216) same (r.1 told)))
+      (subst (λ (f : List ℕ → Option (List ℕ)). IsLonger (f driver) file_limit) same (r.1 told)))
   driver_refused old mid new before d (BadText name (Choices k)) design same later r = λ told. absurd (r.1 told)
   driver_refused old mid new before d (Played k) design same later r = elim r [ ]
   driver_refused old mid new before d Usage design same later r = elim r [ ]
@@ -111,7 +112,7 @@ module _ (tells : Bool) (last : Option ℕ) (contents : List ℕ → Option (Lis
   choices_refused old mid new before d bs (BadText name TooLong) design blocks same later r = λ told.
       subst (λ x. Refused contents spec driver choices (BadText x TooLong)) (sym r.0)
       (long_choices (design told) (blocks told)
-      (subst (λ (f : List ℕ → Option (List ℕ)). IsLonger (f choices) 16777216) same (r.1 told)))
+      (subst (λ (f : List ℕ → Option (List ℕ)). IsLonger (f choices) file_limit) same (r.1 told)))
   choices_refused old mid new before d bs (BadText name (Choices k)) design blocks same later r = λ told.
       subst (λ x. Refused contents spec driver choices (BadText x (Choices k))) (sym r.0)
       (bad_line (design told) (blocks told) (subst (λ f. TellsBadLine f choices d k) same (r.1 told)))

@@ -4,7 +4,7 @@ use Rattle.std.proofs.Math.Logic.{∥∥₁_elim}
 use Rattle.std.specs.Coded.{le_prop}
 use Rattle.tm_syntax.specs.Tree.{NamedTree, ProcessTree, TemplateTree, SpecTree}
 use Rattle.tm_syntax.specs.Design.{DesignTree, InstanceNode, IsDesign, all_items, with_goal}
-use Rattle.tm_syntax.specs.Small.{IsSmall}
+use Rattle.tm_syntax.specs.Design.Small.{IsSmall}
 use Rattle.termite.specs.Advance.{IsPlayable}
 
 abbrev main_node : InstanceNode

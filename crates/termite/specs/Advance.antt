@@ -1,7 +1,7 @@
 -- What one step of the choices leads to.
 use Rattle.std.specs.Prelude.{◌≡◌, ℕ, ◌<◌, ◌^◌, false, Option, List, MatchOption, length}
 use Rattle.tm_syntax.specs.Design.{DesignTree}
-use Rattle.tm_syntax.specs.Small.{IsSmall}
+use Rattle.tm_syntax.specs.Design.Small.{IsSmall}
 use Rattle.tm_sem.specs.State.{StateData}
 use Rattle.tm_sem.specs.declared.state.Move.{Move}
 use Rattle.tm_sem.specs.declared.state.Outcome.TheVariants as outcomes

@@ -37,12 +37,12 @@ numbers_of [] = Some []
 numbers_of (field ∷ fields) = option_and_then (λ n. option_map (λ ns. n ∷ ns) (numbers_of fields)) (number_of field)
 
 -- a space or a tab
-abbrev pub is_blank : ℕ → Bool
-is_blank b = b == 32 || b == 9
+abbrev pub separates_fields : ℕ → Bool
+separates_fields b = b == 32 || b == 9
 
 -- the fields of a line stand apart by blanks
 abbrev pub fields_of : List ℕ → List (List ℕ)
-fields_of line = filter (λ field. not (length field == 0)) (slice_split is_blank line)
+fields_of line = filter (λ field. not (length field == 0)) (slice_split separates_fields line)
 
 -- the start line: `start` and choices
 abbrev pub start_of : List (List ℕ) → Option (List ℕ)

@@ -1,5 +1,6 @@
 -- What the files of `run` tell.
 use Rattle.std.specs.Prelude.{◌≡◌, ℕ, ◌≤◌, Bool, false, Option, Some, Ok, Err, List, length, IsTrue, Contains, ◌∷◌, []}
+use Rattle.tm_syntax.specs.Limits.{file_limit}
 use Rattle.tm_base.specs.Count.{Rose, RoseBy}
 use Rattle.tm_base.specs.Files.{IsLonger}
 use Rattle.tm_syntax.specs.Design.{DesignTree}
@@ -40,7 +41,7 @@ pub record TellsNoDesign (contents : List ℕ → Option (List ℕ)) (spec : Lis
 pub record TellsNoBlocks (contents : List ℕ → Option (List ℕ)) (driver : List ℕ) (d : DesignTree) : Type 0 where
   pub text : List ℕ
   pub told : Tells contents driver text
-  pub short : length text ≤ 16777216
+  pub short : length text ≤ file_limit
   pub none : (bs : List BlockTree) → ¬ (IsSmallDriverText d text bs)
 
 -- CHOICES tells this start line and these steps over a design
@@ -48,7 +49,7 @@ pub record TellsScript
     (contents : List ℕ → Option (List ℕ)) (choices : List ℕ) (d : DesignTree) (c : ScriptData) : Type 0 where
   pub text : List ℕ
   pub told : Tells contents choices text
-  pub short : length text ≤ 16777216
+  pub short : length text ≤ file_limit
   pub reads : reading_of d.processes text ≡ Ok c
 
 -- CHOICES has this first bad line over a design
@@ -56,7 +57,7 @@ pub record TellsBadLine
     (contents : List ℕ → Option (List ℕ)) (choices : List ℕ) (d : DesignTree) (n : ℕ) : Type 0 where
   pub text : List ℕ
   pub told : Tells contents choices text
-  pub short : length text ≤ 16777216
+  pub short : length text ≤ file_limit
   pub reads : reading_of d.processes text ≡ Err n
 
 -- reads leave all contents and what was counted of writes, and no count falls
@@ -76,7 +77,7 @@ IsLoadRefusal tells last old new contents name IsUnread IsBadLine Memory = Unit 
 IsLoadRefusal tells last old new contents name IsUnread IsBadLine (ReadFault n) = (n ≡ name) × Rose last old new
 IsLoadRefusal tells last old new contents name IsUnread IsBadLine (Unbuilt n) = (n ≡ name) × (IsTrue tells → IsUnread)
 IsLoadRefusal tells last old new contents name IsUnread IsBadLine (BadText n TooLong) =
-    (n ≡ name) × (IsTrue tells → IsLonger (contents name) 16777216)
+    (n ≡ name) × (IsTrue tells → IsLonger (contents name) file_limit)
 IsLoadRefusal tells last old new contents name IsUnread IsBadLine (BadText n (Choices k)) =
     (n ≡ name) × (IsTrue tells → IsBadLine k)
 IsLoadRefusal tells last old new contents name IsUnread IsBadLine _ = ⊥
@@ -100,7 +101,7 @@ IsNoBadText _ = Unit {0}
 
 -- where files do not tell, one that is too long shows by the bytes that were taken
 abbrev pub TookTooMany : Bool → Option ℕ → ℕ → ℕ → Status → Type 0
-TookTooMany tells last old new (BadText n TooLong) = tells ≡ false → RoseBy last 16777217 old new
+TookTooMany tells last old new (BadText n TooLong) = tells ≡ false → RoseBy last (1 + file_limit) old new
 TookTooMany tells last old new _ = Unit {0}
 
 -- why the files of `run` are refused, the first one that is
@@ -109,10 +110,10 @@ pub data Refused
   unbuilt_spec : TellsNoDesign contents spec → Refused contents spec driver choices (Unbuilt spec)
   unbuilt_driver : {d : DesignTree} → TellsDesign contents spec d → TellsNoBlocks contents driver d →
       Refused contents spec driver choices (Unbuilt driver)
-  long_driver : {d : DesignTree} → TellsDesign contents spec d → IsLonger (contents driver) 16777216 →
+  long_driver : {d : DesignTree} → TellsDesign contents spec d → IsLonger (contents driver) file_limit →
       Refused contents spec driver choices (BadText driver TooLong)
   long_choices : {d : DesignTree} {bs : List BlockTree} →
-      TellsDesign contents spec d → TellsBlocks contents driver d bs → IsLonger (contents choices) 16777216 →
+      TellsDesign contents spec d → TellsBlocks contents driver d bs → IsLonger (contents choices) file_limit →
       Refused contents spec driver choices (BadText choices TooLong)
   bad_line : {d : DesignTree} {bs : List BlockTree} {n : ℕ} →
       TellsDesign contents spec d → TellsBlocks contents driver d bs → TellsBadLine contents choices d n →

@@ -1,7 +1,7 @@
 //! The lines of a text of choices, and their fields.
 ghost use Rattle.std.specs.Prelude.{◌≡◌, ◌==◌, ℕ, ◌+◌, ◌<◌, ◌≤◌, ◌^◌, [], ◌∷◌, length, map, position, unwrap_or, IfOk, IfNone, IfSome};
 ghost use Rattle.std.specs.Str.Lines.{lines, strip_carriage_return};
-ghost use Rattle.termite.specs.Choices.{fields_of, is_blank as is_blank_byte, is_kept as is_kept_line, kept_lines};
+ghost use Rattle.termite.specs.Choices.{fields_of, separates_fields as is_blank_byte, is_kept as is_kept_line, kept_lines};
 
 use std::alloc::{AllocError, Global};
 
@@ -86,7 +86,7 @@ pub fn next_line(text: &[u8], number: u64) -> Option<Line<'_>>
     None
 }
 
-fn is_blank(byte: u8) -> bool
+fn separates_fields(byte: u8) -> bool
     ensures { result ≡ is_blank_byte byte }
 {
     byte == b' ' || byte == b'\t'
@@ -96,7 +96,7 @@ fn is_blank(byte: u8) -> bool
 pub fn fields(alloc: Global, line: &[u8]) -> Result<Vec<&[u8]>, AllocError>
     ensures { IfOk result (λ v. map (λ f. f.now) v.items ≡ fields_of line.now) }
 {
-    line.split(|b| is_blank(*b))
+    line.split(|b| separates_fields(*b))
         .filter(|field| !field.is_empty())
         .collect(alloc)
 }

@@ -2,7 +2,7 @@
 ghost use Rattle.std.specs.Prelude.{◌≡◌, ◌+◌, ◌≤◌, length, false, Some, IsTrue, IsNone, IfOk, IfErr, IfSome};
 ghost use Rattle.tm_base.specs.Count.{RoseBy};
 ghost use Rattle.tm_base.specs.Files.{IsLonger};
-ghost use Rattle.tm_syntax.specs.DesignView.{design_tree};
+ghost use Rattle.tm_syntax.specs.Design.View.{design_tree};
 ghost use Rattle.tm_cir.specs.View.{trees_of};
 ghost use Rattle.tm_cir.specs.Fit.{FitBlocks};
 ghost use Rattle.termite.specs.Advance.{IsPlayable};

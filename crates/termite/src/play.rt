@@ -1,7 +1,7 @@
 //! Playing the choices, and putting the play's lines.
 ghost use Rattle.std.specs.Prelude.{◌≡◌, ◌≤◌, ◌++◌, ℕ, List, IsTrue, OnOk, OnErr, IfOk, IfErr, option_copied};
 ghost use Rattle.tm_base.specs.Sink.{AppendsPrefix};
-ghost use Rattle.tm_syntax.specs.DesignView.{design_tree};
+ghost use Rattle.tm_syntax.specs.Design.View.{design_tree};
 ghost use Rattle.tm_cir.specs.View.{trees_of};
 ghost use Rattle.tm_cir.specs.Fit.{FitBlocks};
 ghost use Rattle.termite.specs.Report.{state_line as line_of_state};

@@ -2,7 +2,7 @@
 ghost use Rattle.std.specs.Prelude.{◌≡◌, ◌++◌, codes, option_copied, OnOk, IfOk};
 ghost use Rattle.std.specs.Fmt.{decimal};
 ghost use Rattle.std.specs.List.{flat_map};
-ghost use Rattle.tm_syntax.specs.DesignView.{design_tree};
+ghost use Rattle.tm_syntax.specs.Design.View.{design_tree};
 ghost use Rattle.termite.specs.Report.{path_at, args_text, move_text, reached_text, state_line as line_of_state};
 
 use crate::line_text::{push, push_number};

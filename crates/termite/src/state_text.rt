@@ -1,7 +1,7 @@
 //! The text of a state.
 ghost use Rattle.std.specs.Prelude.{◌≡◌, ℕ, ◌++◌, OnOk};
 ghost use Rattle.std.specs.List.{flat_map, zip};
-ghost use Rattle.tm_syntax.specs.DesignView.{design_tree};
+ghost use Rattle.tm_syntax.specs.Design.View.{design_tree};
 ghost use Rattle.termite.specs.Report.{var_text, place_text, state_text};
 
 use crate::line_text::{push, push_number};

@@ -1,7 +1,7 @@
 //! One step of a play.
 ghost use Rattle.std.specs.Prelude.{◌≡◌, ◌<◌, length, IfOk};
-ghost use Rattle.tm_syntax.specs.DesignView.{design_tree};
-ghost use Rattle.tm_syntax.specs.Small.{IsSmall};
+ghost use Rattle.tm_syntax.specs.Design.View.{design_tree};
+ghost use Rattle.tm_syntax.specs.Design.Small.{IsSmall};
 ghost use Rattle.tm_sem.specs.Step.{IsState};
 ghost use Rattle.tm_cir.specs.View.{trees_of};
 ghost use Rattle.tm_cir.specs.Fit.{FitBlocks};

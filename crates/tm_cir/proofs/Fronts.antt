@@ -13,7 +13,7 @@ use Rattle.tm_syntax.specs.Design.{DesignTree}
 use Rattle.tm_cir.specs.declared.small_token.Token.{Token}
 use Rattle.tm_cir.specs.declared.small_token.Token.TheVariants.{Label, Constant}
 use Rattle.tm_cir.specs.SmallText.{name_byte, item_name, token_text, is_sign, token_number, BeginsNoWord, BeginsWith}
-use Rattle.tm_cir.specs.Front.{is_digit, begins_digit, number_after, number_in_front, IsBehind, IsSpelled, IsOnlyToken}
+use Rattle.tm_cir.specs.Inner.Front.{is_digit, begins_digit, number_after, number_in_front, IsBehind, IsSpelled, IsOnlyToken}
 use Rattle.tm_cir.proofs.TokenTexts.{same_inside, sign_or_word, token_in_front}
 use Rattle.tm_cir.proofs.TokenLists.{front_is}
 

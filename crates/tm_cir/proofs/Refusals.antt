@@ -14,7 +14,7 @@ use Rattle.tm_cir.specs.Tree.{BlockTree}
 use Rattle.tm_cir.specs.View.{block_tree}
 use Rattle.tm_cir.specs.SmallText.{token_number, BeginsWith, AreTokens, no_more, blank, token, IsBool, IsBlock, tests, calls, leaves, idles, ReadsBlock, AreBlocks, closed, block, head_tokens, SkipsBlanks, EndsLine, space, tab, carriage_return, line_feed, HasInclude, IsFunction, IsSmallDriverText}
 use Rattle.tm_cir.specs.Fit.{FitBlocks}
-use Rattle.tm_cir.specs.Front.{IsBehind, BeginsNoBlank, is_space, BeginsNoSpace}
+use Rattle.tm_cir.specs.Inner.Front.{IsBehind, BeginsNoBlank, is_space, BeginsNoSpace}
 use Rattle.tm_cir.proofs.TokenLists.{same_tokens, same_rest, blank_read, none_begins}
 use Rattle.tm_cir.proofs.DriverTexts.{same_body, same_function, same_behind, past_blanks, blanks_read, not_closing}
 

@@ -12,7 +12,7 @@ use Rattle.tm_syntax.specs.Tokens.{continues_name}
 use Rattle.tm_syntax.specs.Design.{DesignTree}
 use Rattle.tm_cir.specs.declared.small_token.Token.{Token}
 use Rattle.tm_cir.specs.declared.small_token.Token.TheVariants.{Void, DriverTurn, If, Else, Goto, Return, TermiteLeave, Label, Variable, Task, Constant, OpenParenthesis, CloseParenthesis, OpenBrace, CloseBrace, Colon, Semicolon}
-use Rattle.tm_cir.specs.Front.{is_digit, begins_digit, number_after, number_in_front}
+use Rattle.tm_cir.specs.Inner.Front.{is_digit, begins_digit, number_after, number_in_front}
 use Rattle.tm_cir.specs.SmallText.{name_byte, item_name, token_text, is_sign, token_number, BeginsNoWord}
 
 -- the token that begins with this byte and no digit, by whether a digit follows and by the number that does

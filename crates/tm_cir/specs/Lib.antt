@@ -1,6 +1,6 @@
 pub mod Answer
 pub mod Fit
-pub mod Front
+pub mod Inner
 pub mod Meaning
 pub mod SmallText
 pub mod Tree

@@ -1,5 +1,7 @@
 //! The blocks of a driver, and the expressions in them: the subset of C11 that a driver's text is written in.
 
+use tm_bits::ShiftOperator;
+
 /// The greatest number of arguments of a call. A parameter has at least one bit, and a task's parameters at most 64.
 pub const MOST_ARGUMENTS: usize = 64;
 
@@ -11,13 +13,6 @@ pub enum NumOperator {
     And,
     Or,
     Xor,
-}
-
-/// The shifts, by a constant number of bits.
-#[derive(Clone, Copy, Debug, PartialEq, Eq)]
-pub enum ShiftOperator {
-    Left,
-    Right,
 }
 
 /// The comparisons of two numbers.
@@ -52,6 +47,7 @@ pub enum Num64 {
     /// `~`: each bit turned over.
     Not(Box<Num64>),
     Binary(NumOperator, Box<Num64>, Box<Num64>),
+    /// A shift by a constant number of bits.
     Shift(ShiftOperator, Box<Num64>, u8),
     /// `? :`
     Cond(Box<Truth>, Box<Num64>, Box<Num64>),

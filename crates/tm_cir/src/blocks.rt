@@ -1,6 +1,6 @@
 //! Blocks that fit a design.
 ghost use Rattle.std.specs.Prelude.{◌≡◌, ◌↔◌, IsSome, IfSome};
-ghost use Rattle.tm_syntax.specs.DesignView.{design_tree};
+ghost use Rattle.tm_syntax.specs.Design.View.{design_tree};
 ghost use Rattle.tm_cir.specs.View.{block_trees, trees_of};
 ghost use Rattle.tm_cir.specs.Fit.{FitBlocks};
 

@@ -1,10 +1,12 @@
 //! The value of an expression.
-ghost use Rattle.std.specs.Prelude.{◌≡◌, ◌<◌, length};
+ghost use Rattle.std.specs.Prelude.{◌≡◌, length};
+ghost use Rattle.tm_bits.specs.Arithmetic.{is_nonzero};
 ghost use Rattle.tm_cir.specs.View.{num_tree, truth_tree};
-ghost use Rattle.tm_cir.specs.Meaning.{num_value, result_of, shifted, compares, holds};
+ghost use Rattle.tm_cir.specs.Meaning.{num_value, binary_value, comparison_value, holds};
 ghost use Rattle.tm_cir.specs.Fit.{FitsNum, FitsTruth};
 
-use crate::block::{Comparison, Junction, Num64, NumOperator, ShiftOperator, Truth};
+use crate::block::{Comparison, Junction, Num64, NumOperator, Truth};
+use tm_bits::{complement, difference, shift, sum};
 use tm_sem::state::State;
 
 /// The value of a number at a state with this pending goal.
@@ -19,9 +21,9 @@ pub fn value(num: &Num64, state: &State, goal: u32) -> u64
         Num64::Location(process) => u64::from(state.places[*process as usize]),
         Num64::Goal => u64::from(goal),
         Num64::Last => u64::from(state.last),
-        Num64::Not(a) => !value(a, state, goal),
-        Num64::Binary(op, a, b) => operated(*op, value(a, state, goal), value(b, state, goal)),
-        Num64::Shift(op, a, by) => shifted(*op, value(a, state, goal), *by),
+        Num64::Not(a) => complement(64, value(a, state, goal)),
+        Num64::Binary(op, a, b) => binary(*op, value(a, state, goal), value(b, state, goal)),
+        Num64::Shift(op, a, by) => shift(*op, 64, value(a, state, goal), *by),
         Num64::Cond(truth, a, b) => {
             if is_so(truth, state, goal) {
                 value(a, state, goal)
@@ -41,36 +43,26 @@ pub fn is_so(truth: &Truth, state: &State, goal: u32) -> bool
     match truth {
         Truth::Num(a) => value(a, state, goal) != 0,
         Truth::Not(a) => !is_so(a, state, goal),
-        Truth::Compare(op, a, b) => compared(*op, value(a, state, goal), value(b, state, goal)),
+        Truth::Compare(op, a, b) => compares(*op, value(a, state, goal), value(b, state, goal)),
         Truth::Join(Junction::And, a, b) => is_so(a, state, goal) && is_so(b, state, goal),
         Truth::Join(Junction::Or, a, b) => is_so(a, state, goal) || is_so(b, state, goal),
     }
 }
 
-fn operated(op: NumOperator, a: u64, b: u64) -> u64
-    ensures { result ≡ result_of op a b }
+fn binary(op: NumOperator, a: u64, b: u64) -> u64
+    ensures { result ≡ binary_value op a b }
 {
     match op {
-        NumOperator::Add => a.wrapping_add(b),
-        NumOperator::Subtract => a.wrapping_sub(b),
+        NumOperator::Add => sum(64, a, b),
+        NumOperator::Subtract => difference(64, a, b),
         NumOperator::And => a & b,
         NumOperator::Or => a | b,
         NumOperator::Xor => a ^ b,
     }
 }
 
-fn shifted(op: ShiftOperator, a: u64, by: u8) -> u64
-    requires { by < 64 }
-    ensures { result ≡ shifted op a by }
-{
-    match op {
-        ShiftOperator::Left => a << by,
-        ShiftOperator::Right => a >> by,
-    }
-}
-
-fn compared(op: Comparison, a: u64, b: u64) -> bool
-    ensures { result ≡ compares op a b }
+fn compares(op: Comparison, a: u64, b: u64) -> bool
+    ensures { result ≡ is_nonzero (comparison_value op a b) }
 {
     match op {
         Comparison::Equal => a == b,

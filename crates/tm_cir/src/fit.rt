@@ -1,6 +1,6 @@
 //! Whether blocks fit a design.
 ghost use Rattle.std.specs.Prelude.{◌≡◌, ◌↔◌, map, All, IsTrue};
-ghost use Rattle.tm_syntax.specs.DesignView.{design_tree};
+ghost use Rattle.tm_syntax.specs.Design.View.{design_tree};
 ghost use Rattle.tm_cir.specs.View.{num_tree, truth_tree, block_tree, block_trees};
 ghost use Rattle.tm_cir.specs.Fit.{FitsNum, FitsTruth, FitsBlock, FitBlocks, parameter_count, IsLater};
 

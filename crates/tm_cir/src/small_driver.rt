@@ -2,13 +2,13 @@
 ghost use Rattle.std.specs.Prelude.{◌≡◌, ◌≢◌, ℕ, List, ◌∷◌, [], Some, get_or, IfOk, IsNone, IsTrue, IfSome, MatchOption, ◌↔◌};
 ghost use Rattle.tm_syntax.specs.declared.design.Ty.TheVariants as types;
 ghost use Rattle.tm_syntax.specs.Design.{DesignTree};
-ghost use Rattle.tm_syntax.specs.DesignView.{design_tree};
+ghost use Rattle.tm_syntax.specs.Design.View.{design_tree};
 ghost use Rattle.tm_cir.specs.declared.small_token.Token.{Token};
 ghost use Rattle.tm_cir.specs.declared.small_token.Token.TheVariants.{Void, If, Return, Task, TermiteLeave, CloseBrace};
 ghost use Rattle.tm_cir.specs.Tree.{BlockTree};
 ghost use Rattle.tm_cir.specs.View.{block_tree, block_trees, trees_of};
 ghost use Rattle.tm_cir.specs.SmallText.{token_number, SkipsBlanks, EndsLine, HasInclude, IsBool, ReadsBlock, IsFunction, IsSmallDriverText};
-ghost use Rattle.tm_cir.specs.Front.{IsBehind, BeginsNoBlank, is_space, BeginsNoSpace};
+ghost use Rattle.tm_cir.specs.Inner.Front.{IsBehind, BeginsNoBlank, is_space, BeginsNoSpace};
 
 use crate::block::{Block, Num64, Truth};
 use crate::blocks::Blocks;

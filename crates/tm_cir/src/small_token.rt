@@ -3,10 +3,10 @@ ghost use Rattle.std.specs.Prelude.{◌≡◌, ◌≢◌, ◌^◌, ◌<◌, ◌�
 ghost use Rattle.std.specs.Fmt.{decimal};
 ghost use Rattle.tm_syntax.specs.Tokens.{is_blank, continues_name};
 ghost use Rattle.tm_syntax.specs.Design.{DesignTree};
-ghost use Rattle.tm_syntax.specs.DesignView.{design_tree};
+ghost use Rattle.tm_syntax.specs.Design.View.{design_tree};
 ghost use Rattle.tm_cir.specs.declared.small_token.Token.TheVariants.{Variable, Task};
 ghost use Rattle.tm_cir.specs.SmallText.{name_byte, item_name, token_text, is_sign, BeginsNoWord, token_number, AreTokens, BeginsWith};
-ghost use Rattle.tm_cir.specs.Front.{begins_digit, IsBehind, number_in_front, IsSpelled, IsOnlyToken};
+ghost use Rattle.tm_cir.specs.Inner.Front.{begins_digit, IsBehind, number_in_front, IsSpelled, IsOnlyToken};
 
 use std::alloc::{AllocError, Global};
 use tm_syntax::design::Design;

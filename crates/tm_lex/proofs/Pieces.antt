@@ -6,31 +6,31 @@ use Rattle.std.proofs.lemmas.List.Sums.{count_by-le-length, suffix_len-le-length
 use Rattle.tm_base.specs.declared.place.Place.{Place}
 use Rattle.tm_syntax.specs.declared.token.Token.{Token}
 use Rattle.tm_syntax.specs.declared.token.TokenKind.{TokenKind}
-use Rattle.tm_syntax.specs.Tokens.{IsPiece, IsLongest, Piece, joined, ArePieces, Splits, place_after, token_behind, tokens_behind, AreTokens, BeginsNothing, HasByteFault, is_line_feed}
+use Rattle.tm_syntax.specs.Tokens.{IsPiece, IsLongest, Piece, bytes_of, ArePieces, Splits, place_after, token_behind, tokens_behind, AreTokens, BeginsNothing, HasByteFault, is_line_feed}
 use Rattle.tm_lex.specs.Front.{IsFirstPiece}
 
 -- one more piece at the end
-joined-push : (ps : List Piece) (p : Piece) (rest : List ℕ) →
-    joined (ps ++ p ∷ []) ++ rest ≡ joined ps ++ (p.bytes ++ rest)
-joined-push [] p rest = ap (λ l. l ++ rest) (append-nil p.bytes)
-joined-push (q ∷ ps) p rest =
-    append_assoc q.bytes (joined (ps ++ p ∷ [])) rest ∙ ap (λ l. q.bytes ++ l) (joined-push ps p rest)
-    ∙ sym (append_assoc q.bytes (joined ps) (p.bytes ++ rest))
+bytes_of-push : (ps : List Piece) (p : Piece) (rest : List ℕ) →
+    bytes_of (ps ++ p ∷ []) ++ rest ≡ bytes_of ps ++ (p.bytes ++ rest)
+bytes_of-push [] p rest = ap (λ l. l ++ rest) (append-nil p.bytes)
+bytes_of-push (q ∷ ps) p rest =
+    append_assoc q.bytes (bytes_of (ps ++ p ∷ [])) rest ∙ ap (λ l. q.bytes ++ l) (bytes_of-push ps p rest)
+    ∙ sym (append_assoc q.bytes (bytes_of ps) (p.bytes ++ rest))
 
 ArePieces-push : (ps : List Piece) (p : Piece) (rest : List ℕ) → ArePieces ps (p.bytes ++ rest) →
     IsPiece p.kind p.bytes → IsLongest p.bytes rest → ArePieces (ps ++ p ∷ []) rest
 ArePieces-push [] p rest each is longest = (is, longest, tt)
 ArePieces-push (q ∷ ps) p rest each is longest =
-    (each.0, subst (IsLongest q.bytes) (sym (joined-push ps p rest)) each.1, ArePieces-push ps p rest each.2 is longest)
+    (each.0, subst (IsLongest q.bytes) (sym (bytes_of-push ps p rest)) each.1, ArePieces-push ps p rest each.2 is longest)
 
 tokens_behind-push : (front : List ℕ) (ps : List Piece) (p : Piece) →
-    tokens_behind front (ps ++ p ∷ []) ≡ tokens_behind front ps ++ option_to_list (token_behind (front ++ joined ps) p)
+    tokens_behind front (ps ++ p ∷ []) ≡ tokens_behind front ps ++ option_to_list (token_behind (front ++ bytes_of ps) p)
 tokens_behind-push front [] p = append-nil _ ∙ ap (λ l. option_to_list (token_behind l p)) (sym (append-nil front))
 tokens_behind-push front (q ∷ ps) p =
     ap (λ l. option_to_list (token_behind front q) ++ l) (tokens_behind-push (front ++ q.bytes) ps p)
     ∙ sym (append_assoc (option_to_list (token_behind front q)) (tokens_behind (front ++ q.bytes) ps) _)
     ∙ ap (λ l. tokens_behind front (q ∷ ps) ++ option_to_list (token_behind l p))
-    (append_assoc front q.bytes (joined ps))
+    (append_assoc front q.bytes (bytes_of ps))
 
 -- no place is further than its bytes
 pub place_bounds : (front : List ℕ) →
@@ -44,7 +44,7 @@ place_bounds front = (
 pub record IsLexed (text : List ℕ) (start : ℕ) (tokens : List Token) (place : Place) : Type 0 where
   pub pieces : List Piece
   pub fits : start ≤ length text
-  pub whole : joined pieces ≡ take start text
+  pub whole : bytes_of pieces ≡ take start text
   pub each : ArePieces pieces (drop start text)
   pub are : tokens ≡ tokens_behind [] pieces
   pub here : place ≡ place_after (take start text)
@@ -77,17 +77,17 @@ module _ {text : List ℕ} {start : ℕ} {tokens : List Token} {place : Place} (
         let front : take start text ++ bytes ≡ take (start + len) text =
         (λ i. sym (take-take start (start + len) text low) i ++ sym (drop-take start len text) i)
         ∙ take-append-drop start (take (start + len) text) in
-        let from : length (joined lexed.pieces) ≡ start =
+        let from : length (bytes_of lexed.pieces) ≡ start =
         ap length lexed.whole ∙ length-take-le start text lexed.fits in
-        let to : length (joined lexed.pieces) + length bytes ≡ start + len = omega arith in
-        let at : place_after (joined lexed.pieces) ≡ place = ap place_after lexed.whole ∙ sym lexed.here in
-        let token : token_behind (joined lexed.pieces) p
+        let to : length (bytes_of lexed.pieces) + length bytes ≡ start + len = omega arith in
+        let at : place_after (bytes_of lexed.pieces) ≡ place = ap place_after lexed.whole ∙ sym lexed.here in
+        let token : token_behind (bytes_of lexed.pieces) p
         ≡ option_map (λ (k : TokenKind). record { kind = k; start = start; end = start + len; place = place }) kind =
         λ i. option_map (λ (k : TokenKind). record { kind = k; start = from i; end = to i; place = at i }) kind in
         record {
           pieces = lexed.pieces ++ p ∷ [];
           fits = omega (arith, first.fits, length-drop start text, lexed.fits);
-          whole = sym (append-nil (joined (lexed.pieces ++ p ∷ []))) ∙ joined-push lexed.pieces p []
+          whole = sym (append-nil (bytes_of (lexed.pieces ++ p ∷ []))) ∙ bytes_of-push lexed.pieces p []
               ∙ (λ i. lexed.whole i ++ append-nil bytes i) ∙ front;
           each = ArePieces-push lexed.pieces p (drop (start + len) text)
               (subst (ArePieces lexed.pieces) left lexed.each)

@@ -20,8 +20,8 @@ use Rattle.tm_syntax.specs.declared.token.Sign.TheVariants.{Ellipsis}
 use Rattle.tm_syntax.specs.declared.token.Token.{Token}
 use Rattle.tm_syntax.specs.declared.token.TokenKind.{TokenKind}
 use Rattle.tm_syntax.specs.declared.token.TokenKind.TheVariants as token
-use Rattle.tm_syntax.specs.Tokens.{Piece, joined, IsLongest, Splits, sign_text, continues_name, place_after, tokens_behind, AreTokens, BeginsNothing, HasByteFault}
-use Rattle.tm_syntax.proofs.Tokens.{joined-cons, piece_nonempty, word_decided, sign_decided}
+use Rattle.tm_syntax.specs.Tokens.{Piece, bytes_of, IsLongest, Splits, sign_text, continues_name, place_after, tokens_behind, AreTokens, BeginsNothing, HasByteFault}
+use Rattle.tm_syntax.proofs.Tokens.{bytes_of-cons, piece_nonempty, word_decided, sign_decided}
 
 -- what is at the front of bytes: a first piece, or nothing
 data Front (bytes : List ℕ) : Type 0 where
@@ -139,7 +139,7 @@ split_more text kind len first more = record {
   rest = more.rest;
   split = record {
     whole = sym (take-append-drop len text) ∙ ap (λ l. take len text ++ l) more.split.whole
-        ∙ sym (joined-cons (record { kind = kind; bytes = take len text }) more.pieces more.rest);
+        ∙ sym (bytes_of-cons (record { kind = kind; bytes = take len text }) more.pieces more.rest);
     each = (first.is, subst (IsLongest (take len text)) more.split.whole first.longest, more.split.each);
   };
   ends = more.ends;
@@ -166,7 +166,7 @@ stuck : (text : List ℕ) (pieces : List Piece) (rest : List ℕ) → Splits tex
     BeginsNothing rest → (place : Place) × HasByteFault text place
 stuck text pieces [] split some none = absurd (omega arith)
 stuck text pieces (b ∷ bs) split some none = (
-  place_after (joined pieces),
+  place_after (bytes_of pieces),
   record { pieces = pieces; byte = b; rest = bs; split = split; begins_nothing = none; here = refl },
 )
 

@@ -20,7 +20,7 @@ mod word;
 use piece::{Piece, first_piece};
 use std::alloc::{AllocError, Global};
 use tm_base::Place;
-use tm_syntax::fault::{Detail, Faulty, FrontError};
+use tm_syntax::fault::{Detail, FaultKind, Faulty, FrontError};
 use tm_syntax::token::Token;
 
 /// The most bytes that a text may have: 1 MiB.
@@ -81,7 +81,7 @@ fn byte_fault(place: Place) -> FrontError
     ensures { result ≡ byte_fault place }
 {
     FrontError::Faulty(Faulty {
-        kind: 1,
+        kind: FaultKind::Byte,
         place,
         detail: Detail::Nothing,
     })

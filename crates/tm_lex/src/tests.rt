@@ -3,7 +3,7 @@
 use crate::{MAX_TEXT_LEN, lex};
 use std::alloc::{AllocError, Global};
 use tm_base::Place;
-use tm_syntax::fault::{Detail, FrontError};
+use tm_syntax::fault::{Detail, FaultKind, FrontError};
 use tm_syntax::token::{Sign, Token, TokenKind, Word};
 
 const SIGNS: [(&[u8], Sign); 31] = [
@@ -201,7 +201,7 @@ fn refuses_bytes(rt: HostRuntime) {
         assert!(rt; text.len() <= MAX_TEXT_LEN);
         match lex(rt.alloc(), text) {
             Err(FrontError::Faulty(fault)) => {
-                assert_eq!(rt; fault.kind, 1);
+                assert_eq!(rt; fault.kind, FaultKind::Byte);
                 assert_eq!(rt; fault.place, Place { line, column });
                 assert!(rt; matches!(fault.detail, Detail::Nothing));
             }

@@ -6,16 +6,18 @@ use Rattle.tm_base.specs.declared.place.Place.{Place}
 use Rattle.tm_syntax.specs.declared.design.Ty.TheVariants.{Bool as bool_type}
 use Rattle.tm_syntax.specs.Tree.{ExprTree, star, result, plain, StmtTree, assign, invoke, branch, repeat, forever, choose, assert, assume, pause, wait, magic}
 use Rattle.tm_syntax.specs.Design.{DesignTree}
-use Rattle.tm_syntax.specs.Small.{IsSmallStmt, IsSmall}
+use Rattle.tm_syntax.specs.Design.Small.{IsSmallStmt, IsSmall}
 use Rattle.tm_sem.specs.declared.state.Move.{Move}
 use Rattle.tm_sem.specs.declared.state.Outcome.TheVariants as outcomes
 use Rattle.tm_sem.specs.State.{StateData}
-use Rattle.tm_sem.specs.Scope.{BodyName, main_scope}
+use Rattle.tm_syntax.specs.Design.Scope.{main_scope}
+use Rattle.tm_syntax.specs.Scopes.Context.{BodyName}
 use Rattle.tm_sem.specs.Value.{plain_memory, value}
-use Rattle.tm_sem.specs.Run.{WorkItem, Ending, stopped, finished, failed, blocked, Run, none_left, ends, goes, perform, goes_on, comes_to, at_end}
+use Rattle.tm_sem.specs.Run.{Ending, stopped, finished, failed, blocked, Run, none_left, ends, goes, goes_on, comes_to, at_end}
+use Rattle.tm_syntax.specs.Design.Work.{WorkItem, perform}
 use Rattle.tm_sem.specs.Step.{Work, memory_of, outcome_of, is_driver_move, IsAllowed}
-use Rattle.tm_sem.specs.Halt.{assigned}
-use Rattle.tm_sem.specs.Flat.{IsJob}
+use Rattle.tm_sem.specs.Inner.Halt.{assigned}
+use Rattle.tm_sem.specs.Inner.Flat.{IsJob}
 use Rattle.tm_sem.proofs.Small.{variable_number, progress_star, progress_plain, progress_assert}
 
 -- choices with which items come to an end that counts

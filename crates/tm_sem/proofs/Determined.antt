@@ -7,7 +7,8 @@ use Rattle.tm_sem.specs.declared.state.Outcome.{Outcome}
 use Rattle.tm_sem.specs.declared.state.Outcome.TheVariants.{NoOutcome}
 use Rattle.tm_sem.specs.State.{StateData}
 use Rattle.tm_sem.specs.Value.{Memory}
-use Rattle.tm_sem.specs.Run.{WorkItem, Ending, goes_on, comes_to, Run, none_left, ends, goes}
+use Rattle.tm_sem.specs.Run.{Ending, goes_on, comes_to, Run, none_left, ends, goes}
+use Rattle.tm_syntax.specs.Design.Work.{WorkItem}
 use Rattle.tm_sem.specs.First.{IsFirst}
 use Rattle.tm_sem.specs.Step.{Work, work, outcome_of, Comes, Step}
 

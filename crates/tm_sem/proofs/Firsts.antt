@@ -10,10 +10,10 @@ use Rattle.tm_syntax.specs.declared.design.Var.{Var}
 use Rattle.tm_syntax.specs.declared.design.Ty.TheVariants.{Bool as bool_type}
 use Rattle.tm_syntax.specs.Tree.{SpecTree}
 use Rattle.tm_syntax.specs.Design.{DesignTree}
-use Rattle.tm_syntax.specs.Small.{IsSmall}
+use Rattle.tm_syntax.specs.Design.Small.{IsSmall}
 use Rattle.tm_sem.specs.State.{StateData}
-use Rattle.tm_sem.specs.Run.{type_size}
-use Rattle.tm_sem.specs.Locations.{end_number}
+use Rattle.tm_syntax.specs.Design.Sizes.{type_size}
+use Rattle.tm_syntax.specs.Design.Locations.{end_number}
 use Rattle.tm_sem.specs.Step.{IsState, IsInitial}
 use Rattle.tm_sem.specs.First.{value_or_choice, first_values, IsFirst}
 use Rattle.tm_sem.proofs.ValidStates.{zip_of_places}

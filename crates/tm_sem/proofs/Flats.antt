@@ -6,18 +6,18 @@ use Rattle.std.specs.Prelude.{slice_get, slice_index, nat_lt, nat_le, ◌&&◌, 
 use Rattle.std.specs.Option.{option_map, option_map_or}
 use Rattle.std.specs.List.{AllByRecursion}
 use Rattle.tm_syntax.specs.Design.{DesignTree}
-use Rattle.tm_syntax.specs.Small.{IsSmallStmt}
+use Rattle.tm_syntax.specs.Design.Small.{IsSmallStmt}
 use Rattle.tm_sem.specs.State.{StateData}
 use Rattle.tm_sem.specs.Step.{process_work}
 use Rattle.tm_sem.specs.declared.state.Move.TheVariants as moves
 use Rattle.tm_syntax.specs.declared.tree.Stmt.{Stmt}
-use Rattle.tm_syntax.specs.View.{stmt_tree, stmt_trees}
+use Rattle.tm_syntax.specs.Tree.View.{stmt_tree, stmt_trees}
 use Rattle.tm_sem.proofs.Runs.{stmts_from}
 use Rattle.tm_syntax.specs.Tree.{StmtTree, assign, invoke, branch, repeat, forever, choose, assert, assume, pause, wait, magic}
-use Rattle.tm_sem.specs.Scope.{Scope, main_scope}
-use Rattle.tm_sem.specs.Run.{perform}
-use Rattle.tm_sem.specs.Locations.{Location, is_magic_at}
-use Rattle.tm_sem.specs.Flat.{magic_place, magic_blocks, IsProcessBody, IsJob}
+use Rattle.tm_syntax.specs.Design.Scope.{Scope, main_scope}
+use Rattle.tm_syntax.specs.Design.Work.{perform}
+use Rattle.tm_syntax.specs.Design.Locations.{Location, is_magic_at}
+use Rattle.tm_sem.specs.Inner.Flat.{magic_place, magic_blocks, IsProcessBody, IsJob}
 
 -- a statement that is no magic block adds none
 pub no_magic : (scope : Scope) (s : StmtTree) (others : List StmtTree) → magic_place s ≡ None →

@@ -1,4 +1,5 @@
 pub mod AllowedMoves
+pub mod ArrayWrites
 pub mod Determined
 pub mod Firsts
 pub mod Flats

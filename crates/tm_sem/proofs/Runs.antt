@@ -4,12 +4,13 @@ use Rattle.std.proofs.Math.Seq.{drop-cons}
 use Rattle.std.specs.List.{AllByRecursion}
 use Rattle.tm_base.specs.declared.place.Place.{Place}
 use Rattle.tm_syntax.specs.declared.tree.Stmt.{Stmt}
-use Rattle.tm_syntax.specs.View.{stmt_tree, stmt_trees}
+use Rattle.tm_syntax.specs.Tree.View.{stmt_tree, stmt_trees}
 use Rattle.tm_syntax.specs.Design.{DesignTree}
-use Rattle.tm_syntax.specs.Small.{IsSmallStmt}
-use Rattle.tm_sem.specs.Scope.{Scope}
+use Rattle.tm_syntax.specs.Design.Small.{IsSmallStmt}
+use Rattle.tm_syntax.specs.Design.Scope.{Scope}
 use Rattle.tm_sem.specs.Value.{Memory}
-use Rattle.tm_sem.specs.Run.{Ending, Run, ends, goes, perform, progress, goes_on, comes_to}
+use Rattle.tm_sem.specs.Run.{Ending, Run, ends, goes, progress, goes_on, comes_to}
+use Rattle.tm_syntax.specs.Design.Work.{perform}
 
 module _ (stmts : List Stmt) (i : ℕ) (s : Stmt) (inside : i < length stmts) (at : s ≡ get_or stmts i s) where
   -- the statements from an index on are the one there and those behind it

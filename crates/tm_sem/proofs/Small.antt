@@ -11,16 +11,19 @@ use Rattle.tm_syntax.specs.declared.tree.Path.{Path}
 use Rattle.tm_syntax.specs.declared.tree.Expr.{Expr}
 use Rattle.tm_syntax.specs.declared.tree.Expr.TheVariants as variant
 use Rattle.tm_syntax.specs.declared.design.Ty.TheVariants.{Bool as bool_type}
-use Rattle.tm_syntax.specs.View.{expr_tree}
+use Rattle.tm_syntax.specs.Tree.View.{expr_tree}
 use Rattle.tm_syntax.specs.declared.design.Var.{Var}
 use Rattle.tm_syntax.specs.declared.design.Item.{Item}
-use Rattle.tm_syntax.specs.Tree.{ExprTree, truth, number, path, group, unary, binary, shift, conditional, cast, element, ValueTree, star, plain, StmtTree, assign, assert, TemplateTree, TaskTree}
+use Rattle.tm_syntax.specs.Tree.{ExprTree, truth, number, path, group, unary, binary, shift, conditional, cast, element, ValueTree, star, plain, StmtTree, assign, assert, TemplateTree, TaskTree, SpecTree}
 use Rattle.tm_syntax.specs.Design.{DesignTree, InstanceNode}
-use Rattle.tm_syntax.specs.Small.{IsAtom, IsLiteral, IsSmallStmt, IsSmall, IsSmallTemplate, IsSmallTask}
-use Rattle.tm_sem.specs.Scope.{BodyName, Code, Slot, slot_named, process_body, task_body, outside, Scope, main_scope, Site, Cell, in_state, code_named, cell, variable_at, process_code, task_code}
+use Rattle.tm_syntax.specs.Design.Small.{IsAtom, IsLiteral, IsSmallStmt, IsSmall, IsSmallTemplate, IsSmallTask}
+use Rattle.tm_syntax.specs.Design.Cells.{Cell, in_state, cell, variable_at}
+use Rattle.tm_syntax.specs.Design.Scope.{Scope, main_scope, Site}
+use Rattle.tm_syntax.specs.Scopes.Context.{BodyName, Frame, Slot, slot_named, process_body, task_body, outside, frame_of, process_frame, task_frame}
 use Rattle.tm_sem.specs.Value.{Memory, plain_memory, read, path_value, value, overruns}
-use Rattle.tm_sem.specs.Run.{perform, progress, goes_on, comes_to, at_end, failed, asked_by, put_in, chooses_value}
-use Rattle.tm_sem.specs.Halt.{assigned, chooses}
+use Rattle.tm_sem.specs.Run.{progress, goes_on, comes_to, at_end, failed, asked_by, put_in, chooses_value}
+use Rattle.tm_syntax.specs.Design.Work.{perform}
+use Rattle.tm_sem.specs.Inner.Halt.{assigned, chooses}
 
 -- the one instance
 abbrev pub main_node : InstanceNode
@@ -47,28 +50,28 @@ small_is d h =
     ∙ ap (λ (ts : List TemplateTree). record { enums = []; templates = ts }) h.templates)
 
 -- a task of a small template has neither parameters nor locals
-no_task_slot : (d : DesignTree) (t : TemplateTree) (name : List ℕ) (next : Code → Slot → Option Cell)
+no_task_slot : (spec : SpecTree) (t : TemplateTree) (name : List ℕ) (next : Frame → Slot → Option Cell)
     (ts : List TaskTree) → AllByRecursion IsSmallTask ts → (k : ℕ) →
-    option_and_then (λ code. option_and_then (next code) (slot_named code name))
-    (option_map (task_code d t) (slice_get ts k)) ≡ None
-no_task_slot d t name next [] all k = refl
-no_task_slot d t name next (x ∷ xs) all zero = rw (all.0.params, all.0.body.locals) refl
-no_task_slot d t name next (x ∷ xs) all (suc k) = no_task_slot d t name next xs all.1 k
+    option_and_then (λ frame. option_and_then (next frame) (slot_named frame name))
+    (option_map (task_frame spec t) (slice_get ts k)) ≡ None
+no_task_slot spec t name next [] all k = refl
+no_task_slot spec t name next (x ∷ xs) all zero = rw (all.0.params, all.0.body.locals) refl
+no_task_slot spec t name next (x ∷ xs) all (suc k) = no_task_slot spec t name next xs all.1 k
 
 -- the process of a small template has no locals
-no_process_slot : (t : TemplateTree) (small : IsSmallTemplate t) (name : List ℕ) (next : Code → Slot → Option Cell)
+no_process_slot : (t : TemplateTree) (small : IsSmallTemplate t) (name : List ℕ) (next : Frame → Slot → Option Cell)
     (k : ℕ) →
-    option_and_then (λ code. option_and_then (next code) (slot_named code name))
-    (option_map process_code (slice_get t.processes k)) ≡ None
+    option_and_then (λ frame. option_and_then (next frame) (slot_named frame name))
+    (option_map process_frame (slice_get t.processes k)) ≡ None
 no_process_slot t small name next zero = rw (small.processes, small.body.locals) refl
 no_process_slot t small name next (suc k) = rw small.processes refl
 
 -- no name of a body is one of its own
 no_slot : (d : DesignTree) (at : Site) (small : IsSmallTemplate at.template) (name : List ℕ)
-    (next : Code → Slot → Option Cell) (body : BodyName) →
-    option_and_then (λ code. option_and_then (next code) (slot_named code name)) (code_named d at body) ≡ None
+    (next : Frame → Slot → Option Cell) (body : BodyName) →
+    option_and_then (λ frame. option_and_then (next frame) (slot_named frame name)) (frame_of d.spec at.template body) ≡ None
 no_slot d at small name next (process_body k) = no_process_slot at.template small name next k
-no_slot d at small name next (task_body k) = no_task_slot d at.template name next at.template.tasks small.tasks k
+no_slot d at small name next (task_body k) = no_task_slot d.spec at.template name next at.template.tasks small.tasks k
 no_slot d at small name next outside = refl
 
 first_of_one : {X : Type 0} (x : Option X) → slice_get ([] ++ option_to_list x) 0 ≡ x

@@ -10,12 +10,15 @@ use Rattle.tm_syntax.specs.Tree.{StmtTree, assign, invoke, branch, repeat, forev
 use Rattle.std.proofs.Math.Logic.{∥∥₁_elim}
 use Rattle.std.specs.Coded.{le_prop}
 use Rattle.tm_syntax.specs.Design.{DesignTree, InstanceNode, IsDesign, all_items}
-use Rattle.tm_syntax.specs.Small.{IsSmallAction, IsSmallStmt, IsSmallBody, IsSmallTask, IsSmallTemplate, IsSmall}
-use Rattle.tm_sem.specs.Scope.{BodyName, process_body, task_body, Scope, main_scope, site, Called, task_called}
-use Rattle.tm_sem.specs.Run.{WorkItem, perform, performs, body_stmts, body_items}
-use Rattle.tm_sem.specs.Locations.{Location, row_locations, body_locations, Thread, thread, locations, rest, call_depth}
+use Rattle.tm_syntax.specs.Design.Small.{IsSmallAction, IsSmallStmt, IsSmallBody, IsSmallTask, IsSmallTemplate, IsSmall}
+use Rattle.tm_syntax.specs.Design.Cells.{Called, task_called}
+use Rattle.tm_syntax.specs.Design.Scope.{Scope, main_scope, site}
+use Rattle.tm_syntax.specs.Scopes.Context.{BodyName, process_body, task_body}
+use Rattle.tm_syntax.specs.Design.Work.{WorkItem, perform, performs, body_stmts, body_items}
+use Rattle.tm_syntax.specs.Design.Locations.{Location, row_locations, body_locations, Thread, thread, locations, rest}
+use Rattle.tm_syntax.specs.Scopes.Pauses.{call_depth}
 use Rattle.tm_sem.specs.Step.{task_of}
-use Rattle.tm_sem.specs.Flat.{magic_blocks, IsProcessBody, IsTaskBody}
+use Rattle.tm_sem.specs.Inner.Flat.{magic_blocks, IsProcessBody, IsTaskBody}
 use Rattle.tm_sem.proofs.Small.{main_node, one_template, small_is}
 
 -- a row of a list is that list
@@ -115,7 +118,7 @@ stmts_of_small b IsStmt small = rw small.locals refl
 
 -- the locations of a small body without locals
 small_locations : (d : DesignTree) (body : BodyName) (b : BodyTree) → IsSmallBody IsSmallStmt b →
-    body_locations (call_depth d) d (main_scope body) [] b [] ≡ magic_blocks (main_scope body) b.stmts
+    body_locations (suc (call_depth d.spec)) d (main_scope body) [] b [] ≡ magic_blocks (main_scope body) b.stmts
 small_locations d body b small =
     rw (stmts_of_small b IsSmallStmt small) (flat_locations _ (main_scope body) b.stmts small.stmts)
 
@@ -124,11 +127,11 @@ pub process_body_of : (d : DesignTree) (h : IsSmall d) (p : ℕ) (x : Thread) �
     IsProcessBody d p x.process.body.stmts
 process_body_of d h p x is =
     let small = small_thread d h p x is in
-    let at : locations d p ≡ body_locations (call_depth d) d x.scope [] x.process.body [] = rw is refl in
+    let at : locations d p ≡ body_locations (suc (call_depth d.spec)) d x.scope [] x.process.body [] = rw is refl in
     let left : rest d p 0 ≡ map (perform x.scope []) (body_stmts x.process.body) = rw is refl in
     record {
       body = small.body;
-      locations = at ∙ ap (λ (scope : Scope). body_locations (call_depth d) d scope [] x.process.body []) small.scope
+      locations = at ∙ ap (λ (scope : Scope). body_locations (suc (call_depth d.spec)) d scope [] x.process.body []) small.scope
           ∙ small_locations d small.body x.process.body small.is_small;
       rest = left ∙ ap (λ (scope : Scope). map (perform scope []) (body_stmts x.process.body)) small.scope
           ∙ ap (map (perform (main_scope small.body) [])) (stmts_of_small x.process.body IsSmallStmt small.is_small);

@@ -10,15 +10,15 @@ use Rattle.tm_syntax.specs.declared.design.Var.{Var}
 use Rattle.tm_syntax.specs.declared.design.Ty.TheVariants.{Bool as bool_type}
 use Rattle.tm_syntax.specs.Tree.{SpecTree}
 use Rattle.tm_syntax.specs.Design.{DesignTree}
-use Rattle.tm_syntax.specs.Small.{IsSmall}
+use Rattle.tm_syntax.specs.Design.Small.{IsSmall}
 use Rattle.tm_sem.specs.State.{StateData}
-use Rattle.tm_sem.specs.Run.{type_size}
-use Rattle.tm_sem.specs.Locations.{locations, end_number, is_location_at}
+use Rattle.tm_syntax.specs.Design.Sizes.{type_size}
+use Rattle.tm_syntax.specs.Design.Locations.{locations, end_number, is_location_at}
 use Rattle.tm_sem.specs.declared.run.Halt.{Halt}
 use Rattle.tm_sem.specs.declared.run.Halt.TheVariants as halt
-use Rattle.tm_sem.specs.Halt.{halt_number, places_after, outcome_at}
+use Rattle.tm_sem.specs.Inner.Halt.{halt_number, places_after, outcome_at}
 use Rattle.tm_sem.specs.Step.{IsState, LeadsToState}
-use Rattle.tm_sem.specs.Fit.{ArePlaces, IsSmallState}
+use Rattle.tm_sem.specs.Inner.Fit.{ArePlaces, IsSmallState}
 
 values_of_zip : (spec : SpecTree) (vars : List Var) (values : List ℕ) →
     AllByRecursion (λ (v : Var). v.ty ≡ bool_type) vars →

@@ -5,8 +5,8 @@ use Rattle.std.specs.Option.{option_map, option_and_then}
 use Rattle.tm_syntax.specs.declared.design.Var.{Var}
 use Rattle.tm_syntax.specs.Tree.{SpecTree}
 use Rattle.tm_syntax.specs.Design.{DesignTree}
+use Rattle.tm_syntax.specs.Design.Sizes.{type_size}
 use Rattle.tm_sem.specs.State.{StateData}
-use Rattle.tm_sem.specs.Run.{type_size}
 
 -- the next choice and those behind it, where it is one of so many values
 abbrev pub next_choice : ℕ → List ℕ → Option (ℕ × List ℕ)

@@ -1,11 +1,8 @@
+pub mod ArrayWrite
 pub mod First
-pub mod Fit
-pub mod Flat
-pub mod Halt
-pub mod Locations
+pub mod Inner
 pub mod Play
 pub mod Run
-pub mod Scope
 pub mod State
 pub mod Step
 pub mod Value

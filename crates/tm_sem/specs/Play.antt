@@ -4,11 +4,12 @@ use Rattle.std.specs.Option.{option_map, option_and_then, option_map_or}
 use Rattle.std.specs.List.{fold}
 use Rattle.tm_syntax.specs.declared.design.Item.{Item}
 use Rattle.tm_syntax.specs.Tree.{ExprTree, NamedTree}
+use Rattle.tm_syntax.specs.Scopes.Context.{outside}
 use Rattle.tm_syntax.specs.Design.{DesignTree}
+use Rattle.tm_syntax.specs.Design.Scope.{site}
 use Rattle.tm_sem.specs.declared.state.Move.{Move}
 use Rattle.tm_sem.specs.declared.state.Outcome.TheVariants.{Next}
 use Rattle.tm_sem.specs.State.{StateData}
-use Rattle.tm_sem.specs.Scope.{outside, site}
 use Rattle.tm_sem.specs.Value.{holds_in}
 use Rattle.tm_sem.specs.Step.{memory_of, IsInitial, Step}
 

@@ -6,17 +6,13 @@ use Rattle.tm_base.specs.declared.place.Place.{Place}
 use Rattle.tm_syntax.specs.declared.tree.Ident.{Ident}
 use Rattle.tm_syntax.specs.declared.design.Ty.{Ty}
 use Rattle.tm_syntax.specs.declared.design.Ty.TheVariants as types
-use Rattle.tm_syntax.specs.Tree.{ExprTree, ValueTree, star, result, plain, StmtTree, assign, invoke, branch, repeat, forever, choose, assert, assume, pause, wait, magic, StmtRow, stmts_of, blocks_of, BodyTree, SpecTree}
-use Rattle.tm_syntax.specs.Names.{is_spelled}
+use Rattle.tm_syntax.specs.Tree.{ExprTree, element, ValueTree, star, result, plain, StmtTree, assign, invoke, branch, repeat, forever, choose, assert, assume, pause, wait, magic, StmtRow, blocks_of}
 use Rattle.tm_syntax.specs.Design.{DesignTree}
-use Rattle.tm_sem.specs.Scope.{Scope, Cell, cell, cell_type, Called, called}
+use Rattle.tm_syntax.specs.Design.Scope.{Scope}
+use Rattle.tm_syntax.specs.Design.Cells.{Cell, cell, cell_type, Called, called}
+use Rattle.tm_syntax.specs.Design.Sizes.{type_size}
+use Rattle.tm_syntax.specs.Design.Work.{WorkItem, perform, deliver, performs, body_items, call_place}
 use Rattle.tm_sem.specs.Value.{Memory, put, value, holds_in, index_value, overruns}
-
--- what is to be done: a statement of a body, reached by a trail of calls, the newest first;
--- or, after a called body, to put what it returns, valued in its scope, into a cell
-pub data WorkItem : Type 0 where
-  perform : Scope → List Place → StmtTree → WorkItem
-  deliver : Option Cell → Scope → ExprTree → WorkItem
 
 -- how a run ends: at a location, at the end of all items, in an error, or with no outcome
 pub data Ending : Type 0 where
@@ -35,13 +31,6 @@ abbrev pub at_end : List ℕ → Ending → Ending
 at_end [] e = e
 at_end (c ∷ cs) e = blocked
 
--- how many values a type has
-abbrev pub type_size : SpecTree → Ty → ℕ
-type_size spec types.Bool = 2
-type_size spec (types.Uint n) = 2 ^ n
-type_size spec (types.Enum name) =
-    option_map_or (λ e. length e.constants) (find (λ e. is_spelled name e.name) spec.enums) 0
-
 -- the type that a target asks for
 abbrev pub asked_by : DesignTree → Option Cell → Ty
 asked_by d c = unwrap_or (option_and_then (cell_type d) c) types.Bool
@@ -50,23 +39,6 @@ asked_by d c = unwrap_or (option_and_then (cell_type d) c) types.Bool
 abbrev pub put_in : Memory → Option Cell → ℕ → Memory
 put_in m None n = m
 put_in m (Some c) n = put m c n
-
--- the statements of a row
-abbrev pub performs : Scope → List Place → StmtRow → List WorkItem
-performs scope trail row = map (perform scope trail) (stmts_of row)
-
--- a local's declaration is an assignment that stands before the statements of its body
-abbrev pub body_stmts : BodyTree → List StmtTree
-body_stmts body = map (λ l. assign (l.name ∷ []) None l.value) body.locals ++ body.stmts
-
--- the items of a body
-abbrev pub body_items : Scope → List Place → BodyTree → List WorkItem
-body_items scope trail body = map (perform scope trail) (body_stmts body)
-
--- the place of a call
-abbrev pub call_place : List Ident → List Place
-call_place [] = []
-call_place (name ∷ names) = name.place ∷ []
 
 -- the memory in which the parameters of a body have the values of its arguments, which are valued first
 abbrev pub with_arguments : DesignTree → Scope → Memory → List Cell → List ExprTree → Memory
@@ -83,9 +55,9 @@ calls d scope trail m cs names args after =
     (with_arguments d scope m callee.params args) cs)
     (called d scope names) (comes_to blocked)
 
--- what is put into a target after a body
-abbrev pub returned : Option Cell → Called → List WorkItem
-returned target callee = map (deliver target callee.scope) (option_to_list callee.body.answer)
+-- what is left to be done after a called body: its result is put into a target
+abbrev pub delivery : Option Cell → Called → List WorkItem
+delivery target callee = map (deliver target callee.scope) (option_to_list callee.body.answer)
 
 -- the next choice numbers a value of a type
 abbrev pub chooses_value : DesignTree → Memory → Option Cell → List ℕ → Progress
@@ -105,9 +77,13 @@ valued_by (star _) = []
 valued_by (result _ args) = args
 valued_by (plain e) = e ∷ []
 
--- the expressions that a statement values
+-- the element that is assigned, where the target has an index
+abbrev pub target_element : List Ident → Option ExprTree → List ExprTree
+target_element names index = map (element names) (option_to_list index)
+
+-- the expressions that a statement values; an element that is assigned is one of them
 abbrev pub valued : StmtTree → List ExprTree
-valued (assign _ index v) = option_to_list index ++ valued_by v
+valued (assign names index v) = target_element names index ++ valued_by v
 valued (invoke _ args) = args
 valued (branch e _ _) = e ∷ []
 valued (repeat _ e _) = e ∷ []
@@ -118,7 +94,7 @@ valued _ = []
 -- an assignment to a target
 abbrev pub assigns : DesignTree → Scope → List Place → Memory → List ℕ → Option Cell → ValueTree → Progress
 assigns d scope trail m cs target (star _) = chooses_value d m target cs
-assigns d scope trail m cs target (result names args) = calls d scope trail m cs names args (returned target)
+assigns d scope trail m cs target (result names args) = calls d scope trail m cs names args (delivery target)
 assigns d scope trail m cs target (plain e) = goes_on [] (put_in m target (value d scope m (asked_by d target) e)) cs
 
 -- what a statement does where none of its expressions overruns

@@ -10,10 +10,13 @@ use Rattle.tm_sem.specs.declared.state.Move.TheVariants as moves
 use Rattle.tm_sem.specs.declared.state.Outcome.{Outcome}
 use Rattle.tm_sem.specs.declared.state.Outcome.TheVariants as outcomes
 use Rattle.tm_sem.specs.State.{StateData}
-use Rattle.tm_sem.specs.Scope.{Cell, Called, site, task_called}
+use Rattle.tm_syntax.specs.Design.Scope.{site}
+use Rattle.tm_syntax.specs.Design.Cells.{Cell, Called, task_called}
+use Rattle.tm_syntax.specs.Design.Sizes.{type_size}
+use Rattle.tm_syntax.specs.Design.Work.{WorkItem, body_items}
+use Rattle.tm_syntax.specs.Design.Locations.{end_number, location_number, rest, is_magic_at}
 use Rattle.tm_sem.specs.Value.{Memory, plain_memory, put}
-use Rattle.tm_sem.specs.Run.{WorkItem, Ending, stopped, finished, failed, blocked, Run, type_size, asked_by, body_items}
-use Rattle.tm_sem.specs.Locations.{end_number, location_number, rest, is_magic_at}
+use Rattle.tm_sem.specs.Run.{Ending, stopped, finished, failed, blocked, Run, asked_by}
 
 -- a valid state: each value is in its type, each location is one of its process, and some actor or none moved last
 pub record IsState (d : DesignTree) (s : StateData) : Type 0 where
@@ -94,22 +97,22 @@ work d s (moves.Leave p) = leave_work d s p
 work d s (moves.Call t args) = call_work d s t args
 
 -- the locations of the processes after one of them was moved
-abbrev pub moved : Option ℕ → StateData → ℕ → List ℕ
-moved None s k = s.places
-moved (Some p) s k = slice_set s.places p k
+abbrev pub locations_after : Option ℕ → StateData → ℕ → List ℕ
+locations_after None s k = s.places
+locations_after (Some p) s k = slice_set s.places p k
 
 -- what an end of the work leads to
 abbrev pub outcome_of : DesignTree → StateData → Work → Ending → Outcome
 outcome_of d s w (stopped at trail m) =
     outcomes.Next (record {
       values = m.values;
-      places = moved w.mover s (location_number d (unwrap_or w.mover 0) at trail);
+      places = locations_after w.mover s (location_number d (unwrap_or w.mover 0) at trail);
       last = w.last;
     })
 outcome_of d s w (finished m) =
     outcomes.Next (record {
       values = m.values;
-      places = moved w.mover s (end_number d (unwrap_or w.mover 0));
+      places = locations_after w.mover s (end_number d (unwrap_or w.mover 0));
       last = w.last;
     })
 outcome_of d s w failed = outcomes.Error

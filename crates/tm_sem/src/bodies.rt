@@ -1,13 +1,13 @@
 //! The bodies of a small design, by the numbers of its processes and tasks.
 ghost use Rattle.std.specs.Prelude.{◌≡◌, None, MatchOption};
 ghost use Rattle.std.specs.Option.{option_map};
-ghost use Rattle.tm_syntax.specs.DesignView.{design_tree};
-ghost use Rattle.tm_syntax.specs.View.{body_tree, process_tree, stmt_trees};
-ghost use Rattle.tm_syntax.specs.Small.{IsSmall};
-ghost use Rattle.tm_sem.specs.Scope.{site};
-ghost use Rattle.tm_sem.specs.Locations.{thread};
+ghost use Rattle.tm_syntax.specs.Design.View.{design_tree};
+ghost use Rattle.tm_syntax.specs.Tree.View.{body_tree, process_tree, stmt_trees};
+ghost use Rattle.tm_syntax.specs.Design.Small.{IsSmall};
+ghost use Rattle.tm_syntax.specs.Design.Scope.{site};
+ghost use Rattle.tm_syntax.specs.Design.Locations.{thread};
 ghost use Rattle.tm_sem.specs.Step.{task_of};
-ghost use Rattle.tm_sem.specs.Flat.{IsProcessBody, IsTaskBody};
+ghost use Rattle.tm_sem.specs.Inner.Flat.{IsProcessBody, IsTaskBody};
 
 use crate::tables::template_of;
 use tm_syntax::design::Design;

@@ -1,8 +1,8 @@
 //! The states that a small design begins with.
 ghost use Rattle.std.specs.Prelude.{◌≡◌, None, Some, Err, IfOk, MatchOption};
 ghost use Rattle.std.specs.Option.{option_map};
-ghost use Rattle.tm_syntax.specs.DesignView.{design_tree};
-ghost use Rattle.tm_syntax.specs.Small.{IsSmall};
+ghost use Rattle.tm_syntax.specs.Design.View.{design_tree};
+ghost use Rattle.tm_syntax.specs.Design.Small.{IsSmall};
 ghost use Rattle.tm_sem.specs.State.{StateData};
 ghost use Rattle.tm_sem.specs.Step.{IsState, IsInitial};
 ghost use Rattle.tm_sem.specs.First.{value_or_choice, first_values as values_of, IsFirst};

@@ -2,11 +2,11 @@
 ghost use Rattle.std.specs.Prelude.{◌≡◌, ◌≤◌, [], map, ℕ, drop, length, slice_get, IfSome};
 ghost use Rattle.std.specs.Option.{option_map};
 ghost use Rattle.std.specs.List.{position_or_len};
-ghost use Rattle.tm_syntax.specs.View.{stmt_tree, stmt_trees};
-ghost use Rattle.tm_sem.specs.Scope.{Scope};
-ghost use Rattle.tm_sem.specs.Run.{perform};
-ghost use Rattle.tm_sem.specs.Locations.{same_place, is_location_at};
-ghost use Rattle.tm_sem.specs.Flat.{magic_place, magic_blocks};
+ghost use Rattle.tm_syntax.specs.Tree.View.{stmt_tree, stmt_trees};
+ghost use Rattle.tm_syntax.specs.Design.Scope.{Scope};
+ghost use Rattle.tm_syntax.specs.Design.Work.{perform};
+ghost use Rattle.tm_syntax.specs.Design.Locations.{same_place, is_location_at};
+ghost use Rattle.tm_sem.specs.Inner.Flat.{magic_place, magic_blocks};
 
 use tm_base::Place;
 use tm_syntax::tree::Stmt;

@@ -1,10 +1,10 @@
 //! Which goals hold at a state of a small design.
 ghost use Rattle.std.specs.Prelude.{◌≡◌, ◌<◌, ◌==◌, IfOk, true, not, length};
 ghost use Rattle.std.specs.Option.{option_map, option_map_or};
-ghost use Rattle.tm_syntax.specs.DesignView.{design_tree};
-ghost use Rattle.tm_syntax.specs.View.{expr_tree};
-ghost use Rattle.tm_syntax.specs.Small.{IsSmall};
-ghost use Rattle.tm_sem.specs.Scope.{outside};
+ghost use Rattle.tm_syntax.specs.Design.View.{design_tree};
+ghost use Rattle.tm_syntax.specs.Tree.View.{expr_tree};
+ghost use Rattle.tm_syntax.specs.Design.Small.{IsSmall};
+ghost use Rattle.tm_syntax.specs.Scopes.Context.{outside};
 ghost use Rattle.tm_sem.specs.Value.{plain_memory, holds_in};
 ghost use Rattle.tm_sem.specs.Play.{goal_expr as expr_of, goal_holds};
 

@@ -1,11 +1,11 @@
 //! The steps of a small design.
 ghost use Rattle.std.specs.Prelude.{◌≡◌, ◌↔◌, IsTrue, None, MatchOption, IfOk, slice_index};
-ghost use Rattle.tm_syntax.specs.DesignView.{design_tree};
-ghost use Rattle.tm_syntax.specs.View.{stmt_trees};
-ghost use Rattle.tm_syntax.specs.Small.{IsSmall};
+ghost use Rattle.tm_syntax.specs.Design.View.{design_tree};
+ghost use Rattle.tm_syntax.specs.Tree.View.{stmt_trees};
+ghost use Rattle.tm_syntax.specs.Design.Small.{IsSmall};
 ghost use Rattle.tm_sem.specs.Step.{IsState, LeadsToState, Step, work, stands_at_magic as is_at_magic, is_driver_turn as is_turn, is_driver_move as is_drivers, IsAllowed};
-ghost use Rattle.tm_sem.specs.Halt.{halt_number, places_after, outcome_at};
-ghost use Rattle.tm_sem.specs.Flat.{IsJob};
+ghost use Rattle.tm_sem.specs.Inner.Halt.{halt_number, places_after, outcome_at};
+ghost use Rattle.tm_sem.specs.Inner.Flat.{IsJob};
 
 use crate::bodies::{process_stmts, task_stmts};
 use crate::flat::{behind_magic, magic_count, magics_before};

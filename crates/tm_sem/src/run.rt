@@ -2,15 +2,17 @@
 ghost use Rattle.std.specs.Prelude.{◌≡◌, ◌<◌, ℕ, List, [], map, nat_eq, position};
 ghost use Rattle.std.specs.List.{AllByRecursion};
 ghost use Rattle.std.specs.Cmp.Lexicographic.{pointwise};
-ghost use Rattle.tm_syntax.specs.DesignView.{design_tree};
-ghost use Rattle.tm_syntax.specs.View.{stmt_tree, stmt_trees};
-ghost use Rattle.tm_syntax.specs.Small.{IsSmall, IsSmallStmt};
-ghost use Rattle.tm_sem.specs.Scope.{BodyName, main_scope};
+ghost use Rattle.tm_syntax.specs.Design.View.{design_tree};
+ghost use Rattle.tm_syntax.specs.Tree.View.{stmt_tree, stmt_trees};
+ghost use Rattle.tm_syntax.specs.Design.Small.{IsSmall, IsSmallStmt};
+ghost use Rattle.tm_syntax.specs.Design.Scope.{main_scope};
+ghost use Rattle.tm_syntax.specs.Scopes.Context.{BodyName};
 ghost use Rattle.tm_sem.specs.Value.{plain_memory};
-ghost use Rattle.tm_sem.specs.Run.{Run, perform, progress};
+ghost use Rattle.tm_sem.specs.Run.{Run, progress};
+ghost use Rattle.tm_syntax.specs.Design.Work.{perform};
 ghost use Rattle.tm_sem.specs.Run.{at_end as end_of};
-ghost use Rattle.tm_sem.specs.Fit.{AreTruths, KeepsTruths};
-ghost use Rattle.tm_sem.specs.Halt.{ending_of, progress_of, assigned, chooses};
+ghost use Rattle.tm_sem.specs.Inner.Fit.{AreTruths, KeepsTruths};
+ghost use Rattle.tm_sem.specs.Inner.Halt.{ending_of, progress_of, assigned, chooses};
 
 use crate::tables::variable_of;
 use crate::value::literal_value;

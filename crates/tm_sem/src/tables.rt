@@ -2,9 +2,9 @@
 ghost use Rattle.std.specs.Prelude.{◌≡◌, nat_eq, position};
 ghost use Rattle.std.specs.Option.{option_map};
 ghost use Rattle.std.specs.Cmp.Lexicographic.{pointwise};
-ghost use Rattle.tm_syntax.specs.DesignView.{design_tree};
-ghost use Rattle.tm_syntax.specs.View.{template_tree};
-ghost use Rattle.tm_sem.specs.Scope.{site};
+ghost use Rattle.tm_syntax.specs.Design.View.{design_tree};
+ghost use Rattle.tm_syntax.specs.Tree.View.{template_tree};
+ghost use Rattle.tm_syntax.specs.Design.Scope.{site};
 
 use tm_base::Name;
 use tm_syntax::design::Design;

@@ -1,10 +1,10 @@
 //! Which states are valid ones of a small design.
 ghost use Rattle.std.specs.Prelude.{◌≡◌, ◌↔◌, ◌≤◌, IsTrue, EachIndex, slice_index, length};
-ghost use Rattle.tm_syntax.specs.DesignView.{design_tree};
-ghost use Rattle.tm_syntax.specs.Small.{IsSmall};
-ghost use Rattle.tm_sem.specs.Locations.{end_number};
+ghost use Rattle.tm_syntax.specs.Design.View.{design_tree};
+ghost use Rattle.tm_syntax.specs.Design.Small.{IsSmall};
+ghost use Rattle.tm_syntax.specs.Design.Locations.{end_number};
 ghost use Rattle.tm_sem.specs.Step.{IsState};
-ghost use Rattle.tm_sem.specs.Fit.{AreTruths, ArePlaces, IsSmallState};
+ghost use Rattle.tm_sem.specs.Inner.Fit.{AreTruths, ArePlaces, IsSmallState};
 
 use crate::bodies::process_stmts;
 use crate::flat::magic_count;

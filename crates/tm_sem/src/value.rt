@@ -3,12 +3,13 @@ ghost use Rattle.std.specs.Prelude.{◌≡◌, nat_eq, position, slice_index, �
 ghost use Rattle.std.specs.Option.{option_map_or};
 ghost use Rattle.std.specs.Cmp.Lexicographic.{pointwise};
 ghost use Rattle.tm_syntax.specs.declared.design.Ty.TheVariants.{Bool as bool_type};
-ghost use Rattle.tm_syntax.specs.DesignView.{design_tree};
-ghost use Rattle.tm_syntax.specs.View.{expr_tree};
-ghost use Rattle.tm_syntax.specs.Small.{IsSmall, IsAtom, IsLiteral};
-ghost use Rattle.tm_sem.specs.Scope.{BodyName, main_scope};
+ghost use Rattle.tm_syntax.specs.Design.View.{design_tree};
+ghost use Rattle.tm_syntax.specs.Tree.View.{expr_tree};
+ghost use Rattle.tm_syntax.specs.Design.Small.{IsSmall, IsAtom, IsLiteral};
+ghost use Rattle.tm_syntax.specs.Design.Scope.{main_scope};
+ghost use Rattle.tm_syntax.specs.Scopes.Context.{BodyName};
 ghost use Rattle.tm_sem.specs.Value.{plain_memory, value};
-ghost use Rattle.tm_sem.specs.Fit.{AreTruths};
+ghost use Rattle.tm_sem.specs.Inner.Fit.{AreTruths};
 
 use crate::tables::variable_of;
 use tm_base::Name;

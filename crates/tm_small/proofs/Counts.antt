@@ -6,7 +6,7 @@ use Rattle.std.proofs.lemmas.List.{length-map}
 use Rattle.std.proofs.lemmas.List.Sums.{sum_by-append}
 use Rattle.tm_syntax.specs.declared.tree.TaskDef.{TaskDef}
 use Rattle.tm_syntax.specs.Tree.{TaskTree}
-use Rattle.tm_syntax.specs.View.{stmt_tree, task_tree}
+use Rattle.tm_syntax.specs.Tree.View.{stmt_tree, task_tree}
 use Rattle.tm_small.specs.SmallText.{stmt_count}
 
 pub stmt_count_more : {zs : List TaskDef} (ys : List TaskDef) (y : TaskDef) → zs ≡ ys ++ y ∷ [] →

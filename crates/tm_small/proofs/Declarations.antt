@@ -5,7 +5,7 @@ use Rattle.tm_syntax.specs.declared.tree.VarDef.{VarDef}
 use Rattle.tm_syntax.specs.declared.tree.TaskDef.{TaskDef}
 use Rattle.tm_syntax.specs.declared.tree.ProcessDef.{ProcessDef}
 use Rattle.tm_syntax.specs.declared.tree.Named.{Named}
-use Rattle.tm_syntax.specs.View.{var_tree, task_tree, process_tree, named_tree}
+use Rattle.tm_syntax.specs.Tree.View.{var_tree, task_tree, process_tree, named_tree}
 
 pub vars_declare : (vs : List VarDef) → map (λ v. v.name.text) (map var_tree vs) ≡ map (λ v. v.name.text) vs
 vars_declare vs = map-map (λ v. v.name.text) var_tree vs

@@ -2,9 +2,10 @@
 use Rattle.std.proofs.Common.{◌≡◌, ℕ, ◌+◌, true, Some, List, [], ◌∷◌, codes, length, refl, sym, ap, ◌∙◌, arith}
 use Rattle.std.specs.Prelude.{slice_get}
 use Rattle.std.specs.List.{flat_map, enumerate_from}
-use Rattle.tm_syntax.specs.Names.{template_number}
+use Rattle.tm_syntax.specs.Scopes.Names.{template_number}
 use Rattle.tm_syntax.specs.Tree.{NamedTree, ProcessTree, TaskTree, InstanceTree, TemplateTree, SpecTree}
-use Rattle.tm_syntax.specs.Design.{InstanceNode, DesignTree, IsSubtree, subtree, IsForest, none_left, one_more, AreInstances, instance_vars, all_items, is_controllable, with_goal, IsDesign}
+use Rattle.tm_syntax.specs.Scopes.Pauses.{is_controllable}
+use Rattle.tm_syntax.specs.Design.{InstanceNode, DesignTree, IsSubtree, subtree, IsForest, none_left, one_more, AreInstances, instance_vars, all_items, with_goal, IsDesign}
 use Rattle.tm_syntax.proofs.Tokens.{tokens_agree}
 use Rattle.tm_small.specs.Main.{IsSmallMain}
 use Rattle.tm_small.specs.SmallText.{IsSmallText}
@@ -66,7 +67,7 @@ same_design d e spec instances one other = λ i. record {
   processes = (one.processes
       ∙ (λ j. all_items (λ t. t.processes) (λ _. true) (λ (p : ProcessTree). p.name) (spec j) (instances j))
       ∙ sym other.processes) i;
-  tasks = (one.tasks ∙ (λ j. all_items (λ t. t.tasks) is_controllable (λ (k : TaskTree). k.name) (spec j) (instances j))
+  tasks = (one.tasks ∙ (λ j. all_items (λ t. t.tasks) (λ (k : TaskTree). is_controllable k.kind) (λ (k : TaskTree). k.name) (spec j) (instances j))
       ∙ sym other.tasks) i;
   goals = (one.goals ∙ (λ j.
       with_goal (all_items (λ t. t.goals) (λ _. true) (λ (g : NamedTree). g.name) (spec j) (instances j)))

@@ -12,7 +12,7 @@ use Rattle.tm_syntax.specs.declared.tree.Named.{Named}
 use Rattle.tm_syntax.specs.declared.tree.Port.{Port}
 use Rattle.tm_syntax.specs.declared.tree.InstanceDef.{InstanceDef}
 use Rattle.tm_syntax.specs.declared.tree.Ident.{Ident}
-use Rattle.tm_syntax.specs.View.{var_tree, task_tree, process_tree, named_tree, instance_tree}
+use Rattle.tm_syntax.specs.Tree.View.{var_tree, task_tree, process_tree, named_tree, instance_tree}
 use Rattle.tm_small.specs.Grammar.{IsMark, IsName, AreEach, nothing, another, truth_true, truth_false, variable, atom_truth, atom_name, lit_plain, lit_not, value_any, value_lit, stmt_assign, stmt_assert, stmt_magic, braces, IsVar, bool, IsTask, task, IsProcess, process, AreGoals, no_goal, goal, var_names, IsSpec, template}
 use Rattle.tm_small.proofs.Declarations.{vars_declare}
 

@@ -9,8 +9,10 @@ use Rattle.tm_syntax.specs.declared.design.Ty.TheVariants as types
 use Rattle.tm_syntax.specs.declared.tree.Ident.{Ident}
 use Rattle.tm_syntax.specs.declared.tree.TaskKind.TheVariants.{Controllable}
 use Rattle.tm_syntax.specs.Tree.{ExprTree, truth, VarTree, NamedTree, ProcessTree, TaskTree, TemplateTree, SpecTree}
-use Rattle.tm_syntax.specs.Design.{IsForest, subtree, none_left, AreInstances, declared_vars, element_paths, process_vars, task_vars, literal_value, is_controllable, with_goal, type_of, IsDesign}
-use Rattle.tm_syntax.specs.Small.{IsSmallTask, IsSmall}
+use Rattle.tm_syntax.specs.Scopes.Names.{type_of}
+use Rattle.tm_syntax.specs.Scopes.Pauses.{is_controllable}
+use Rattle.tm_syntax.specs.Design.{IsForest, subtree, none_left, AreInstances, declared_vars, element_paths, process_vars, task_vars, literal_value, with_goal, IsDesign}
+use Rattle.tm_syntax.specs.Design.Small.{IsSmallTask, IsSmall}
 use Rattle.tm_small.specs.Main.{IsTruthTree, IsFlag, IsSmallMain, truth_value, flag_of, items_from, main_design}
 
 -- a truth has one value
@@ -59,7 +61,7 @@ all_count : {X : Type 0} (xs : List X) → AllByRecursion (λ (x : X). true ≡ 
 all_count [] = tt
 all_count (x ∷ xs) = (refl, all_count xs)
 
-tasks_count : (ks : List TaskTree) → AllByRecursion IsSmallTask ks → AllByRecursion (λ k. is_controllable k ≡ true) ks
+tasks_count : (ks : List TaskTree) → AllByRecursion IsSmallTask ks → AllByRecursion (λ (k : TaskTree). is_controllable k.kind ≡ true) ks
 tasks_count [] all = tt
 tasks_count (k ∷ ks) all = (rw all.0.kind refl, tasks_count ks all.1)
 
@@ -94,7 +96,7 @@ main_is_design t main = record {
   vars = sym (no_more _ ∙ variables t main);
   processes = sym (no_more _
       ∙ items_numbered (λ _. true) (λ (p : ProcessTree). p.name) 0 t.processes (all_count t.processes));
-  tasks = sym (no_more _ ∙ items_numbered is_controllable (λ (k : TaskTree). k.name) 0 t.tasks
+  tasks = sym (no_more _ ∙ items_numbered (λ (k : TaskTree). is_controllable k.kind) (λ (k : TaskTree). k.name) 0 t.tasks
       (tasks_count t.tasks main.is_small.tasks));
   goals = ap with_goal (sym
       (no_more _ ∙ items_numbered (λ _. true) (λ (g : NamedTree). g.name) 0 t.goals (all_count t.goals)));

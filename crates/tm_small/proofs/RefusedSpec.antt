@@ -8,7 +8,7 @@ use Rattle.tm_syntax.specs.declared.tree.Ident.{Ident}
 use Rattle.tm_syntax.specs.declared.tree.VarDef.{VarDef}
 use Rattle.tm_syntax.specs.declared.tree.TaskDef.{TaskDef}
 use Rattle.tm_syntax.specs.declared.tree.Named.{Named}
-use Rattle.tm_syntax.specs.View.{var_tree, task_tree, named_tree}
+use Rattle.tm_syntax.specs.Tree.View.{var_tree, task_tree, named_tree}
 use Rattle.tm_syntax.specs.Tree.{VarTree, NamedTree, ProcessTree, TaskTree, TemplateTree}
 use Rattle.tm_small.specs.Grammar.{IsMark, IsName, AreEach, IsVar, IsTask, IsProcess, AreGoals, no_goal, goal, var_names, IsSpec, template}
 use Rattle.tm_small.specs.Refusal.{BeginsNone}

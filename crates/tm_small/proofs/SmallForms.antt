@@ -4,7 +4,7 @@ use Rattle.std.specs.List.{AllByRecursion}
 use Rattle.tm_syntax.specs.declared.token.Token.{Token}
 use Rattle.tm_syntax.specs.declared.tree.Ident.{Ident}
 use Rattle.tm_syntax.specs.Tree.{ExprTree, path, unary, assign, magic, ValueTree, StmtTree, BodyTree, VarTree, NamedTree, ProcessTree, TaskTree, TemplateTree}
-use Rattle.tm_syntax.specs.Small as small
+use Rattle.tm_syntax.specs.Design.Small as small
 use Rattle.tm_small.specs.Grammar.{AreEach, nothing, another, IsTruth, truth_true, truth_false, IsVariable, variable, IsAtom, atom_truth, atom_name, IsLit, lit_plain, lit_not, IsValue, value_any, value_lit, IsStmt, stmt_assign, stmt_assert, stmt_magic, IsBody, braces, IsVar, bool, IsTask, task, IsProcess, process, AreGoals, no_goal, goal, IsSpec, template}
 use Rattle.tm_small.specs.Main.{IsTruthTree, IsFlag, IsSmallMain}
 use Rattle.tm_small.specs.SmallText.{IsWithinLimits}

@@ -6,8 +6,9 @@ use Rattle.tm_syntax.specs.declared.design.Var.{Var}
 use Rattle.tm_syntax.specs.declared.design.Item.{Item}
 use Rattle.tm_syntax.specs.declared.design.Ty.TheVariants as types
 use Rattle.tm_syntax.specs.Tree.{ExprTree, truth, VarTree, TemplateTree}
-use Rattle.tm_syntax.specs.Design.{DesignTree, type_of, with_goal}
-use Rattle.tm_syntax.specs.Small.{IsSmallTemplate}
+use Rattle.tm_syntax.specs.Scopes.Names.{type_of}
+use Rattle.tm_syntax.specs.Design.{DesignTree, with_goal}
+use Rattle.tm_syntax.specs.Design.Small.{IsSmallTemplate}
 
 -- a truth
 abbrev pub IsTruthTree : ExprTree → Type 0

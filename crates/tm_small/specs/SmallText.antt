@@ -1,5 +1,6 @@
 -- The texts of small specifications.
 use Rattle.std.specs.Prelude.{◌≡◌, ◌≢◌, ℕ, ◌+◌, ◌≤◌, Bool, true, false, List, [], ◌∷◌, ◌++◌, map, length, sum_by, count_by, AllPairs}
+use Rattle.tm_syntax.specs.Limits.{specification_limit}
 use Rattle.tm_syntax.specs.declared.token.Token.{Token}
 use Rattle.tm_syntax.specs.declared.token.TokenKind.{TokenKind}
 use Rattle.tm_syntax.specs.declared.token.TokenKind.TheVariants as token
@@ -36,7 +37,7 @@ pub record IsWithinLimits (t : TemplateTree) : Type 0 where
 -- the text spells the tree of this design, by the small grammar and within its limits,
 -- and the design is numbered as that tree says
 pub record IsSmallText (text : List ℕ) (d : DesignTree) : Type 0 where
-  pub size : length text ≤ 1048576
+  pub size : length text ≤ specification_limit
   pub tokens : List Token
   pub are_tokens : AreTokens text tokens
   pub template : TemplateTree

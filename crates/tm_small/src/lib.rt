@@ -4,11 +4,12 @@
 ghost use Rattle.std.specs.Prelude.{◌≡◌, ◌<◌, ◌≤◌, ℕ, List, length, map, count_by, slice_range, ◌++◌, ◌∷◌, AllPairs, Err, IsNone, IfOk, IfSome};
 ghost use Rattle.tm_syntax.specs.declared.token.Token.{Token};
 ghost use Rattle.tm_syntax.specs.declared.token.TokenKind.TheVariants as token;
+ghost use Rattle.tm_syntax.specs.Limits.{specification_limit};
 ghost use Rattle.tm_syntax.specs.Tokens.{AreTokens};
-ghost use Rattle.tm_syntax.specs.View.{template_tree};
+ghost use Rattle.tm_syntax.specs.Tree.View.{template_tree};
 ghost use Rattle.tm_syntax.specs.Design.{DesignTree};
-ghost use Rattle.tm_syntax.specs.DesignView.{design_tree};
-ghost use Rattle.tm_syntax.specs.Small.{IsSmall};
+ghost use Rattle.tm_syntax.specs.Design.View.{design_tree};
+ghost use Rattle.tm_syntax.specs.Design.Small.{IsSmall};
 ghost use Rattle.tm_small.specs.declared.stop.Stop.TheVariants.{Form};
 ghost use Rattle.tm_small.specs.Grammar.{IsName};
 ghost use Rattle.tm_small.specs.SmallText.{IsSmallText, is_star, declared_names};
@@ -67,7 +68,7 @@ fn declared_names(alloc: Global, template: &Template) -> Result<Vec<Name>, Alloc
 
 /// The design that the tokens of a text spell.
 fn design(alloc: Global, text: &[u8], tokens: &[Token]) -> Result<Design, Stop>
-    requires size { length text.now ≤ 1048576 }
+    requires size { length text.now ≤ specification_limit }
     requires tokens { AreTokens text.now tokens.now }
     ensures spelled { IfOk result (λ d. IsSmallText text.now (design_tree d)) }
     ensures small { IfOk result (λ d. IsSmall (design_tree d)) }
@@ -93,7 +94,7 @@ pub fn read_small(alloc: Global, text: &[u8]) -> Result<Option<Design>, AllocErr
 
     // `None` is for the texts of no small design alone.
     ensures none { IfOk result (λ found. IsNone found → (d : DesignTree) → ¬ IsSmallText text.now d) }
-    ensures long { 1048576 < length text.now → result ≡ Ok None }
+    ensures long { specification_limit < length text.now → result ≡ Ok None }
 {
     if text.len() > BYTES {
         return Ok(None);

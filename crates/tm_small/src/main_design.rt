@@ -1,8 +1,8 @@
 //! The design of `main`.
 ghost use Rattle.std.specs.Prelude.{◌≡◌, ◌≤◌, [], ◌∷◌, length, map, IfOk, vec_len};
-ghost use Rattle.tm_syntax.specs.View.{expr_tree, var_tree, template_tree, spec_tree};
+ghost use Rattle.tm_syntax.specs.Tree.View.{expr_tree, var_tree, template_tree, spec_tree};
 ghost use Rattle.tm_syntax.specs.Design.{instance_node, with_goal};
-ghost use Rattle.tm_syntax.specs.DesignView.{design_tree};
+ghost use Rattle.tm_syntax.specs.Design.View.{design_tree};
 ghost use Rattle.tm_small.specs.Main.{IsSmallMain, truth_value, flag_of, items_from, main_design};
 
 use crate::names::{Declares, names_of};

@@ -9,7 +9,7 @@ ghost use Rattle.tm_syntax.specs.declared.token.Word.TheVariants as word;
 ghost use Rattle.tm_syntax.specs.declared.token.Sign.TheVariants as sign;
 ghost use Rattle.tm_syntax.specs.declared.tree.Ident.{Ident};
 ghost use Rattle.tm_syntax.specs.Tree.{ExprTree, ValueTree, StmtTree, assign, assert, magic, BodyTree, VarTree, NamedTree, ProcessTree, TaskTree, TemplateTree};
-ghost use Rattle.tm_syntax.specs.View.{expr_tree, value_tree, stmt_tree, stmt_trees, body_tree, var_tree, named_tree, process_tree, task_tree, template_tree};
+ghost use Rattle.tm_syntax.specs.Tree.View.{expr_tree, value_tree, stmt_tree, stmt_trees, body_tree, var_tree, named_tree, process_tree, task_tree, template_tree};
 ghost use Rattle.tm_small.specs.Grammar.{IsMark, IsName, AreEach, IsTruth, IsVariable, IsAtom, IsLit, IsValue, IsStmt, IsBody, IsVar, IsTask, IsProcess, AreGoals, IsSpec};
 ghost use Rattle.tm_small.specs.declared.stop.Stop.TheVariants.{Form};
 ghost use Rattle.tm_small.specs.Refusal.{BeginsNone};

@@ -6,8 +6,8 @@ use Rattle.std.proofs.lemmas.List.{take_at, drop_at}
 use Rattle.std.proofs.lemmas.List.Elements.{All-nil, All-cons, All-append}
 use Rattle.tm_syntax.specs.declared.token.Token.{Token}
 use Rattle.tm_syntax.specs.declared.token.TokenKind.{TokenKind}
-use Rattle.tm_syntax.specs.Tokens.{IsPiece, Piece, joined, ArePieces, place_after, token_behind, tokens_behind, AreTokens, StandsIn}
-use Rattle.tm_syntax.proofs.Tokens.{joined-cons, piece_nonempty}
+use Rattle.tm_syntax.specs.Tokens.{IsPiece, Piece, bytes_of, ArePieces, place_after, token_behind, tokens_behind, AreTokens, StandsIn}
+use Rattle.tm_syntax.proofs.Tokens.{bytes_of-cons, piece_nonempty}
 
 -- the token behind `front`, if its piece is one
 at_front : (front bytes after : List ℕ) (kind : Option TokenKind) → IsPiece kind bytes →
@@ -26,16 +26,16 @@ at_front front bytes after (Some kind) is =
       here = ap place_after (sym (take_at front (bytes ++ after) (length front) refl));
     }) (All-nil (StandsIn text))
 
-all_stand : (front : List ℕ) (ps : List Piece) (rest text : List ℕ) → text ≡ front ++ (joined ps ++ rest) →
+all_stand : (front : List ℕ) (ps : List Piece) (rest text : List ℕ) → text ≡ front ++ (bytes_of ps ++ rest) →
     ArePieces ps rest → All (StandsIn text) (tokens_behind front ps)
 all_stand front [] rest text whole each = All-nil (StandsIn text)
 all_stand front (p ∷ ps) rest text whole each =
-    let split : text ≡ front ++ (p.bytes ++ (joined ps ++ rest)) =
-    whole ∙ ap (λ l. front ++ l) (joined-cons p ps rest) in
+    let split : text ≡ front ++ (p.bytes ++ (bytes_of ps ++ rest)) =
+    whole ∙ ap (λ l. front ++ l) (bytes_of-cons p ps rest) in
     All-append (StandsIn text) (option_to_list (token_behind front p)) (tokens_behind (front ++ p.bytes) ps)
     (subst (λ l. All (StandsIn l) (option_to_list (token_behind front p))) (sym split)
-    (at_front front p.bytes (joined ps ++ rest) p.kind each.0))
-    (all_stand (front ++ p.bytes) ps rest text (split ∙ sym (append_assoc front p.bytes (joined ps ++ rest))) each.2)
+    (at_front front p.bytes (bytes_of ps ++ rest) p.kind each.0))
+    (all_stand (front ++ p.bytes) ps rest text (split ∙ sym (append_assoc front p.bytes (bytes_of ps ++ rest))) each.2)
 
 -- each token of a text stands in it
 pub tokens_stand : (text : List ℕ) (tokens : List Token) → AreTokens text tokens → All (StandsIn text) tokens
@@ -48,7 +48,7 @@ no_more_than_one front p None = omega arith
 no_more_than_one front p (Some kind) = omega arith
 
 no_more : (front : List ℕ) (ps : List Piece) (rest : List ℕ) → ArePieces ps rest →
-    length (tokens_behind front ps) ≤ length (joined ps)
+    length (tokens_behind front ps) ≤ length (bytes_of ps)
 no_more front [] rest each = omega arith
 no_more front (p ∷ ps) rest each =
     let one = no_more_than_one front p p.kind in
@@ -57,7 +57,7 @@ no_more front (p ∷ ps) rest each =
     omega (
       arith,
       length-append (option_to_list (token_behind front p)) (tokens_behind (front ++ p.bytes) ps),
-      length-append p.bytes (joined ps),
+      length-append p.bytes (bytes_of ps),
     )
 
 -- a text has no more tokens than bytes
@@ -68,5 +68,5 @@ length-tokens text tokens h =
       ap length h.are,
       no_more [] h.pieces [] h.split.each,
       ap length h.split.whole,
-      length-append (joined h.pieces) [],
+      length-append (bytes_of h.pieces) [],
     )

@@ -14,7 +14,7 @@ use Rattle.tm_syntax.specs.declared.token.TokenKind.{TokenKind}
 use Rattle.tm_syntax.specs.declared.token.TokenKind.TheVariants as token
 use Rattle.tm_syntax.specs.declared.token.Token.{Token}
 use Rattle.tm_base.specs.declared.place.Place.{Place}
-use Rattle.tm_syntax.specs.Tokens.{word_text, sign_text, is_blank, begins_name, IsPiece, Piece, joined, ArePieces, Splits, place_after, tokens_behind, AreTokens, BeginsNothing, HasByteFault}
+use Rattle.tm_syntax.specs.Tokens.{word_text, sign_text, is_blank, begins_name, IsPiece, Piece, bytes_of, ArePieces, Splits, place_after, tokens_behind, AreTokens, BeginsNothing, HasByteFault}
 
 -- each reserved word
 words : List Word
@@ -310,22 +310,22 @@ nothing_at_end rest kind bytes after end piece whole =
     end
 
 -- the first of pieces in a row stands in front
-pub joined-cons : (p : Piece) (ps : List Piece) (rest : List ℕ) →
-    joined (p ∷ ps) ++ rest ≡ p.bytes ++ (joined ps ++ rest)
-joined-cons p ps rest = append_assoc p.bytes (joined ps) rest
+pub bytes_of-cons : (p : Piece) (ps : List Piece) (rest : List ℕ) →
+    bytes_of (p ∷ ps) ++ rest ≡ p.bytes ++ (bytes_of ps ++ rest)
+bytes_of-cons p ps rest = append_assoc p.bytes (bytes_of ps) rest
 
 -- a text has one split
-pub splits_agree : (ps qs : List Piece) (x y : List ℕ) → joined ps ++ x ≡ joined qs ++ y → ArePieces ps x →
+pub splits_agree : (ps qs : List Piece) (x y : List ℕ) → bytes_of ps ++ x ≡ bytes_of qs ++ y → ArePieces ps x →
     ArePieces qs y → IsEnd x → IsEnd y → (ps ≡ qs) × (x ≡ y)
 splits_agree [] [] x y whole p q ends end = (refl, whole)
 splits_agree [] (b ∷ qs) x y whole p q ends end =
-    absurd (nothing_at_end x b.kind b.bytes (joined qs ++ y) ends q.0 (whole ∙ joined-cons b qs y))
+    absurd (nothing_at_end x b.kind b.bytes (bytes_of qs ++ y) ends q.0 (whole ∙ bytes_of-cons b qs y))
 splits_agree (a ∷ ps) [] x y whole p q ends end =
-    absurd (nothing_at_end y a.kind a.bytes (joined ps ++ x) end p.0 (sym whole ∙ joined-cons a ps x))
+    absurd (nothing_at_end y a.kind a.bytes (bytes_of ps ++ x) end p.0 (sym whole ∙ bytes_of-cons a ps x))
 splits_agree (a ∷ ps) (b ∷ qs) x y whole p q ends end =
-    let parts = sym (joined-cons a ps x) ∙ whole ∙ joined-cons b qs y in
-    let below = p.1 b.kind b.bytes (joined qs ++ y) q.0 parts in
-    let above = q.1 a.kind a.bytes (joined ps ++ x) p.0 (sym parts) in
+    let parts = sym (bytes_of-cons a ps x) ∙ whole ∙ bytes_of-cons b qs y in
+    let below = p.1 b.kind b.bytes (bytes_of qs ++ y) q.0 parts in
+    let above = q.1 a.kind a.bytes (bytes_of ps ++ x) p.0 (sym parts) in
     let same = same_fronts a.bytes b.bytes (omega arith) parts in
     let rest = splits_agree ps qs x y same.1 p.2 q.2 ends end in
     let kinds = piece_kind a.kind b.kind b.bytes (subst (IsPiece a.kind) same.0 p.0) q.0 in
@@ -360,4 +360,4 @@ unfolding IsEnd
 faults_agree text here there one other =
     let same = Splits-agree text one.pieces other.pieces (one.byte ∷ one.rest) (other.byte ∷ other.rest) one.split
     other.split (inr one.begins_nothing) (inr other.begins_nothing) in
-    one.here ∙ ap (λ ps. place_after (joined ps)) same.0 ∙ sym other.here
+    one.here ∙ ap (λ ps. place_after (bytes_of ps)) same.0 ∙ sym other.here

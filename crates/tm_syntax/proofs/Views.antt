@@ -11,7 +11,7 @@ use Rattle.tm_syntax.specs.declared.tree.Value.{Value}
 use Rattle.tm_syntax.specs.declared.tree.Stmt.{Stmt, fold-roll-Stmt}
 use Rattle.tm_syntax.specs.declared.tree.Stmt.TheVariants.{Assign, Call, If, While, Forever, Choice, Assert, Assume, Pause, Wait, Magic, rolls-Assign, rolls-Call, rolls-If, rolls-While, rolls-Forever, rolls-Choice, rolls-Assert, rolls-Assume, rolls-Pause, rolls-Wait, rolls-Magic}
 use Rattle.tm_syntax.specs.Tree.{StmtTree, assign, invoke, branch, repeat, forever, choose, assert, assume, pause, wait, magic, row_of, alternatives_of}
-use Rattle.tm_syntax.specs.View.{expr_tree, expr_trees, value_tree, stmt_step, stmt_tree, stmt_trees}
+use Rattle.tm_syntax.specs.Tree.View.{expr_tree, expr_trees, value_tree, stmt_step, stmt_tree, stmt_trees}
 
 pub view-Assign : (p : Path) (i : Option Expr) (v : Value) →
     stmt_tree (Assign p i v) ≡ assign p.names.items (option_map expr_tree i) (value_tree v)

@@ -1,6 +1,13 @@
 -- The design of a specification (Ryzhyk et al. 2009): its instances in preorder from `main`, and what they hold,
 -- numbered instance by instance and in text order within a template.
-use Rattle.std.specs.Prelude.{◌≡◌, ℕ, ◌+◌, Bool, true, false, Option, None, Some, List, [], ◌∷◌, ◌++◌, ◌&&◌, map, length, position, codes, unwrap_or, slice_get, if◌then◌else◌}
+pub mod Cells
+pub mod Locations
+pub mod Scope
+pub mod Sizes
+pub mod Small
+pub mod View
+pub mod Work
+use Rattle.std.specs.Prelude.{◌≡◌, ℕ, ◌+◌, Bool, true, false, Option, None, Some, List, [], ◌∷◌, ◌++◌, map, length, position, codes, unwrap_or, slice_get, if◌then◌else◌}
 use Rattle.std.specs.Bool.{then_some}
 use Rattle.std.specs.Option.{option_map, option_to_list}
 use Rattle.std.specs.List.{filter_map, flat_map, enumerate_from, range_with_len}
@@ -8,17 +15,12 @@ use Rattle.std.specs.Fmt.{decimal}
 use Rattle.tm_syntax.specs.declared.design.Instance.{Instance}
 use Rattle.tm_syntax.specs.declared.design.Var.{Var}
 use Rattle.tm_syntax.specs.declared.design.Item.{Item}
-use Rattle.tm_syntax.specs.declared.design.Ty.{Ty}
-use Rattle.tm_syntax.specs.declared.design.Ty.TheVariants as types
 use Rattle.tm_syntax.specs.declared.tree.Ident.{Ident}
 use Rattle.tm_syntax.specs.declared.tree.Num.{Num}
 use Rattle.tm_syntax.specs.declared.tree.TypeName.{TypeName}
-use Rattle.tm_syntax.specs.declared.tree.TypeName.TheVariants as written
-use Rattle.tm_syntax.specs.declared.tree.TaskKind.{TaskKind}
-use Rattle.tm_syntax.specs.declared.tree.TaskKind.TheVariants.{Controllable, Uncontrollable}
 use Rattle.tm_syntax.specs.Tree.{ExprTree, truth, number, path, VarTree, NamedTree, ProcessTree, TaskTree, InstanceTree, TemplateTree, SpecTree}
-use Rattle.tm_syntax.specs.Names.{is_spelled, number_of, constant_value, template_number}
-use Rattle.tm_syntax.specs.Kept.{may_pause}
+use Rattle.tm_syntax.specs.Scopes.Names.{is_spelled, number_of, type_of, constant_value, template_number}
+use Rattle.tm_syntax.specs.Scopes.Pauses.{is_controllable, is_kept}
 
 -- an instance, with lists in the place of vectors
 pub record InstanceNode : Type 0 where
@@ -41,10 +43,10 @@ pub record DesignTree : Type 0 where
   pub goals : List Item
   pub fairs : List Item
 
--- a path and a name behind it, joined by a dot; what `main` holds has its own name alone
-abbrev pub joined : List ℕ → List ℕ → List ℕ
-joined [] name = name
-joined (b ∷ bs) name = (b ∷ bs) ++ 46 ∷ name
+-- the path of what an instance holds: its own path and the name, with a dot between; the path of `main` is empty
+abbrev pub member_path : List ℕ → List ℕ → List ℕ
+member_path [] name = name
+member_path (b ∷ bs) name = (b ∷ bs) ++ 46 ∷ name
 
 -- the instance that a name of an instance's template stands for: one that it holds, or a port
 abbrev pub neighbor : InstanceNode → TemplateTree → List ℕ → Option ℕ
@@ -57,7 +59,7 @@ neighbor node t name =
 -- an instance as its template's text declares it, within another one
 pub record IsDeclared (spec : SpecTree) (parent : InstanceNode) (t : TemplateTree) (declared : InstanceTree)
     (child : InstanceNode) : Type 0 where
-  pub path : child.path ≡ joined parent.path declared.name.text
+  pub path : child.path ≡ member_path parent.path declared.name.text
   pub template : template_number spec declared.template.text ≡ Some child.template
   pub ports : map (λ a. neighbor parent t a.text) declared.args ≡ map Some child.ports
 
@@ -85,12 +87,6 @@ pub record AreInstances (spec : SpecTree) (nodes : List InstanceNode) : Type 0 w
   pub ports : option_map (λ (n : InstanceNode). n.ports) (slice_get nodes 0) ≡ Some []
   pub all : IsSubtree spec nodes 0 (length nodes)
 
--- a type as it stands in the text, resolved
-abbrev pub type_of : TypeName → Ty
-type_of (written.Bool _) = types.Bool
-type_of (written.Uint _ n) = types.Uint (number_of n)
-type_of (written.Enum name) = types.Enum name.text
-
 -- the value of an initial literal
 abbrev pub literal_value : SpecTree → ExprTree → ℕ
 literal_value spec (truth _ b) = if b then 1 else 0
@@ -107,7 +103,7 @@ element_paths (Some n) base = map (λ k. base ++ 46 ∷ decimal k) (range_with_l
 abbrev pub declared_vars : SpecTree → ℕ → List ℕ → VarTree → List Var
 declared_vars spec i base d =
     map (λ p. record { path = p; ty = type_of d.ty; init = option_map (literal_value spec) d.init; instance = i })
-    (element_paths d.size (joined base d.name.text))
+    (element_paths d.size (member_path base d.name.text))
 
 -- the variable in which a parameter or local of a body is kept
 abbrev pub kept_var : ℕ → List ℕ → TypeName → Ident → Var
@@ -115,19 +111,15 @@ kept_var i base ty name = record { path = base ++ 46 ∷ name.text; ty = type_of
 
 -- the variables of a process: its locals
 abbrev pub process_vars : ℕ → List ℕ → ProcessTree → List Var
-process_vars i base p = map (λ l. kept_var i (joined base p.name.text) l.ty l.name) p.body.locals
+process_vars i base p = map (λ l. kept_var i (member_path base p.name.text) l.ty l.name) p.body.locals
 
--- the variables of a task: its parameters and locals, where it is uncontrollable and may pause
+-- the variables of a task: its parameters and locals, where they are kept
 abbrev pub task_vars : SpecTree → TemplateTree → ℕ → List ℕ → TaskTree → List Var
 task_vars spec t i base k =
-    if is_uncontrollable k.kind && may_pause spec t k
-    then (map (λ p. kept_var i (joined base k.name.text) p.ty p.name) k.params
-    ++ map (λ l. kept_var i (joined base k.name.text) l.ty l.name) k.body.locals)
+    if is_kept spec t k
+    then (map (λ p. kept_var i (member_path base k.name.text) p.ty p.name) k.params
+    ++ map (λ l. kept_var i (member_path base k.name.text) l.ty l.name) k.body.locals)
     else []
-  where
-    is_uncontrollable : TaskKind → Bool
-    is_uncontrollable Uncontrollable = true
-    is_uncontrollable _ = false
 
 -- the template of an instance
 abbrev pub template_of : SpecTree → InstanceNode → List TemplateTree
@@ -145,7 +137,7 @@ abbrev pub instance_items : {X : Type 0} → (TemplateTree → List X) → (X �
     ℕ × InstanceNode → List Item
 instance_items sort counts name spec i =
     flat_map (λ t. filter_map (λ x. then_some (counts x.1) (record {
-      path = joined i.1.path (name x.1).text;
+      path = member_path i.1.path (name x.1).text;
       instance = i.0;
       index = Some x.0;
     })) (enumerate_from 0 (sort t)))
@@ -161,20 +153,13 @@ abbrev pub with_goal : List Item → List Item
 with_goal [] = record { path = codes "true"; instance = 0; index = None } ∷ []
 with_goal (g ∷ gs) = g ∷ gs
 
--- whether the driver may call a task
-abbrev pub is_controllable : TaskTree → Bool
-is_controllable k = is_controllable_kind k.kind
-  where
-    is_controllable_kind : TaskKind → Bool
-    is_controllable_kind Controllable = true
-    is_controllable_kind _ = false
-
 -- a design is numbered as its tree says
 pub record IsDesign (d : DesignTree) : Type 0 where
   pub instances : AreInstances d.spec d.instances
   pub vars : d.vars ≡ flat_map (instance_vars d.spec) (enumerate_from 0 d.instances)
   pub processes : d.processes
       ≡ all_items (λ t. t.processes) (λ _. true) (λ (p : ProcessTree). p.name) d.spec d.instances
-  pub tasks : d.tasks ≡ all_items (λ t. t.tasks) is_controllable (λ (k : TaskTree). k.name) d.spec d.instances
+  pub tasks : d.tasks
+      ≡ all_items (λ t. t.tasks) (λ (k : TaskTree). is_controllable k.kind) (λ (k : TaskTree). k.name) d.spec d.instances
   pub goals : d.goals ≡ with_goal (all_items (λ t. t.goals) (λ _. true) (λ (g : NamedTree). g.name) d.spec d.instances)
   pub fairs : d.fairs ≡ all_items (λ t. t.fairs) (λ _. true) (λ (f : NamedTree). f.name) d.spec d.instances

@@ -1,8 +1,5 @@
 pub mod Design
-pub mod DesignView
-pub mod Kept
-pub mod Names
-pub mod Small
+pub mod Limits
+pub mod Scopes
 pub mod Tokens
 pub mod Tree
-pub mod View

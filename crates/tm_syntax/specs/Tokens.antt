@@ -136,8 +136,8 @@ pub record Piece : Type 0 where
   pub bytes : List ℕ
 
 -- the bytes of pieces in a row
-abbrev pub joined : List Piece → List ℕ
-joined pieces = flat_map (λ p. p.bytes) pieces
+abbrev pub bytes_of : List Piece → List ℕ
+bytes_of pieces = flat_map (λ p. p.bytes) pieces
 
 -- in front of `rest`, no piece that begins where the bytes do is longer than they are
 abbrev pub IsLongest : List ℕ → List ℕ → Type 0
@@ -148,11 +148,11 @@ IsLongest bytes rest =
 -- pieces in a row, in front of `rest`: each is of its kind, and the longest that begins where it stands
 abbrev pub ArePieces : List Piece → List ℕ → Type 0
 ArePieces [] rest = ⊤
-ArePieces (p ∷ ps) rest = IsPiece p.kind p.bytes × IsLongest p.bytes (joined ps ++ rest) × ArePieces ps rest
+ArePieces (p ∷ ps) rest = IsPiece p.kind p.bytes × IsLongest p.bytes (bytes_of ps ++ rest) × ArePieces ps rest
 
 -- the text is these pieces, and then `rest`
 pub record Splits (text : List ℕ) (pieces : List Piece) (rest : List ℕ) : Type 0 where
-  pub whole : text ≡ joined pieces ++ rest
+  pub whole : text ≡ bytes_of pieces ++ rest
   pub each : ArePieces pieces rest
 
 -- the place of the byte behind `front`: a line ends at a line feed, and columns count bytes
@@ -194,7 +194,7 @@ pub record HasByteFault (text : List ℕ) (place : Place) : Type 0 where
   pub rest : List ℕ
   pub split : Splits text pieces (byte ∷ rest)
   pub begins_nothing : BeginsNothing (byte ∷ rest)
-  pub here : place ≡ place_after (joined pieces)
+  pub here : place ≡ place_after (bytes_of pieces)
 
 -- a token stands in a text: the bytes of its span are of its kind, and its place is that of the first of them
 pub record StandsIn (text : List ℕ) (t : Token) : Type 0 where

@@ -1,5 +1,6 @@
 -- The syntax tree of a specification as contracts see it: plain data, with a list in the place of each vector.
 -- Identifiers, numbers, operators, type names and places are the code's own types, which are plain data already.
+pub mod View
 use Rattle.std.specs.Prelude.{Bool, Option, List, [], ◌∷◌}
 use Rattle.tm_base.specs.declared.place.Place.{Place}
 use Rattle.tm_syntax.specs.declared.tree.Ident.{Ident}
@@ -10,7 +11,7 @@ use Rattle.tm_syntax.specs.declared.tree.Param.{Param}
 use Rattle.tm_syntax.specs.declared.tree.Port.{Port}
 use Rattle.tm_syntax.specs.declared.tree.UnaryOperator.{UnaryOperator}
 use Rattle.tm_syntax.specs.declared.tree.BinaryOperator.{BinaryOperator}
-use Rattle.tm_syntax.specs.declared.tree.ShiftOperator.{ShiftOperator}
+use Rattle.tm_bits.specs.declared.shift_operator.ShiftOperator.{ShiftOperator}
 
 -- an expression
 pub data ExprTree : Type 0 where

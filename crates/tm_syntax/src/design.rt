@@ -1,6 +1,6 @@
 //! The design of a tree: its instances, and what they hold, numbered.
 ghost use Rattle.std.specs.Prelude.{map};
-ghost use Rattle.tm_syntax.specs.View.{spec_tree};
+ghost use Rattle.tm_syntax.specs.Tree.View.{spec_tree};
 ghost use Rattle.tm_syntax.specs.Design.{IsDesign, instance_node};
 
 use crate::tree::Spec;

@@ -21,6 +21,36 @@ pub enum Quantity {
     Atoms,
 }
 
+/// The kinds of faults, `F1` to `F12`, in the order in which they are looked for: the fault of a text is of the first
+/// kind that holds anywhere in it. `F2` and `F3` are looked for together.
+#[derive(Clone, Copy, Debug, PartialEq, Eq)]
+pub enum FaultKind {
+    /// `F1`: a byte begins no token.
+    Byte,
+    /// `F2`: a token cannot continue any text of the grammar, or the text ends too early.
+    Syntax,
+    /// `F3`: a token is nested too deep.
+    Deep,
+    /// `F4`: no declaration gives a name in its scope.
+    UnknownName,
+    /// `F5`: a name is declared twice in one scope.
+    Twice,
+    /// `F6`: a type, a sort of name, a number of arguments or a result does not fit.
+    Mismatch,
+    /// `F7`: a number does not fit its type or its place.
+    Literal,
+    /// `F8`: a task or procedure reaches itself by calls.
+    CallCycle,
+    /// `F9`: the body of a loop is not sure to cross a location.
+    LoopWithoutLocation,
+    /// `F10`: a procedure or controllable task holds a location, or calls a body that holds one.
+    LocationInAtomic,
+    /// `F11`: a template reaches itself by instances.
+    TemplateCycle,
+    /// `F12`: a quantity is above its limit.
+    Limit,
+}
+
 /// What a fault says beside its kind and place.
 #[derive(Drop)]
 pub enum Detail {
@@ -33,10 +63,10 @@ pub enum Detail {
     },
 }
 
-/// A fault of a specification: `kind` is 1 to 12 for `F1` to `F12`, and `place` is where it lies.
+/// A fault of a specification: its kind, and the place where it lies.
 #[derive(Drop)]
 pub struct Faulty {
-    pub kind: u8,
+    pub kind: FaultKind,
     pub place: Place,
     pub detail: Detail,
 }

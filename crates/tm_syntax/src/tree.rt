@@ -1,6 +1,7 @@
 //! The syntax tree of a specification. Every node that a fault may be reported at keeps its place.
 
 use tm_base::{Name, Place};
+use tm_bits::ShiftOperator;
 
 /// A name as it stands in the text.
 #[derive(Drop)]
@@ -183,13 +184,6 @@ pub enum BinaryOperator {
     Or,
     OrElse,
     Xor,
-}
-
-/// The shifts, by a literal number of bits.
-#[derive(Clone, Copy, Debug, PartialEq, Eq)]
-pub enum ShiftOperator {
-    Left,
-    Right,
 }
 
 /// An expression. The place of an operator is its sign's, of a cast or a parenthesis its first token's.

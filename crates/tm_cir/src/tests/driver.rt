@@ -1,6 +1,6 @@
 // Blocks from a text with a `;` between two of them, and what they answer.
 ghost use Rattle.std.specs.Prelude.{◌≡◌, length};
-ghost use Rattle.tm_syntax.specs.DesignView.{design_tree};
+ghost use Rattle.tm_syntax.specs.Design.View.{design_tree};
 ghost use Rattle.tm_cir.specs.View.{trees_of};
 ghost use Rattle.tm_cir.specs.Fit.{FitBlocks};
 

@@ -1,8 +1,9 @@
 // Expressions from a text in postfix order: `v0 1 +` is the sum of variable 0 and 1, `!` and what follows it in the
 // grammar's lists stand behind their operands, and a shift's number stands in front of its sign.
 
-use crate::block::{Comparison, Junction, Num64, NumOperator, ShiftOperator, Truth};
+use crate::block::{Comparison, Junction, Num64, NumOperator, Truth};
 use std::alloc::{AllocError, Global};
+use tm_bits::ShiftOperator;
 
 #[derive(Drop)]
 struct Stack {

@@ -7,9 +7,9 @@ ghost use Rattle.tm_syntax.specs.declared.tree.TaskKind.TheVariants.{Controllabl
 ghost use Rattle.tm_syntax.specs.declared.tree.Ident.{Ident};
 ghost use Rattle.tm_syntax.specs.declared.design.Var.{Var};
 ghost use Rattle.tm_syntax.specs.Tree.{BodyTree};
-ghost use Rattle.tm_syntax.specs.View.{spec_tree, process_tree, task_tree, var_tree, template_tree};
+ghost use Rattle.tm_syntax.specs.Tree.View.{spec_tree, process_tree, task_tree, var_tree, template_tree};
 ghost use Rattle.tm_syntax.specs.Design.{instance_node};
-ghost use Rattle.tm_syntax.specs.DesignView.{design_tree};
+ghost use Rattle.tm_syntax.specs.Design.View.{design_tree};
 
 use std::alloc::{AllocError, Global};
 use tm_base::{Name, Place};

@@ -2,7 +2,7 @@ use Rattle.std.proofs.Common.{◌≢◌, sym, ap, ◌∙◌, subst, arith, rules
 use Rattle.std.specs.List.{AllPairs}
 use Rattle.std.proofs.lemmas.Bool.{false≢true}
 use Rattle.tm_syntax.specs.Design.{DesignTree, IsDesign}
-use Rattle.tm_syntax.specs.Small.{IsSmall}
+use Rattle.tm_syntax.specs.Design.Small.{IsSmall}
 use Rattle.tm_small.proofs.NoSmallText.{no_template, names_twice, many_stars}
 use Rattle.tm_small.proofs.Numbered.{main_is_design, main_is_small}
 use Rattle.tm_small.proofs.SmallForms.{spec_small}

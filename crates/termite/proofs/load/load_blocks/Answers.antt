@@ -1,6 +1,6 @@
 use Rattle.std.proofs.Common.{◌≡◌, ap, rules}
 use Rattle.std.specs.Prelude.{is_some}
-use Rattle.tm_syntax.specs.DesignView.{design_tree}
+use Rattle.tm_syntax.specs.Design.View.{design_tree}
 use Rattle.termite.specs.Inputs.{TellsNoBlocks}
 use Rattle.termite.proofs.Loading.{named_refused, spells_no_blocks}
 use Rattle.termite.proofs.load.load_blocks.Goals as goal

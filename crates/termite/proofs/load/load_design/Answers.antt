@@ -1,6 +1,6 @@
 use Rattle.std.proofs.Common.{◌≡◌, ap, rules}
 use Rattle.std.specs.Prelude.{is_some}
-use Rattle.tm_syntax.specs.DesignView.{design_tree}
+use Rattle.tm_syntax.specs.Design.View.{design_tree}
 use Rattle.termite.specs.Inputs.{TellsNoDesign}
 use Rattle.termite.proofs.Loading.{named_refused, spells_no_design}
 use Rattle.termite.proofs.Numbering.{playable}

@@ -1,6 +1,6 @@
 use Rattle.std.proofs.Common.{◌≡◌, ◌+◌, ◌++◌, None, Some, [], sym, ap, ◌∙◌, arith, rules, append_assoc, length}
 use Rattle.std.proofs.lemmas.List.{append-nil}
-use Rattle.tm_syntax.specs.DesignView.{design_tree}
+use Rattle.tm_syntax.specs.Design.View.{design_tree}
 use Rattle.tm_cir.specs.View.{trees_of}
 use Rattle.termite.specs.Report.{state_line}
 use Rattle.termite.specs.Played.{nothing, part, begins_badly}

@@ -1,4 +1,4 @@
-use Rattle.tm_syntax.specs.DesignView.{design_tree}
+use Rattle.tm_syntax.specs.Design.View.{design_tree}
 use Rattle.tm_cir.specs.View.{trees_of}
 use Rattle.termite.proofs.Playing.{Playing}
 use Rattle.termite.proofs.play.play.Given as goal

@@ -1,4 +1,4 @@
-use Rattle.tm_syntax.specs.DesignView.{design_tree}
+use Rattle.tm_syntax.specs.Design.View.{design_tree}
 use Rattle.tm_cir.specs.View.{trees_of}
 use Rattle.termite.proofs.Running.{unloaded_explains, unloaded_puts, unloaded_shown, unloaded_no_usage, ends_explains, ends_puts, part_puts}
 use Rattle.termite.proofs.run.run.Goals as goal

@@ -1,5 +1,5 @@
 use Rattle.std.proofs.Common.{rules}
-use Rattle.tm_syntax.specs.DesignView.{design_tree}
+use Rattle.tm_syntax.specs.Design.View.{design_tree}
 use Rattle.tm_cir.specs.View.{trees_of}
 use Rattle.termite.proofs.Stopping.{none_stops}
 use Rattle.termite.proofs.turn.advance.Goals as goal

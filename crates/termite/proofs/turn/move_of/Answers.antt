@@ -1,4 +1,4 @@
-use Rattle.tm_syntax.specs.DesignView.{design_tree}
+use Rattle.tm_syntax.specs.Design.View.{design_tree}
 use Rattle.tm_cir.specs.View.{trees_of}
 use Rattle.tm_cir.proofs.Following.{of_one_design}
 use Rattle.termite.proofs.turn.move_of.Goals as goal

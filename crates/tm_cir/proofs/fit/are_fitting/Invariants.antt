@@ -1,5 +1,5 @@
 use Rattle.std.proofs.Common.{◌≡◌, ℕ, ◌<◌, Some, length, slice_get}
-use Rattle.tm_syntax.specs.DesignView.{design_tree}
+use Rattle.tm_syntax.specs.Design.View.{design_tree}
 use Rattle.tm_cir.specs.Tree.{BlockTree}
 use Rattle.tm_cir.specs.View.{block_trees}
 use Rattle.tm_cir.specs.Fit.{FitsBlock}

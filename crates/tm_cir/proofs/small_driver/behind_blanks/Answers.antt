@@ -1,6 +1,6 @@
 use Rattle.std.proofs.Common.{◌≡◌, ◌∷◌, sym, subst, ◌∙◌}
 use Rattle.tm_cir.specs.SmallText.{SkipsBlanks, none, skip}
-use Rattle.tm_cir.specs.Front.{BeginsNoBlank}
+use Rattle.tm_cir.specs.Inner.Front.{BeginsNoBlank}
 use Rattle.tm_cir.proofs.small_driver.behind_blanks.Goals as goal
 
 pub loop-first-preserved : goal.loop-first-preserved

@@ -1,5 +1,5 @@
 use Rattle.std.proofs.Common.{sym, subst, ◌∙◌}
-use Rattle.tm_cir.specs.Front.{BeginsNoSpace}
+use Rattle.tm_cir.specs.Inner.Front.{BeginsNoSpace}
 use Rattle.tm_cir.proofs.Refusals.{past_space}
 use Rattle.tm_cir.proofs.small_driver.behind_spaces.Goals as goal
 

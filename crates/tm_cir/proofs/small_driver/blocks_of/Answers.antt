@@ -2,7 +2,7 @@
 -- rest is so in the whole.
 use Rattle.std.proofs.Common.{true≢false, ◌≡◌, [], ◌∷◌, ◌++◌, length, sym, subst, ap, ◌∙◌, length-append}
 use Rattle.std.proofs.lemmas.List.{append-nil}
-use Rattle.tm_syntax.specs.DesignView.{design_tree}
+use Rattle.tm_syntax.specs.Design.View.{design_tree}
 use Rattle.tm_cir.specs.View.{block_tree, block_trees}
 use Rattle.tm_cir.specs.SmallText.{AreBlocks, ReadsBlock, closed}
 use Rattle.tm_cir.proofs.SmallLemmas.{one_more_block, trees_more}

@@ -1,5 +1,5 @@
 use Rattle.std.proofs.Common.{◌≡◌, length, get_or, lt-ltb, sym, ◌∙◌, true≢false, rules}
-use Rattle.tm_syntax.specs.DesignView.{design_tree}
+use Rattle.tm_syntax.specs.Design.View.{design_tree}
 use Rattle.tm_cir.specs.declared.small_token.Token.TheVariants.{Void}
 use Rattle.tm_cir.proofs.Refusals.{other_label, few_tokens, other_third, block_or_none}
 use Rattle.tm_cir.proofs.small_driver.first_block.Goals as goal

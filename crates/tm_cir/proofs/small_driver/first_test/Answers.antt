@@ -1,5 +1,5 @@
 use Rattle.std.proofs.Common.{sym, ◌∙◌, true≢false}
-use Rattle.tm_syntax.specs.DesignView.{design_tree}
+use Rattle.tm_syntax.specs.Design.View.{design_tree}
 use Rattle.tm_cir.specs.SmallText.{tests}
 use Rattle.tm_cir.proofs.Refusals.{no_bool, no_test}
 use Rattle.tm_cir.proofs.small_driver.first_test.Goals as goal

@@ -1,6 +1,6 @@
 -- Each part of the text is one, so what refuses a part refuses the text.
 use Rattle.std.proofs.Common.{sym, subst, ◌∙◌, true≢false}
-use Rattle.tm_syntax.specs.DesignView.{design_tree}
+use Rattle.tm_syntax.specs.Design.View.{design_tree}
 use Rattle.tm_cir.specs.View.{block_trees}
 use Rattle.tm_cir.specs.SmallText.{AreTokens}
 use Rattle.tm_cir.proofs.Refusals.{none_included, none_spelled, none_function, none_fits}

@@ -1,6 +1,6 @@
 use Rattle.std.proofs.Common.{◌≡◌, ◌<◌, length, get_or, sym, ltb-true, rules}
 use Rattle.tm_syntax.specs.declared.design.Item.{Item}
-use Rattle.tm_syntax.specs.DesignView.{design_tree}
+use Rattle.tm_syntax.specs.Design.View.{design_tree}
 use Rattle.tm_cir.specs.declared.small_token.Token.TheVariants.{Task}
 use Rattle.tm_cir.specs.SmallText.{item_name}
 use Rattle.tm_cir.proofs.Fronts.{spelled_in_front, no_text, no_item, some_item}

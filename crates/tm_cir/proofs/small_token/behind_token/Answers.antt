@@ -1,7 +1,7 @@
 use Rattle.std.proofs.Common.{◌++◌, refl}
 use Rattle.std.specs.Prelude.{codes}
 use Rattle.std.specs.Fmt.{decimal}
-use Rattle.tm_syntax.specs.DesignView.{design_tree}
+use Rattle.tm_syntax.specs.Design.View.{design_tree}
 use Rattle.tm_cir.specs.declared.small_token.Token.TheVariants.{Void, DriverTurn, If, Else, Goto, Return, TermiteLeave, Label, Variable, Task, Constant, OpenParenthesis, CloseParenthesis, OpenBrace, CloseBrace, Colon, Semicolon}
 use Rattle.tm_cir.proofs.Fronts.{spelled_in_front, as_token}
 use Rattle.tm_cir.proofs.small_token.behind_token.Goals as goal

@@ -1,5 +1,5 @@
 use Rattle.std.proofs.Common.{true≢false, sym, ◌∙◌}
-use Rattle.tm_syntax.specs.DesignView.{design_tree}
+use Rattle.tm_syntax.specs.Design.View.{design_tree}
 use Rattle.tm_cir.proofs.Fronts.{none_as, none_spelled, none_ends}
 use Rattle.tm_cir.proofs.small_token.first_token.Goals as goal
 

@@ -1,6 +1,6 @@
 use Rattle.std.proofs.Common.{◌≡◌, ℕ, ◌+◌, ◌-◌, ◌^◌, min, ◌<◌, ap, ◌∙◌, subst}
 use Rattle.std.specs.Char.{digit_value}
-use Rattle.tm_cir.specs.Front.{number_in_front}
+use Rattle.tm_cir.specs.Inner.Front.{number_in_front}
 use Rattle.tm_cir.proofs.Fronts.{number_step}
 use Rattle.tm_cir.proofs.small_token.number_in_front.Goals as goal
 

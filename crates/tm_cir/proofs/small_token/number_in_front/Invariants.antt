@@ -1,5 +1,5 @@
 use Rattle.std.proofs.Common.{◌≡◌, ◌<◌, ◌^◌, length}
-use Rattle.tm_cir.specs.Front.{number_after, number_in_front}
+use Rattle.tm_cir.specs.Inner.Front.{number_after, number_in_front}
 use Rattle.tm_cir.proofs.small_token.number_in_front.Given as goal
 
 abbrev pub invariant-loop-first : goal.invariant-loop-first

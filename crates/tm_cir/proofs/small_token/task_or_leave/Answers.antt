@@ -1,6 +1,6 @@
 use Rattle.std.proofs.Common.{Some, ◌∷◌, refl}
 use Rattle.tm_cir.specs.declared.small_token.Token.TheVariants.{Task, TermiteLeave}
-use Rattle.tm_cir.specs.Front.{number_in_front}
+use Rattle.tm_cir.specs.Inner.Front.{number_in_front}
 use Rattle.tm_cir.proofs.Fronts.{only_as, only_numbered, item_or_word}
 use Rattle.tm_cir.proofs.small_token.task_or_leave.Goals as goal
 

@@ -1,6 +1,6 @@
 use Rattle.std.proofs.Common.{refl, arith, sym, ◌∙◌}
 use Rattle.tm_cir.specs.declared.small_token.Token.TheVariants.{Label, Constant}
-use Rattle.tm_cir.specs.Front.{number_in_front}
+use Rattle.tm_cir.specs.Inner.Front.{number_in_front}
 use Rattle.tm_cir.proofs.Fronts.{only_this, only_so, only_numbered, only_none, only_empty, constant_read, label_read}
 use Rattle.tm_cir.proofs.small_token.token_in_front.Goals as goal
 

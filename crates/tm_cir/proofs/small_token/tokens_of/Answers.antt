@@ -1,7 +1,7 @@
 -- A token that is read stands behind those before it, and what is refused in the rest is so in the text.
 use Rattle.std.proofs.Common.{◌≡◌, [], ◌∷◌, ◌++◌, sym, subst, ap, ◌∙◌, append_assoc}
 use Rattle.std.proofs.lemmas.List.{append-nil}
-use Rattle.tm_syntax.specs.DesignView.{design_tree}
+use Rattle.tm_syntax.specs.Design.View.{design_tree}
 use Rattle.tm_cir.specs.SmallText.{AreTokens, no_more, blank, token}
 use Rattle.tm_cir.proofs.Refusals.{none_blank, none_token, none_first}
 use Rattle.tm_cir.proofs.small_token.tokens_of.Goals as goal

@@ -1,5 +1,5 @@
 use Rattle.std.proofs.Common.{List, ◌++◌, length}
-use Rattle.tm_syntax.specs.DesignView.{design_tree}
+use Rattle.tm_syntax.specs.Design.View.{design_tree}
 use Rattle.tm_cir.specs.declared.small_token.Token.{Token}
 use Rattle.tm_cir.specs.SmallText.{AreTokens}
 use Rattle.tm_cir.proofs.Refusals.{NoTokens}

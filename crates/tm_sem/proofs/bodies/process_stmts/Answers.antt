@@ -1,5 +1,5 @@
-use Rattle.tm_syntax.specs.DesignView.{design_tree}
-use Rattle.tm_syntax.specs.View.{process_tree}
+use Rattle.tm_syntax.specs.Design.View.{design_tree}
+use Rattle.tm_syntax.specs.Tree.View.{process_tree}
 use Rattle.tm_sem.proofs.SmallBodies.{process_body_at}
 use Rattle.tm_sem.proofs.bodies.process_stmts.Goals as goal
 

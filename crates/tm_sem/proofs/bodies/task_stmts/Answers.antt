@@ -1,5 +1,5 @@
-use Rattle.tm_syntax.specs.DesignView.{design_tree}
-use Rattle.tm_syntax.specs.View.{body_tree}
+use Rattle.tm_syntax.specs.Design.View.{design_tree}
+use Rattle.tm_syntax.specs.Tree.View.{body_tree}
 use Rattle.tm_sem.proofs.SmallBodies.{task_body_at}
 use Rattle.tm_sem.proofs.bodies.task_stmts.Goals as goal
 

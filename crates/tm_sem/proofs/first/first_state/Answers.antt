@@ -1,5 +1,5 @@
 use Rattle.std.proofs.Common.{rules}
-use Rattle.tm_syntax.specs.DesignView.{design_tree}
+use Rattle.tm_syntax.specs.Design.View.{design_tree}
 use Rattle.tm_sem.proofs.Firsts.{first_initial, initial_valid}
 use Rattle.tm_sem.proofs.first.first_state.Goals as goal
 

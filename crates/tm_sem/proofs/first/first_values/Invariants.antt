@@ -4,7 +4,7 @@ use Rattle.std.specs.Option.{option_map}
 use Rattle.std.specs.List.{AllByRecursion}
 use Rattle.tm_syntax.specs.declared.design.Var.{Var}
 use Rattle.tm_syntax.specs.declared.design.Ty.TheVariants.{Bool as bool_type}
-use Rattle.tm_syntax.specs.DesignView.{design_tree}
+use Rattle.tm_syntax.specs.Design.View.{design_tree}
 use Rattle.tm_sem.specs.First.{first_values}
 use Rattle.tm_sem.proofs.first.first_values.Given as goal
 

@@ -1,8 +1,8 @@
 use Rattle.std.proofs.Common.{◌≡◌, drop}
 use Rattle.std.specs.Prelude.{slice_get}
-use Rattle.tm_syntax.specs.View.{stmt_trees}
-use Rattle.tm_sem.specs.Scope.{Scope}
-use Rattle.tm_sem.specs.Flat.{magic_blocks}
+use Rattle.tm_syntax.specs.Tree.View.{stmt_trees}
+use Rattle.tm_syntax.specs.Design.Scope.{Scope}
+use Rattle.tm_sem.specs.Inner.Flat.{magic_blocks}
 use Rattle.tm_sem.proofs.flat.behind_magic.Given as goal
 
 abbrev pub invariant-loop-index : goal.invariant-loop-index

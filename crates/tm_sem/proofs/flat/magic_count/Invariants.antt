@@ -1,7 +1,7 @@
 use Rattle.std.proofs.Common.{◌≡◌, ◌+◌, ◌≤◌, length, drop}
-use Rattle.tm_syntax.specs.View.{stmt_trees}
-use Rattle.tm_sem.specs.Scope.{Scope}
-use Rattle.tm_sem.specs.Flat.{magic_blocks}
+use Rattle.tm_syntax.specs.Tree.View.{stmt_trees}
+use Rattle.tm_syntax.specs.Design.Scope.{Scope}
+use Rattle.tm_sem.specs.Inner.Flat.{magic_blocks}
 use Rattle.tm_sem.proofs.flat.magic_count.Given as goal
 
 abbrev pub invariant-loop-stmt : goal.invariant-loop-stmt

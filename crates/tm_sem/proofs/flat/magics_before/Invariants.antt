@@ -1,9 +1,9 @@
 use Rattle.std.proofs.Common.{◌≡◌, ◌+◌, ◌≤◌, [], drop}
 use Rattle.std.specs.List.{position_or_len}
-use Rattle.tm_syntax.specs.View.{stmt_trees}
-use Rattle.tm_sem.specs.Scope.{Scope}
-use Rattle.tm_sem.specs.Locations.{is_location_at}
-use Rattle.tm_sem.specs.Flat.{magic_blocks}
+use Rattle.tm_syntax.specs.Tree.View.{stmt_trees}
+use Rattle.tm_syntax.specs.Design.Scope.{Scope}
+use Rattle.tm_syntax.specs.Design.Locations.{is_location_at}
+use Rattle.tm_sem.specs.Inner.Flat.{magic_blocks}
 use Rattle.tm_sem.proofs.flat.magics_before.Given as goal
 
 abbrev pub invariant-loop-stmt : goal.invariant-loop-stmt

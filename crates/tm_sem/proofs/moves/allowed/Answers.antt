@@ -1,6 +1,6 @@
 use Rattle.std.proofs.Common.{refl, sym, ◌∙◌}
-use Rattle.tm_syntax.specs.DesignView.{design_tree}
-use Rattle.tm_syntax.specs.View.{stmt_trees}
+use Rattle.tm_syntax.specs.Design.View.{design_tree}
+use Rattle.tm_syntax.specs.Tree.View.{stmt_trees}
 use Rattle.tm_sem.proofs.AllowedMoves.{allowed_with_work}
 use Rattle.tm_sem.proofs.moves.allowed.Goals as goal
 

@@ -1,8 +1,8 @@
 -- The process stands at a magic block, since the code has found what is behind it.
 use Rattle.std.proofs.Common.{◌≡◌, suc, ◌-◌, arith, sym, ◌∙◌}
-use Rattle.tm_syntax.specs.DesignView.{design_tree}
-use Rattle.tm_syntax.specs.View.{stmt_trees}
-use Rattle.tm_sem.specs.Scope.{main_scope}
+use Rattle.tm_syntax.specs.Design.View.{design_tree}
+use Rattle.tm_syntax.specs.Tree.View.{stmt_trees}
+use Rattle.tm_syntax.specs.Design.Scope.{main_scope}
 use Rattle.tm_sem.proofs.Flats.{leave_job_at, small_drop}
 use Rattle.tm_sem.proofs.moves.leave_job.Goals as goal
 

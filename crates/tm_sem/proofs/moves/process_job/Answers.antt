@@ -1,6 +1,6 @@
 use Rattle.std.proofs.Common.{◌≡◌, suc, ◌-◌, arith, sym, ◌∙◌}
-use Rattle.tm_syntax.specs.DesignView.{design_tree}
-use Rattle.tm_syntax.specs.View.{stmt_trees}
+use Rattle.tm_syntax.specs.Design.View.{design_tree}
+use Rattle.tm_syntax.specs.Tree.View.{stmt_trees}
 use Rattle.tm_sem.proofs.SmallBodies.{few_processes}
 use Rattle.tm_sem.proofs.Flats.{no_work}
 use Rattle.tm_sem.proofs.moves.process_job.Goals as goal

@@ -1,8 +1,8 @@
 use Rattle.std.proofs.Common.{◌∙◌, sym, ap, arith}
-use Rattle.tm_syntax.specs.DesignView.{design_tree}
-use Rattle.tm_syntax.specs.View.{stmt_trees}
-use Rattle.tm_sem.specs.Scope.{main_scope}
-use Rattle.tm_sem.specs.Locations.{is_magic_at}
+use Rattle.tm_syntax.specs.Design.View.{design_tree}
+use Rattle.tm_syntax.specs.Tree.View.{stmt_trees}
+use Rattle.tm_syntax.specs.Design.Scope.{main_scope}
+use Rattle.tm_syntax.specs.Design.Locations.{is_magic_at}
 use Rattle.tm_sem.proofs.Flats.{magic_number}
 use Rattle.tm_sem.proofs.moves.stands_at_magic.Goals as goal
 

@@ -1,9 +1,9 @@
 -- A run keeps truths, and a halt leaves no process beyond its end.
 use Rattle.std.proofs.Common.{◌≡◌, sym, ap, ◌∙◌, subst, length}
-use Rattle.tm_syntax.specs.DesignView.{design_tree}
+use Rattle.tm_syntax.specs.Design.View.{design_tree}
 use Rattle.tm_sem.specs.State.{StateData}
 use Rattle.tm_sem.specs.Step.{LeadsToState}
-use Rattle.tm_sem.specs.Fit.{AreTruths, ArePlaces}
+use Rattle.tm_sem.specs.Inner.Fit.{AreTruths, ArePlaces}
 use Rattle.tm_sem.proofs.ValidStates.{small_state, outcome_valid}
 use Rattle.tm_sem.proofs.moves.step.Goals as goal
 

@@ -2,15 +2,15 @@
 use Rattle.std.proofs.Common.{[], ◌∙◌, ap, sym}
 use Rattle.std.specs.Prelude.{slice_get}
 use Rattle.std.specs.Option.{option_map}
-use Rattle.tm_syntax.specs.DesignView.{design_tree}
-use Rattle.tm_syntax.specs.View.{stmt_tree, expr_tree, value_tree}
+use Rattle.tm_syntax.specs.Design.View.{design_tree}
+use Rattle.tm_syntax.specs.Tree.View.{stmt_tree, expr_tree, value_tree}
 use Rattle.tm_syntax.specs.Tree.{assign}
 use Rattle.tm_syntax.proofs.Views.{view-Assign}
 use Rattle.tm_syntax.specs.declared.design.Ty.TheVariants.{Bool as bool_type}
-use Rattle.tm_sem.specs.Scope.{main_scope}
+use Rattle.tm_syntax.specs.Design.Scope.{main_scope}
 use Rattle.tm_sem.specs.Run.{goes_on}
 use Rattle.tm_sem.specs.Value.{plain_memory, value}
-use Rattle.tm_sem.specs.Halt.{assigned}
+use Rattle.tm_sem.specs.Inner.Halt.{assigned}
 use Rattle.tm_sem.proofs.Small.{progress_of_star, progress_of_plain, variable_number}
 use Rattle.tm_sem.proofs.run.perform.Goals as goal
 

@@ -1,8 +1,8 @@
 -- Each statement goes on to those behind it, or ends the run.
 use Rattle.std.proofs.Common.{[], ◌∙◌, ◌≤◌, arith, length}
 use Rattle.std.proofs.lemmas.List.{drop_all}
-use Rattle.tm_syntax.specs.DesignView.{design_tree}
-use Rattle.tm_sem.specs.Scope.{main_scope}
+use Rattle.tm_syntax.specs.Design.View.{design_tree}
+use Rattle.tm_syntax.specs.Design.Scope.{main_scope}
 use Rattle.tm_sem.specs.Run.{none_left}
 use Rattle.tm_sem.proofs.Runs.{small_from, run_goes, run_ends}
 use Rattle.tm_sem.proofs.run.run.Goals as goal

@@ -1,13 +1,15 @@
 -- What is left to do leads where the whole leads, and is small.
 use Rattle.std.proofs.Common.{[], map, drop}
 use Rattle.std.specs.List.{AllByRecursion}
-use Rattle.tm_syntax.specs.DesignView.{design_tree}
-use Rattle.tm_syntax.specs.View.{stmt_trees}
-use Rattle.tm_syntax.specs.Small.{IsSmallStmt}
-use Rattle.tm_sem.specs.Scope.{BodyName, main_scope}
+use Rattle.tm_syntax.specs.Design.View.{design_tree}
+use Rattle.tm_syntax.specs.Tree.View.{stmt_trees}
+use Rattle.tm_syntax.specs.Design.Small.{IsSmallStmt}
+use Rattle.tm_syntax.specs.Design.Scope.{main_scope}
+use Rattle.tm_syntax.specs.Scopes.Context.{BodyName}
 use Rattle.tm_sem.specs.Value.{plain_memory}
-use Rattle.tm_sem.specs.Fit.{AreTruths, KeepsTruths}
-use Rattle.tm_sem.specs.Run.{Ending, Run, perform}
+use Rattle.tm_sem.specs.Inner.Fit.{AreTruths, KeepsTruths}
+use Rattle.tm_sem.specs.Run.{Ending, Run}
+use Rattle.tm_syntax.specs.Design.Work.{perform}
 use Rattle.tm_sem.proofs.run.run.Given as goal
 
 abbrev pub invariant-loop-stmt : goal.invariant-loop-stmt

@@ -1,7 +1,7 @@
 use Rattle.std.proofs.Common.{◌≡◌, ℕ, List, ap, ◌∙◌, subst, sym}
-use Rattle.tm_syntax.specs.DesignView.{design_tree}
+use Rattle.tm_syntax.specs.Design.View.{design_tree}
 use Rattle.tm_sem.specs.State.{StateData}
-use Rattle.tm_sem.specs.Fit.{IsSmallState}
+use Rattle.tm_sem.specs.Inner.Fit.{IsSmallState}
 use Rattle.tm_sem.proofs.ValidStates.{small_state, state_of_small}
 use Rattle.tm_sem.proofs.validity.fits.Goals as goal
 

@@ -1,6 +1,6 @@
 use Rattle.std.proofs.Common.{ℕ, ◌<◌, ◌≤◌, get_or}
-use Rattle.tm_syntax.specs.DesignView.{design_tree}
-use Rattle.tm_sem.specs.Locations.{end_number}
+use Rattle.tm_syntax.specs.Design.View.{design_tree}
+use Rattle.tm_syntax.specs.Design.Locations.{end_number}
 use Rattle.tm_sem.proofs.validity.places_are_within.Given as goal
 
 abbrev pub invariant-loop-number : goal.invariant-loop-number

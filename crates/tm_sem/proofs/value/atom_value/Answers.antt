@@ -1,6 +1,6 @@
 -- A slice of one name is the whole path.
 use Rattle.std.proofs.Common.{◌∙◌}
-use Rattle.tm_syntax.specs.DesignView.{design_tree}
+use Rattle.tm_syntax.specs.Design.View.{design_tree}
 use Rattle.tm_sem.proofs.Small.{value_of_path}
 use Rattle.tm_sem.proofs.value.atom_value.Goals as goal
 

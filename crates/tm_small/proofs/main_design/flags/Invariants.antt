@@ -1,5 +1,5 @@
 use Rattle.std.proofs.Common.{◌≡◌, map, take}
-use Rattle.tm_syntax.specs.View.{var_tree}
+use Rattle.tm_syntax.specs.Tree.View.{var_tree}
 use Rattle.tm_small.specs.Main.{flag_of}
 use Rattle.tm_small.proofs.main_design.flags.Given as goal
 

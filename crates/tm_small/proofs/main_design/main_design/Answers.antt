@@ -3,7 +3,7 @@ use Rattle.std.proofs.lemmas.Grind.{merely}
 use Rattle.tm_syntax.specs.declared.tree.TaskDef.{TaskDef}
 use Rattle.tm_syntax.specs.declared.tree.ProcessDef.{ProcessDef}
 use Rattle.tm_syntax.specs.declared.tree.Named.{Named}
-use Rattle.tm_syntax.specs.View.{var_tree}
+use Rattle.tm_syntax.specs.Tree.View.{var_tree}
 use Rattle.tm_syntax.specs.Design.{IsDesign, with_goal}
 use Rattle.tm_small.specs.Main.{flag_of, items_from}
 use Rattle.tm_small.proofs.Declarations.{tasks_declare, processes_declare, goals_declare}

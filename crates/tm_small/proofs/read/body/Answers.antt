@@ -1,6 +1,6 @@
 use Rattle.std.proofs.Common.{arith, rules}
 use Rattle.std.proofs.lemmas.List.{length-map}
-use Rattle.tm_syntax.specs.View.{stmt_tree}
+use Rattle.tm_syntax.specs.Tree.View.{stmt_tree}
 use Rattle.tm_small.proofs.Refusals.{past_mark}
 use Rattle.tm_small.proofs.RefusedForms.{no_body}
 use Rattle.tm_small.proofs.RefusedRows.{more_stmts}

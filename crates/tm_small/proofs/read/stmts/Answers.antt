@@ -1,5 +1,5 @@
 use Rattle.std.proofs.Common.{arith, rules}
-use Rattle.tm_syntax.specs.View.{stmt_tree}
+use Rattle.tm_syntax.specs.Tree.View.{stmt_tree}
 use Rattle.tm_small.proofs.Forms.{another_viewed}
 use Rattle.tm_small.proofs.RefusedRows.{begun, no_stmts}
 use Rattle.tm_small.proofs.read.stmts.Goals as goal

@@ -1,5 +1,5 @@
 use Rattle.std.proofs.Common.{◌≡◌, vec_len}
-use Rattle.tm_syntax.specs.View.{stmt_trees}
+use Rattle.tm_syntax.specs.Tree.View.{stmt_trees}
 use Rattle.tm_small.specs.Grammar.{AreEach, IsStmt}
 use Rattle.tm_small.proofs.read.stmts.Given as goal
 

@@ -1,5 +1,5 @@
 use Rattle.std.proofs.Common.{inl, inr, arith, rules}
-use Rattle.tm_syntax.specs.View.{task_tree}
+use Rattle.tm_syntax.specs.Tree.View.{task_tree}
 use Rattle.tm_small.proofs.Counts.{stmt_count_more}
 use Rattle.tm_small.proofs.Forms.{another_viewed}
 use Rattle.tm_small.proofs.RefusedRows.{begun, no_tasks}

@@ -1,5 +1,5 @@
 use Rattle.std.proofs.Common.{◌≡◌, ◌+◌, map, vec_len}
-use Rattle.tm_syntax.specs.View.{task_tree}
+use Rattle.tm_syntax.specs.Tree.View.{task_tree}
 use Rattle.tm_small.specs.Grammar.{AreEach, IsTask}
 use Rattle.tm_small.specs.SmallText.{stmt_count}
 use Rattle.tm_small.proofs.read.tasks.Given as goal

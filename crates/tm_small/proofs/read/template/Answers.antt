@@ -1,6 +1,6 @@
 use Rattle.std.proofs.Common.{[], ◌∷◌, ◌++◌, map, ap, ◌∙◌, rules}
 use Rattle.tm_syntax.specs.declared.tree.VarDef.{VarDef}
-use Rattle.tm_syntax.specs.View.{task_tree}
+use Rattle.tm_syntax.specs.Tree.View.{task_tree}
 use Rattle.tm_small.proofs.Forms.{spec_read}
 use Rattle.tm_small.proofs.Refusals.{past_mark}
 use Rattle.tm_small.proofs.RefusedSpec.{no_spec, past_main, past_declared, no_tasks_within, past_few, no_room, past_process, past_one}

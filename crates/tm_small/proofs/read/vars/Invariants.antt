@@ -1,5 +1,5 @@
 use Rattle.std.proofs.Common.{◌≡◌, map, vec_len}
-use Rattle.tm_syntax.specs.View.{var_tree}
+use Rattle.tm_syntax.specs.Tree.View.{var_tree}
 use Rattle.tm_small.specs.Grammar.{AreEach, IsVar}
 use Rattle.tm_small.proofs.read.vars.Given as goal
 

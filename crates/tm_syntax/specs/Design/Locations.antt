@@ -1,5 +1,5 @@
 -- The locations of a process in text order, each with what is left to be done after it.
-use Rattle.std.specs.Prelude.{ℕ, zero, suc, ◌+◌, Bool, true, false, Option, List, [], ◌∷◌, ◌++◌, ◌&&◌, map, length, nat_eq, slice_get, sum_by}
+use Rattle.std.specs.Prelude.{ℕ, zero, suc, ◌+◌, Bool, true, false, Option, List, [], ◌∷◌, ◌++◌, ◌&&◌, map, length, nat_eq, slice_get}
 use Rattle.std.specs.Option.{option_map, option_and_then, option_map_or}
 use Rattle.std.specs.List.{position_or_len}
 use Rattle.std.specs.Cmp.Lexicographic.{pointwise}
@@ -7,8 +7,11 @@ use Rattle.tm_base.specs.declared.place.Place.{Place}
 use Rattle.tm_syntax.specs.declared.tree.Ident.{Ident}
 use Rattle.tm_syntax.specs.Tree.{StmtTree, assign, invoke, branch, repeat, forever, choose, assert, assume, pause, wait, magic, StmtRow, nothing, then, row_of, BlockRow, nowhere, or_else, BodyTree, ProcessTree}
 use Rattle.tm_syntax.specs.Design.{DesignTree}
-use Rattle.tm_sem.specs.Scope.{Scope, site, process_body, called}
-use Rattle.tm_sem.specs.Run.{WorkItem, perform, performs, body_stmts, call_place}
+use Rattle.tm_syntax.specs.Scopes.Context.{process_body}
+use Rattle.tm_syntax.specs.Scopes.Pauses.{call_depth}
+use Rattle.tm_syntax.specs.Design.Scope.{Scope, site}
+use Rattle.tm_syntax.specs.Design.Cells.{called}
+use Rattle.tm_syntax.specs.Design.Work.{WorkItem, perform, performs, body_stmts, call_place}
 
 -- a location, told apart by its place and its trail, and what is left after it
 pub record Location : Type 0 where
@@ -75,13 +78,9 @@ thread d p =
     record { scope = record { instance = at.number; body = process_body k }; process = process })
     (slice_get at.template.processes k)) item.index) (site d item.instance)) (slice_get d.processes p)
 
--- how deep calls nest at most: no body reaches itself by calls
-abbrev pub call_depth : DesignTree → ℕ
-call_depth d = suc (sum_by (λ t. length t.tasks) d.spec.templates)
-
 -- the locations of a process between its start and its end
 abbrev pub locations : DesignTree → ℕ → List Location
-locations d p = option_map_or (λ t. body_locations (call_depth d) d t.scope [] t.process.body []) (thread d p) []
+locations d p = option_map_or (λ t. body_locations (suc (call_depth d.spec)) d t.scope [] t.process.body []) (thread d p) []
 
 -- the number of a process's end; its start is 0
 abbrev pub end_number : DesignTree → ℕ → ℕ

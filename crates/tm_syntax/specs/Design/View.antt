@@ -2,7 +2,7 @@
 use Rattle.std.specs.Prelude.{map}
 use Rattle.tm_syntax.specs.declared.design.Design.{Design}
 use Rattle.tm_syntax.specs.Design.{DesignTree, instance_node}
-use Rattle.tm_syntax.specs.View.{spec_tree}
+use Rattle.tm_syntax.specs.Tree.View.{spec_tree}
 
 -- a design
 abbrev pub design_tree : Design → DesignTree

@@ -1,11 +1,13 @@
 -- Which tasks may pause: those that hold a location, or call one that does. Their parameters and locals are kept in
 -- the state.
-use Rattle.std.specs.Prelude.{ℕ, zero, suc, Bool, true, false, Option, None, Some, List, [], ◌∷◌, ◌||◌, find, length, sum_by}
-use Rattle.std.specs.Option.{option_and_then, option_map_or}
+use Rattle.std.specs.Prelude.{ℕ, zero, suc, Bool, true, false, Option, None, Some, List, [], ◌∷◌, ◌||◌, ◌&&◌, find, length, sum_by}
+use Rattle.std.specs.Option.{option_map, option_and_then, option_map_or}
 use Rattle.std.specs.List.{list_any}
 use Rattle.tm_syntax.specs.declared.tree.Ident.{Ident}
+use Rattle.tm_syntax.specs.declared.tree.TaskKind.{TaskKind}
+use Rattle.tm_syntax.specs.declared.tree.TaskKind.TheVariants.{Controllable, Uncontrollable}
 use Rattle.tm_syntax.specs.Tree.{ValueTree, star, result, plain, StmtTree, assign, invoke, branch, repeat, forever, choose, assert, assume, pause, wait, magic, StmtRow, nothing, then, BlockRow, nowhere, or_else, BodyTree, TaskTree, TemplateTree, SpecTree}
-use Rattle.tm_syntax.specs.Names.{is_spelled, neighbor_template}
+use Rattle.tm_syntax.specs.Scopes.Names.{is_spelled, last_name, template_along}
 
 -- whether a value is a call of a task that may pause, given which calls may
 abbrev pub value_pauses : (List Ident → Bool) → ValueTree → Bool
@@ -36,12 +38,11 @@ abbrev mutual
   block_pauses called nowhere = false
   block_pauses called (or_else first others) = row_pauses called first || block_pauses called others
 
--- the task that a path leads to from a template, with the template that declares it
+-- the task or procedure that a path leads to from a template, with the template that declares it
 abbrev pub task_reached : SpecTree → TemplateTree → List Ident → Option (TemplateTree × TaskTree)
-task_reached spec t [] = None
-task_reached spec t (name ∷ []) = option_and_then (λ k. Some (t, k)) (find (λ k. is_spelled name.text k.name) t.tasks)
-task_reached spec t (name ∷ next ∷ path) =
-    option_and_then (λ n. task_reached spec n (next ∷ path)) (neighbor_template spec t name.text)
+task_reached spec t path =
+    option_and_then (λ u. option_map (λ k. (u, k)) (find (λ k. is_spelled (last_name path) k.name) u.tasks))
+    (template_along spec t path)
 
 -- whether a body holds a location or a call that may pause, where calls nest at most so deep
 abbrev pub body_pauses : ℕ → SpecTree → TemplateTree → BodyTree → Bool
@@ -53,6 +54,24 @@ body_pauses (suc depth) spec t body =
     || list_any (stmt_pauses
     (λ path. option_map_or (λ k. body_pauses depth spec k.0 k.1.body) (task_reached spec t path) false)) body.stmts
 
--- whether a task may pause: no body reaches itself by calls, so calls nest at most as deep as there are bodies
+-- how deep calls nest at most: no body reaches itself by calls
+abbrev pub call_depth : SpecTree → ℕ
+call_depth spec = sum_by (λ t. length t.tasks) spec.templates
+
+-- whether a task may pause
 abbrev pub may_pause : SpecTree → TemplateTree → TaskTree → Bool
-may_pause spec t task = body_pauses (sum_by (λ u. length u.tasks) spec.templates) spec t task.body
+may_pause spec t task = body_pauses (call_depth spec) spec t task.body
+
+-- whether the driver may call a task
+abbrev pub is_controllable : TaskKind → Bool
+is_controllable Controllable = true
+is_controllable _ = false
+
+-- whether a task is the environment's own
+abbrev pub is_uncontrollable : TaskKind → Bool
+is_uncontrollable Uncontrollable = true
+is_uncontrollable _ = false
+
+-- whether the parameters and locals of a task are kept in the state: it is uncontrollable and may pause
+abbrev pub is_kept : SpecTree → TemplateTree → TaskTree → Bool
+is_kept spec t task = is_uncontrollable task.kind && may_pause spec t task

@@ -7,7 +7,7 @@ use Rattle.tm_syntax.specs.Design.{DesignTree}
 use Rattle.tm_sem.specs.declared.state.Outcome.{Outcome}
 use Rattle.tm_sem.specs.declared.state.Outcome.TheVariants as outcomes
 use Rattle.tm_sem.specs.Value.{plain_memory}
-use Rattle.tm_sem.specs.Locations.{location_number, end_number}
+use Rattle.tm_syntax.specs.Design.Locations.{location_number, end_number}
 use Rattle.tm_sem.specs.Run.{Ending, stopped, finished, failed, blocked, Progress, goes_on, comes_to}
 
 -- the end of a run that leaves these values

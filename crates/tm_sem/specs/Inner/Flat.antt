@@ -4,10 +4,12 @@ use Rattle.std.specs.List.{AllByRecursion}
 use Rattle.tm_base.specs.declared.place.Place.{Place}
 use Rattle.tm_syntax.specs.Tree.{StmtTree, magic}
 use Rattle.tm_syntax.specs.Design.{DesignTree}
-use Rattle.tm_syntax.specs.Small.{IsSmallStmt}
-use Rattle.tm_sem.specs.Scope.{BodyName, Scope, main_scope, Called}
-use Rattle.tm_sem.specs.Run.{perform, body_items}
-use Rattle.tm_sem.specs.Locations.{Location, locations, rest}
+use Rattle.tm_syntax.specs.Design.Small.{IsSmallStmt}
+use Rattle.tm_syntax.specs.Design.Cells.{Called}
+use Rattle.tm_syntax.specs.Design.Scope.{Scope, main_scope}
+use Rattle.tm_syntax.specs.Scopes.Context.{BodyName}
+use Rattle.tm_syntax.specs.Design.Work.{perform, body_items}
+use Rattle.tm_syntax.specs.Design.Locations.{Location, locations, rest}
 use Rattle.tm_sem.specs.declared.state.Move.{Move}
 use Rattle.tm_sem.specs.State.{StateData}
 use Rattle.tm_sem.specs.Step.{task_of, work, memory_of}

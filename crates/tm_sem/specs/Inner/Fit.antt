@@ -2,7 +2,7 @@
 use Rattle.std.specs.Prelude.{◌≡◌, ℕ, ◌+◌, ◌<◌, ◌≤◌, List, length, slice_index, All}
 use Rattle.tm_syntax.specs.Design.{DesignTree}
 use Rattle.tm_sem.specs.State.{StateData}
-use Rattle.tm_sem.specs.Locations.{end_number}
+use Rattle.tm_syntax.specs.Design.Locations.{end_number}
 
 -- each value is 0 or 1
 abbrev pub AreTruths : List ℕ → Type 0
