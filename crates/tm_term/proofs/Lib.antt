@@ -1,5 +1,4 @@
 pub mod Growth
 pub mod Kept
 pub mod Operands
-pub mod Powers
 pub mod Valued

@@ -1,8 +1,8 @@
 -- The value of an id over the values of its parts, and what becomes of it when a term is added.
-use Rattle.std.proofs.Common.{◌≡◌, ◌≢◌, ⊎_elim, get_or-set_other, get_or-set_same, ℕ, zero, suc, ◌+◌, ◌-◌, ◌*◌, ◌^◌, ◌<◌, ◌≤◌, Bool, true, false, List, Some, length, refl, sym, ap, ◌∙◌, arith}
-use Rattle.std.specs.Prelude.{slice_index, slice_set, ◌==◌, nat_lt, if◌then◌else◌}
+use Rattle.std.proofs.Common.{◌≡◌, ◌≢◌, ⊎_elim, get_or-set_other, get_or-set_same, ℕ, zero, suc, ◌+◌, ◌^◌, ◌<◌, ◌≤◌, List, Some, length, refl, sym, ap, ◌∙◌, arith}
+use Rattle.std.specs.Prelude.{slice_index, slice_set}
 use Rattle.std.proofs.lemmas.Bool.{cases_lt}
-use Rattle.std.proofs.lemmas.Nat.{pow_pos, or_lt, xor_lt, and_le_l, shr_le, mod_below}
+use Rattle.tm_bits.proofs.Bounds.{resize-below, complement-below, sum-below, difference-below, shift_left-below, shift_right-below, bit_and-below, bit_or-below, bit_xor-below, equal-below, less-below, choice-below}
 use Rattle.tm_term.specs.declared.term.Term.{Term}
 use Rattle.tm_term.specs.declared.term.Term.TheVariants.{Const, Input, Not, And, Or, Xor, Add, Sub, Shl, Shr, Eq, Less, Ite, Resize}
 use Rattle.tm_term.specs.declared.term.TermId.{TermId}
@@ -62,37 +62,30 @@ module _ (t : Table) (values : List ℕ) (sound : IsSound t) where
       (agrees_itself t id.0) has.entry.fits part)
 
 -- ---- a value is below 2 to the width
-bit_below : (b : Bool) → (if b then 1 else 0) < 2 ^ 1
-bit_below true = omega arith
-bit_below false = omega arith
-
-either_below : (b : Bool) (x y m : ℕ) → x < m → y < m → (if b then x else y) < m
-either_below true x y m h k = h
-either_below false x y m h k = k
-
 pub value_over-below : (t : Table) (n : ℕ) (values : List ℕ) (f : TermId → ℕ) (term : Term) → AreInputs t values →
     FitsBelow t n term → ((id : TermId) → id.0 < n → f id < 2 ^ width_of t id) →
     value_over t values f term < 2 ^ term_width t term
 value_over-below t n values f (Const width number) inputs h below = h.1
 value_over-below t n values f (Input i) inputs h below = inputs.in_range i (omega (arith, h, inputs.count))
-value_over-below t n values f (Not a) inputs h below = omega (arith, pow_pos (width_of t a))
-value_over-below t n values f (And a b) inputs h below = omega (arith, below a h.0, and_le_l (f a) (f b))
+value_over-below t n values f (Not a) inputs h below = complement-below (width_of t a) (f a)
+value_over-below t n values f (And a b) inputs h below =
+    bit_and-below (width_of t a) (f a) (f b) (below a h.0)
 value_over-below t n values f (Or a b) inputs h below =
-    or_lt (width_of t a) (f a) (f b) (below a h.0) (rw h.2 (below b h.1))
+    bit_or-below (width_of t a) (f a) (f b) (below a h.0) (rw h.2 (below b h.1))
 value_over-below t n values f (Xor a b) inputs h below =
-    xor_lt (width_of t a) (f a) (f b) (below a h.0) (rw h.2 (below b h.1))
+    bit_xor-below (width_of t a) (f a) (f b) (below a h.0) (rw h.2 (below b h.1))
 value_over-below t n values f (Add a b) inputs h below =
-    mod_below (f a + f b) (2 ^ width_of t a) (pow_pos (width_of t a))
+    sum-below (width_of t a) (f a) (f b)
 value_over-below t n values f (Sub a b) inputs h below =
-    mod_below (f a + (2 ^ width_of t a - f b)) (2 ^ width_of t a) (pow_pos (width_of t a))
+    difference-below (width_of t a) (f a) (f b)
 value_over-below t n values f (Shl a by) inputs h below =
-    mod_below (f a * 2 ^ by) (2 ^ width_of t a) (pow_pos (width_of t a))
-value_over-below t n values f (Shr a by) inputs h below = omega (arith, below a h.0, shr_le (f a) by)
-value_over-below t n values f (Eq a b) inputs h below = bit_below (f a == f b)
-value_over-below t n values f (Less a b) inputs h below = bit_below (nat_lt (f a) (f b))
+    shift_left-below (width_of t a) (f a) by
+value_over-below t n values f (Shr a by) inputs h below = shift_right-below (width_of t a) (f a) by (below a h.0)
+value_over-below t n values f (Eq a b) inputs h below = equal-below (f a) (f b)
+value_over-below t n values f (Less a b) inputs h below = less-below (f a) (f b)
 value_over-below t n values f (Ite c a b) inputs h below =
-    either_below (f c == 1) (f a) (f b) (2 ^ width_of t a) (below a h.2.0) (rw h.2.2 (below b h.2.1))
-value_over-below t n values f (Resize width a) inputs h below = mod_below (f a) (2 ^ width) (pow_pos width)
+    choice-below (width_of t a) (f c) (f a) (f b) (below a h.2.0) (rw h.2.2 (below b h.2.1))
+value_over-below t n values f (Resize width a) inputs h below = resize-below width (f a)
 
 module _ (t : Table) (values : List ℕ) (sound : IsSound t) (inputs : AreInputs t values) where
   value_within-below : (d : ℕ) (id : TermId) → IsKnown t id → id.0 < d → value_within d t values id < 2 ^ width_of t id

@@ -1,6 +1,7 @@
 -- The table of terms: a term of bit-vectors for each id, in the order of the ids.
 -- Terms are shared by ids (hash-consing): a part of a term is the id of an earlier term.
-use Rattle.std.specs.Prelude.{◌≡◌, ℕ, ◌^◌, ◌<◌, ◌≤◌, List, Option, Some, None, length, slice_get, slice_index}
+use Rattle.std.specs.Prelude.{◌≡◌, ℕ, ◌^◌, ◌<◌, List, Option, Some, None, length, slice_get, slice_index}
+use Rattle.tm_bits.specs.Arithmetic.{IsWidth}
 use Rattle.tm_term.specs.declared.term.Term.{Term}
 use Rattle.tm_term.specs.declared.term.Term.TheVariants.{Const, Input, Not, And, Or, Xor, Add, Sub, Shl, Shr, Eq, Less, Ite, Resize}
 use Rattle.tm_term.specs.declared.term.TermId.{TermId}
@@ -35,10 +36,6 @@ term_of t id = term_in (slice_get t.kept id.0)
 -- the width of the term of an id, in bits
 abbrev pub width_of : Table → TermId → ℕ
 width_of t id = width_in (slice_get t.kept id.0)
-
--- a width in bits
-abbrev pub IsWidth : ℕ → Type 0
-IsWidth width = (1 ≤ width) × (width ≤ 64)
 
 -- the two ids are below n, and their terms have one width
 abbrev pub AreAlike : Table → ℕ → TermId → TermId → Type 0

@@ -1,6 +1,6 @@
--- The value of a term over the values of the inputs, as in any text on the theory of fixed-size bit-vectors
--- (SMT-LIB's `QF_BV`): unsigned numbers below 2 ^ width, arithmetic modulo 2 ^ width, unsigned comparison.
-use Rattle.std.specs.Prelude.{◌≡◌, ℕ, zero, suc, ◌+◌, ◌-◌, ◌*◌, ◌/◌, ◌%◌, ◌^◌, ◌<◌, List, Option, Some, None, length, slice_index, bit_and, bit_or, bit_xor, ◌==◌, nat_lt, if◌then◌else◌}
+-- The value of a term over the values of the inputs: unsigned numbers of its width, by the arithmetic of such numbers.
+use Rattle.std.specs.Prelude.{◌≡◌, ℕ, zero, suc, ◌^◌, ◌<◌, List, Option, Some, None, length, slice_index, bit_and, bit_or, bit_xor}
+use Rattle.tm_bits.specs.Arithmetic.{resize, complement, sum, difference, shift_left, shift_right, equal, less, choice}
 use Rattle.tm_term.specs.declared.term.Term.{Term}
 use Rattle.tm_term.specs.declared.term.Term.TheVariants.{Const, Input, Not, And, Or, Xor, Add, Sub, Shl, Shr, Eq, Less, Ite, Resize}
 use Rattle.tm_term.specs.declared.term.TermId.{TermId}
@@ -15,18 +15,18 @@ pub record AreInputs (t : Table) (values : List ℕ) : Type 0 where
 abbrev pub value_over : Table → List ℕ → (TermId → ℕ) → Term → ℕ
 value_over t values value (Const width number) = number
 value_over t values value (Input i) = slice_index values i
-value_over t values value (Not a) = 2 ^ width_of t a - 1 - value a
+value_over t values value (Not a) = complement (width_of t a) (value a)
 value_over t values value (And a b) = bit_and (value a) (value b)
 value_over t values value (Or a b) = bit_or (value a) (value b)
 value_over t values value (Xor a b) = bit_xor (value a) (value b)
-value_over t values value (Add a b) = (value a + value b) % 2 ^ width_of t a
-value_over t values value (Sub a b) = (value a + (2 ^ width_of t a - value b)) % 2 ^ width_of t a
-value_over t values value (Shl a by) = value a * 2 ^ by % 2 ^ width_of t a
-value_over t values value (Shr a by) = value a / 2 ^ by
-value_over t values value (Eq a b) = if value a == value b then 1 else 0
-value_over t values value (Less a b) = if nat_lt (value a) (value b) then 1 else 0
-value_over t values value (Ite c a b) = if value c == 1 then value a else value b
-value_over t values value (Resize width a) = value a % 2 ^ width
+value_over t values value (Add a b) = sum (width_of t a) (value a) (value b)
+value_over t values value (Sub a b) = difference (width_of t a) (value a) (value b)
+value_over t values value (Shl a by) = shift_left (width_of t a) (value a) by
+value_over t values value (Shr a by) = shift_right (value a) by
+value_over t values value (Eq a b) = equal (value a) (value b)
+value_over t values value (Less a b) = less (value a) (value b)
+value_over t values value (Ite c a b) = choice (value c) (value a) (value b)
+value_over t values value (Resize width a) = resize width (value a)
 
 -- the value of the term that an id has, and 0 where it has none
 abbrev pub value_from : Table → List ℕ → (TermId → ℕ) → Option Term → ℕ

@@ -1,7 +1,6 @@
 //! Hash-consed terms of bit-vectors: equal terms get equal ids, and an id is valued over the values of the inputs.
 #![tactic(auto)]
 
-mod arithmetic;
 mod term;
 mod terms;
 

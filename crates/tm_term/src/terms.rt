@@ -1,15 +1,19 @@
 //! The table of terms: it makes them and values them.
 ghost use Rattle.std.specs.Prelude.{◌≡◌, ℕ, ◌+◌, ◌^◌, ◌<◌, ◌≤◌, ◌↔◌, length, slice_index, List, Some, Ok, IfOk, OnErr, IsTrue, All};
-ghost use Rattle.tm_term.specs.Table.{Table, count_of, IsKnown, term_of, width_of, IsWidth, AreAlike, FitsBelow, Fits, term_width, IsSound};
+ghost use Rattle.tm_bits.specs.Arithmetic.{IsWidth};
+ghost use Rattle.tm_term.specs.Table.{Table, count_of, IsKnown, term_of, width_of, AreAlike, FitsBelow, Fits, term_width, IsSound};
 ghost use Rattle.tm_term.specs.Parts.{parts_of, AreBelow, AreOperands};
 ghost use Rattle.tm_term.specs.Value.{AreInputs, AreValues, term_value, value_of, Extends};
 
-use crate::arithmetic::{complement, difference, greatest, low_bits, shifted_up, sum};
 use crate::term::{Parts, Term, TermId};
 use indexmap::IndexMap;
 use std::alloc::{AllocError, Global};
 use std::cell::RefCell;
 use std::marker::Model;
+use tm_bits::{
+    choice, complement, difference, equal, greatest, is_width, less, resize, shift_left,
+    shift_right, sum,
+};
 
 /// A table of terms over inputs of 1 to 64 bits, in which each term stands once (hash-consing, after Ershov 1958).
 ///
@@ -199,18 +203,18 @@ impl Terms {
         match term {
             Term::Const(_, number) => number,
             Term::Input(i) => values[i as usize],
-            Term::Not(a) => complement(x, self.width(a)),
+            Term::Not(a) => complement(self.width(a), x),
             Term::And(..) => x & y,
             Term::Or(..) => x | y,
             Term::Xor(..) => x ^ y,
-            Term::Add(a, _) => sum(x, y, self.width(a)),
-            Term::Sub(a, _) => difference(x, y, self.width(a)),
-            Term::Shl(a, by) => shifted_up(x, by, self.width(a)),
-            Term::Shr(_, by) => x >> by,
-            Term::Eq(..) => u64::from(x == y),
-            Term::Less(..) => u64::from(x < y),
-            Term::Ite(..) => { if x == 1 { y } else { z } }
-            Term::Resize(width, _) => low_bits(x, width),
+            Term::Add(a, _) => sum(self.width(a), x, y),
+            Term::Sub(a, _) => difference(self.width(a), x, y),
+            Term::Shl(a, by) => shift_left(self.width(a), x, by),
+            Term::Shr(_, by) => shift_right(x, by),
+            Term::Eq(..) => equal(x, y),
+            Term::Less(..) => less(x, y),
+            Term::Ite(..) => choice(x, y, z),
+            Term::Resize(width, _) => resize(width, x),
         }
     }
 
@@ -298,13 +302,6 @@ fn make_room(room: &mut RefCell<Vec<u64>>, count: usize) -> Result<(), AllocErro
         room.push(0)?;
     }
     Ok(())
-}
-
-// Whether a number is a width.
-fn is_width(width: u8) -> bool
-    ensures { IsTrue result ↔ IsWidth width }
-{
-    1 <= width && width <= 64
 }
 
 #[cfg(test)]

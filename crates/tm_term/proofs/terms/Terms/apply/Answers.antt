@@ -24,8 +24,14 @@ difference-requires-clause-in_range c =
     rw (are.1, c.width-in-Sub.ensures.width, fits.2)
     (value_of-below t c.args.values.now c.requires.sound c.requires.inputs c.in-Sub.field-1 fits.1)
 
-pub overflow_shr-result : goal.overflow_shr-result
-overflow_shr-result c =
+pub shift_left-requires-clause-by : goal.shift_left-requires-clause-by
+shift_left-requires-clause-by c =
+    let t = c.args.self.now in
+    let fits = subst (Fits t) c.in-Shl.is c.requires.fits in
+    omega (arith, fits.1, (IsWidth-width_of t c.in-Shl.a c.requires.sound fits.0).1)
+
+pub shift_right-requires : goal.shift_right-requires
+shift_right-requires c =
     let t = c.args.self.now in
     let fits = subst (Fits t) c.in-Shr.is c.requires.fits in
     omega (arith, fits.1, (IsWidth-width_of t c.in-Shr.field-0 c.requires.sound fits.0).1)

@@ -1,5 +1,6 @@
 use Rattle.std.proofs.Common.{sym, ap, ◌∙◌, subst}
-use Rattle.tm_term.specs.Table.{width_of, IsWidth, IsSound}
+use Rattle.tm_bits.specs.Arithmetic.{IsWidth}
+use Rattle.tm_term.specs.Table.{width_of, IsSound}
 use Rattle.tm_term.proofs.Growth.{IsWidth-width_of}
 use Rattle.tm_term.proofs.Kept.{width_in-values}
 use Rattle.tm_term.proofs.terms.Terms.width.Goals as goal
