@@ -1,0 +1,8 @@
+//! Writes the generated specifications: a device of n registers, for which drivers of any size can be asked.
+#![tactic(auto)]
+
+mod specification;
+#[cfg(test)]
+mod tests;
+
+pub use specification::{GenError, generate};
