@@ -1,5 +1,5 @@
 -- What the files of `run` tell.
-use Rattle.std.specs.Prelude.{◌≡◌, ℕ, ◌≤◌, Bool, false, Option, Some, Ok, Err, List, length, IsTrue, Contains, ◌∷◌, []}
+use Rattle.std.specs.Prelude.{◌≡◌, ℕ, ◌+◌, ◌≤◌, Bool, false, Option, Some, Ok, Err, List, length, IsTrue, Contains, ◌∷◌, []}
 use Rattle.tm_syntax.specs.Limits.{file_limit}
 use Rattle.tm_base.specs.Count.{Rose, RoseBy}
 use Rattle.tm_base.specs.Files.{IsLonger}

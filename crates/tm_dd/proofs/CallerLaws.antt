@@ -21,26 +21,6 @@ Knows-complement s id known = omega (arith, known, position_of-complement id)
 pub level_of-IsConstant : (s : Table) (id : NodeId) → IsConstant id → level_of s id ≡ s.levels
 level_of-IsConstant s id constant = level_of-constant s id (omega (arith, constant))
 
--- a function and its complement share one kept node: the ids of opposite functions differ by the mark alone
-pub opposites : (s : Table) → IsReduced s → (f g : NodeId) → Knows s f → Knows s g →
-    ((v : ℕ → Bool) → means s f v ≡ not (means s g v)) → f ≡ complement g
-opposites s reduced f g kf kg opposite =
-    reduced.canonical f (complement g) kf (Knows-complement s g kg) (λ v. opposite v ∙ sym (means-complement s g v))
-
--- ids are equal where all lists of one value a level give them the same value
-pub equal_by_lists : (s : Table) → IsReduced s → (f g : NodeId) → Knows s f → Knows s g
-    → ((values : List Bool) → length values ≡ s.levels →
-    means s f (assignment values) ≡ means s g (assignment values)) → f ≡ g
-equal_by_lists s reduced f g kf kg same =
-    reduced.canonical f g kf kg
-    (λ v.
-    let values = map v (range_with_len 0 s.levels) in
-    let agrees : (k : ℕ) → k < s.levels → v k ≡ assignment values k =
-    λ k below. sym (get_or-map-range_with_len v 0 s.levels k k false below (omega arith)) in
-    reduced.independent f kf v (assignment values) (λ k _ below. agrees k below)
-    ∙ same values (length-map-range_with_len v 0 s.levels)
-    ∙ sym (reduced.independent g kg v (assignment values) (λ k _ below. agrees k below)))
-
 -- the laws of constants and complements, for `grind` and `simp`
 pub ruleset laws = (
   means-FALSE,

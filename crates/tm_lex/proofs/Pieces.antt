@@ -49,9 +49,6 @@ pub record IsLexed (text : List ℕ) (start : ℕ) (tokens : List Token) (place 
   pub are : tokens ≡ tokens_behind [] pieces
   pub here : place ≡ place_after (take start text)
 
-pub lexed_none : (text : List ℕ) → IsLexed text 0 [] (record { line = 1; column = 1 })
-lexed_none text = record { pieces = []; fits = omega arith; whole = refl; each = tt; are = refl; here = refl }
-
 module _ {text : List ℕ} {start : ℕ} {tokens : List Token} {place : Place} (lexed : IsLexed text start tokens place)
   where
     -- the text is the pieces and what is left

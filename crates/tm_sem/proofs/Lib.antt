@@ -1,9 +1,14 @@
 pub mod AllowedMoves
 pub mod ArrayWrites
+pub mod Certified
+pub mod Counting
 pub mod Determined
+pub mod Extending
 pub mod Firsts
 pub mod Flats
 pub mod Runs
 pub mod Small
 pub mod SmallBodies
+pub mod Turns
 pub mod ValidStates
+pub mod Winning

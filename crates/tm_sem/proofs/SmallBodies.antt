@@ -139,11 +139,6 @@ process_body_of d h p x is =
       short = small.short;
     }
 
--- a number of no process has no statements
-pub no_process_body : (d : DesignTree) (p : ℕ) → thread d p ≡ None → IsProcessBody d p []
-no_process_body d p none =
-    record { body = process_body 0; locations = rw none refl; rest = rw none refl; is_small = tt; short = omega arith }
-
 -- what a task does, a process may do
 stmts_of_actions : (ss : List StmtTree) → AllByRecursion IsSmallAction ss → AllByRecursion IsSmallStmt ss
 stmts_of_actions [] small = tt

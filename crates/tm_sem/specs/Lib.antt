@@ -1,8 +1,13 @@
 pub mod ArrayWrite
+pub mod Certificates
+pub mod Fairness
 pub mod First
+pub mod Forcing
 pub mod Inner
+pub mod Loss
 pub mod Play
 pub mod Run
 pub mod State
 pub mod Step
+pub mod Strategy
 pub mod Value

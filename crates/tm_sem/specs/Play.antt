@@ -8,6 +8,7 @@ use Rattle.tm_syntax.specs.Scopes.Context.{outside}
 use Rattle.tm_syntax.specs.Design.{DesignTree}
 use Rattle.tm_syntax.specs.Design.Scope.{site}
 use Rattle.tm_sem.specs.declared.state.Move.{Move}
+use Rattle.tm_sem.specs.declared.state.Move.TheVariants.{Stutter}
 use Rattle.tm_sem.specs.declared.state.Outcome.TheVariants.{Next}
 use Rattle.tm_sem.specs.State.{StateData}
 use Rattle.tm_sem.specs.Value.{holds_in}
@@ -53,6 +54,15 @@ pub record Entry : Type 0 where
 abbrev pub StepsAlong : DesignTree → StateData → List Entry → Type 0
 StepsAlong d s [] = Unit {0}
 StepsAlong d s (e ∷ es) = Step d s e.move e.choices (Next e.state) × StepsAlong d e.state es
+
+-- the last state of a play
+abbrev pub last_state : StateData → List Entry → StateData
+last_state s [] = s
+last_state s (e ∷ es) = last_state e.state es
+
+-- a step in which time passes
+abbrev pub stutter : StateData → Entry
+stutter s = record { move = Stutter; choices = []; state = record s { last = 0 } }
 
 -- a play: an initial state and steps from it
 pub record IsPlay (d : DesignTree) (first : StateData) (entries : List Entry) : Type 0 where

@@ -1,7 +1,7 @@
 //! The plain meaning of a design: its states, the moves of its actors, and the steps that they make.
 #![tactic(auto)]
 
-ghost use Rattle.std.specs.Prelude.{◌≡◌, ℕ, List, [], ◌∷◌};
+ghost use Rattle.std.specs.Prelude.{◌≡◌, ◌<◌, ◌≤◌, ℕ, suc, List, [], ◌∷◌, ◌++◌, length};
 ghost use Rattle.tm_syntax.specs.Design.{DesignTree, IsDesign};
 ghost use Rattle.tm_sem.specs.declared.state.Move.{Move};
 ghost use Rattle.tm_sem.specs.declared.state.Move.TheVariants.{Process};
@@ -11,6 +11,11 @@ ghost use Rattle.tm_sem.specs.ArrayWrite.{array_design, array_start, last_writte
 ghost use Rattle.tm_sem.specs.State.{StateData};
 ghost use Rattle.tm_sem.specs.First.{IsFirst};
 ghost use Rattle.tm_sem.specs.Step.{IsInitial, Step};
+ghost use Rattle.tm_sem.specs.Play.{Entry, last_state, stutter, IsPlay, pending};
+ghost use Rattle.tm_sem.specs.Fairness.{Rounds, HasRounds};
+ghost use Rattle.tm_sem.specs.Strategy.{IsDriven, states_of, IsSafeAt};
+ghost use Rattle.tm_sem.specs.Loss.{Beats};
+ghost use Rattle.tm_sem.specs.Certificates.{DriverSets, IsGoodMove, MeetsDriver, MeetsMoveForm, Level, MeetsEnvironment};
 
 mod bodies;
 mod first;
@@ -51,4 +56,50 @@ pub fn writes_past_the_end_are_errors()
     ensures within { Step array_design array_start (Process 0) (2 ∷ []) (Next last_written) }
     ensures past_the_end { Step array_design array_start (Process 0) (3 ∷ []) Error }
     ensures no_value { Step array_design array_start (Process 0) (4 ∷ []) NoOutcome }
+{}
+
+/// Every play can be extended: a stutter is always a step.
+#[tactic(auto, using(crate::proofs::Extending::extended))]
+pub fn plays_can_be_extended()
+    ensures { (d : DesignTree) (first : StateData) (entries : List Entry) → IsPlay d first entries
+        → IsPlay d first (entries ++ stutter (last_state first entries) ∷ []) }
+{}
+
+/// The rounds of a stretch are as many parts of it as there can be, one behind the other, of which each meets every
+/// fairness condition.
+#[tactic(auto, using(crate::proofs::Counting::rounds_are_parts, crate::proofs::Counting::rounds_are_most))]
+pub fn rounds_are_the_most_parts()
+    ensures parts { (d : DesignTree) (n : ℕ) (stretch : List StateData) → Rounds d n stretch → HasRounds d n stretch }
+    ensures most { (d : DesignTree) (n k : ℕ) (stretch : List StateData) → Rounds d n stretch → HasRounds d k stretch
+        → k ≤ n }
+{}
+
+/// What the environment forces in some steps it forces in one more.
+#[tactic(auto, using(crate::proofs::Winning::one_step_more))]
+pub fn more_steps_keep_a_win()
+    ensures { (d : DesignTree) (t : ℕ) (before : List StateData) (s : StateData) (n : ℕ) → Beats d t before s n
+        → Beats d (suc t) before s n }
+{}
+
+/// A driver with a certificate meets no error and makes no forbidden move, in any play that it drives.
+#[tactic(auto, using(crate::proofs::Certified::certified_is_safe))]
+pub fn certified_drivers_are_safe()
+    ensures { (d : DesignTree) (answers : StateData → ℕ → Move) (c : DriverSets) → IsDesign d
+        → MeetsDriver d (λ s g move. answers s g ≡ move) c → (first : StateData) (entries : List Entry)
+        → IsDriven d (λ s g move. answers s g ≡ move) first entries
+        → IsSafeAt d (λ s g move. answers s g ≡ move) (last_state first entries)
+        (pending d (states_of first entries)) }
+{}
+
+/// Where sets are a certificate of some strategy, their good moves are one.
+#[tactic(auto, using(crate::proofs::Certified::good_moves_are_certified))]
+pub fn good_moves_are_certified()
+    ensures { (d : DesignTree) (c : DriverSets) → MeetsMoveForm d c
+        → MeetsDriver d (λ s g move. IsGoodMove d c g s move) c }
+{}
+
+/// A certificate of the environment has a level.
+#[tactic(auto, using(crate::proofs::Certified::has_level))]
+pub fn environment_certificates_have_levels()
+    ensures { (d : DesignTree) (levels : List Level) → MeetsEnvironment d levels → 0 < length levels }
 {}

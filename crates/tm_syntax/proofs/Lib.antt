@@ -1,3 +1,4 @@
+pub mod Crossings
 pub mod TokenSpans
 pub mod Tokens
 pub mod Views

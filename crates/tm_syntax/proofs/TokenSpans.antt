@@ -59,14 +59,3 @@ no_more front (p ∷ ps) rest each =
       length-append (option_to_list (token_behind front p)) (tokens_behind (front ++ p.bytes) ps),
       length-append p.bytes (bytes_of ps),
     )
-
--- a text has no more tokens than bytes
-pub length-tokens : (text : List ℕ) (tokens : List Token) → AreTokens text tokens → length tokens ≤ length text
-length-tokens text tokens h =
-    omega (
-      arith,
-      ap length h.are,
-      no_more [] h.pieces [] h.split.each,
-      ap length h.split.whole,
-      length-append (bytes_of h.pieces) [],
-    )

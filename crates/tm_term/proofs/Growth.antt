@@ -63,25 +63,6 @@ pub IsWidth-width_of : (t : Table) (id : TermId) → IsSound t → IsKnown t id 
 IsWidth-width_of t id sound known = (has_known t id sound known).1.entry.in_range
 
 -- ---- more ids
-AreAlike-more : (t : Table) (n m : ℕ) (a b : TermId) → n ≤ m → AreAlike t n a b → AreAlike t m a b
-AreAlike-more t n m a b le h = (omega (arith, h.0), omega (arith, h.1), h.2)
-
-pub FitsBelow-more : (t : Table) (n m : ℕ) (term : Term) → n ≤ m → FitsBelow t n term → FitsBelow t m term
-FitsBelow-more t n m (Const width number) le h = h
-FitsBelow-more t n m (Input i) le h = h
-FitsBelow-more t n m (Not a) le h = omega arith
-FitsBelow-more t n m (And a b) le h = AreAlike-more t n m a b le h
-FitsBelow-more t n m (Or a b) le h = AreAlike-more t n m a b le h
-FitsBelow-more t n m (Xor a b) le h = AreAlike-more t n m a b le h
-FitsBelow-more t n m (Add a b) le h = AreAlike-more t n m a b le h
-FitsBelow-more t n m (Sub a b) le h = AreAlike-more t n m a b le h
-FitsBelow-more t n m (Shl a by) le h = (omega (arith, h.0), h.1)
-FitsBelow-more t n m (Shr a by) le h = (omega (arith, h.0), h.1)
-FitsBelow-more t n m (Eq a b) le h = AreAlike-more t n m a b le h
-FitsBelow-more t n m (Less a b) le h = AreAlike-more t n m a b le h
-FitsBelow-more t n m (Ite c a b) le h = (omega (arith, h.0), h.1, AreAlike-more t n m a b le h.2)
-FitsBelow-more t n m (Resize width a) le h = (h.0, omega (arith, h.1))
-
 -- ---- a second table that agrees with the first below n
 pub record Agrees (t u : Table) (n : ℕ) : Type 0 where
   pub inputs : u.inputs ≡ t.inputs

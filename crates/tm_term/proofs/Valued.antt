@@ -139,10 +139,6 @@ module _ (t : Table) (term : Term) (sound : IsSound t) where
       (agrees-added t term (count_of t) (omega arith)) fits (value_of-added_old values)
 
 -- ---- extension is an order
-pub extends_itself : (t : Table) → Extends t t
-extends_itself t = record
-    { inputs = refl; known = λ id k. k; terms = λ id k. refl; widths = λ id k. refl; values = λ v id k. refl }
-
 pub Extends-trans : (t u v : Table) → Extends t u → Extends u v → Extends t v
 Extends-trans t u v first second =
     record {

@@ -32,8 +32,10 @@ abbrev mutual
   row_crosses called (then first others) = stmt_crosses called first || row_crosses called others
 
   pub blocks_cross : (List Ident → Bool) → BlockRow → Bool
-  blocks_cross called nowhere = true
-  blocks_cross called (or_else first others) = row_crosses called first && blocks_cross called others
+  blocks_cross called nowhere = false
+  blocks_cross called (or_else last nowhere) = row_crosses called last
+  blocks_cross called (or_else first (or_else next others)) =
+      row_crosses called first && blocks_cross called (or_else next others)
 
 -- whether a body is sure to cross, where calls nest at most so deep
 abbrev pub body_crosses : ℕ → SpecTree → TemplateTree → BodyTree → Bool
