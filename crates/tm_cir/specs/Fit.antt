@@ -40,11 +40,11 @@ declared_task d item =
 abbrev pub parameter_count : DesignTree → ℕ → Option ℕ
 parameter_count d task = option_map (λ t. length t.params) (option_and_then (declared_task d) (slice_get d.tasks task))
 
--- a later block than the one at this place
+-- a later block than the one of this number
 abbrev pub IsLater : ℕ → ℕ → ℕ → Type 0
 IsLater at count target = (at < target) × (target < count)
 
--- a block fits a design at its place among so many
+-- a block of this number fits a design, where there are so many
 abbrev pub FitsBlock : DesignTree → ℕ → ℕ → BlockTree → Type 0
 FitsBlock d count at (test t first second) =
     FitsTruth (length d.vars) (length d.processes) t × IsLater at count first × IsLater at count second
@@ -54,7 +54,7 @@ FitsBlock d count at (call task args) =
 FitsBlock d count at (leave p) = p < length d.processes
 FitsBlock d count at idle = Unit {0}
 
--- the blocks fit a design: there is one, and each fits at its place
+-- the blocks fit a design: there is one, and each fits under its number
 pub record FitBlocks (d : DesignTree) (bs : List BlockTree) : Type 0 where
   pub some : 0 < length bs
   pub each : (at : ℕ) (b : BlockTree) → slice_get bs at ≡ Some b → FitsBlock d (length bs) at b

@@ -159,7 +159,7 @@ IsNew d levels k l s = IsIn d l.set s × (level_before levels k s ≡ false)
 abbrev pub either : (StateData → Bool) → (StateData → Bool) → StateData → Bool
 either a b s = a s || b s
 
--- the set of a chain before the one at this place, from 0
+-- the set of a chain before the one of this index
 abbrev pub set_before : List (StateData → Bool) → ℕ → StateData → Bool
 set_before chain zero = nowhere
 set_before chain (suc x) = option_map_or (λ set. set) (slice_get chain x) nowhere
@@ -201,8 +201,8 @@ E4 d levels =
     (k : ℕ) (l : Level) (s : StateData) → slice_get levels k ≡ Some l → IsNew d levels k l s →
     Forced d (IsIn d l.set) s
 
--- at a new state the condition of a chain holds, or the state can be forced into the set before its place in the chain,
--- or the level before
+-- at a new state the condition of a chain holds, or the state can be forced into the set before the first of the chain
+-- that holds it, or the level before
 abbrev pub E5 : DesignTree → List Level → Type 0
 E5 d levels =
     (k i : ℕ) (l : Level) (chain : List (StateData → Bool)) (s : StateData) → slice_get levels k ≡ Some l →

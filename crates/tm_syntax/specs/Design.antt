@@ -132,7 +132,7 @@ instance_vars spec i =
     ++ flat_map (process_vars i.0 i.1.path) t.processes
     ++ flat_map (task_vars spec t i.0 i.1.path) t.tasks) (template_of spec i.1)
 
--- the items of one sort of an instance: those of its template that count, by their places there
+-- the items of one sort of an instance: those of its template that count, by their indices there
 abbrev pub instance_items : {X : Type 0} → (TemplateTree → List X) → (X → Bool) → (X → Ident) → SpecTree →
     ℕ × InstanceNode → List Item
 instance_items sort counts name spec i =

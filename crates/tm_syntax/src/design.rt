@@ -32,7 +32,7 @@ pub struct Var {
     pub instance: u32,
 }
 
-/// A process, a controllable task, a goal or a fairness condition: its place in its template, or none
+/// A process, a controllable task, a goal or a fairness condition: its index in its template, or none
 /// for the goal that a design without goals gets.
 #[derive(Drop)]
 pub struct Item {

@@ -34,7 +34,7 @@ template_number spec name = position (λ t. is_spelled name t.name) spec.templat
 abbrev pub template_named : SpecTree → List ℕ → Option TemplateTree
 template_named spec name = find (λ t. is_spelled name t.name) spec.templates
 
--- the place of a constant in its enum, from 0
+-- the value of a constant: its index in its enum
 abbrev pub constant_value : SpecTree → List ℕ → Option ℕ
 constant_value spec name = slice_get (filter_map (λ e. position (is_spelled name) e.constants) spec.enums) 0
 
