@@ -3,13 +3,10 @@
 pub use Rattle.tm_dd.proofs.Extended.{Extends-refl, Extends-trans}
 pub use Rattle.tm_dd.proofs.Meaning.{means-FALSE, means-TRUE, means-complement, level_of-complement}
 pub use Rattle.tm_dd.proofs.NodeIdLemmas.{same_number, complement-complement}
-use Rattle.std.proofs.Common.{◌≡◌, ℕ, ◌<◌, Bool, false, not, List, length, map, ◌∙◌, sym, arith}
-use Rattle.std.proofs.lemmas.List.FromFn.{length-map-range_with_len, get_or-map-range_with_len}
-use Rattle.std.specs.List.{range_with_len}
+use Rattle.std.proofs.Common.{◌≡◌, arith}
 use Rattle.tm_dd.specs.declared.node.NodeId.{NodeId}
 use Rattle.tm_dd.specs.NodeId.{complement, IsConstant}
-use Rattle.tm_dd.specs.Reduced.{IsReduced}
-use Rattle.tm_dd.specs.Table.{Table, Knows, level_of, means, assignment}
+use Rattle.tm_dd.specs.Table.{Table, Knows, level_of, means}
 use Rattle.tm_dd.proofs.Meaning.{level_of-constant}
 use Rattle.tm_dd.proofs.NodeIdLemmas.{position_of-complement}
 

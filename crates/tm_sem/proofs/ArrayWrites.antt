@@ -1,7 +1,7 @@
 -- What the design that writes to an element of an array does.
-use Rattle.std.proofs.Common.{◌≡◌, List, [], ◌∷◌, refl, arith}
+use Rattle.std.proofs.Common.{[], ◌∷◌, refl, arith}
 use Rattle.std.proofs.lemmas.Fmt.{decimal_digit}
-use Rattle.tm_syntax.specs.Design.{IsDesign, AreInstances, subtree, none_left}
+use Rattle.tm_syntax.specs.Design.{IsDesign, subtree, none_left}
 use Rattle.tm_sem.specs.declared.state.Move.TheVariants.{Process}
 use Rattle.tm_sem.specs.declared.state.Outcome.TheVariants.{Next, Error, NoOutcome}
 use Rattle.tm_sem.specs.ArrayWrite.{place_at, array_design, array_start, last_written}

@@ -1,18 +1,17 @@
 -- A driver with a certificate stays in its region, errs nowhere, and makes allowed moves alone.
-use Rattle.std.proofs.Common.{◌≡◌, ℕ, ◌+◌, ◌<◌, ◌≤◌, Bool, true, false, Option, None, Some, List, [], ◌∷◌, ◌⊎◌, inl, inr, ⊎_elim, refl, sym, ◌∙◌, subst, arith, length}
-use Rattle.std.specs.Prelude.{nat_lt, slice_get, if◌then◌else◌}
+use Rattle.std.proofs.Common.{◌≡◌, ℕ, ◌+◌, ◌<◌, Bool, true, false, List, [], ◌∷◌, inl, ⊎_elim, refl, arith, length}
+use Rattle.std.specs.Prelude.{nat_lt, if◌then◌else◌}
 use Rattle.std.specs.List.{fold}
-use Rattle.std.proofs.lemmas.Bool.{cases_Bool}
 use Rattle.std.proofs.lemmas.Bool.Decides.{nat_tests}
 use Rattle.tm_syntax.specs.declared.design.Item.{Item}
 use Rattle.tm_syntax.specs.Design.{DesignTree, IsDesign, with_goal}
 use Rattle.tm_sem.specs.declared.state.Move.{Move}
-use Rattle.tm_sem.specs.declared.state.Outcome.TheVariants.{Next, Error, NoOutcome}
+use Rattle.tm_sem.specs.declared.state.Outcome.TheVariants.{Next, Error}
 use Rattle.tm_sem.specs.State.{StateData}
 use Rattle.tm_sem.specs.Step.{Step, is_driver_move, is_driver_turn}
-use Rattle.tm_sem.specs.Play.{Entry, StepsAlong, last_state, goal_holds, next_goal, pending_at, pending}
-use Rattle.tm_sem.specs.Strategy.{AreAnswered, IsDriven, states_of, IsSafeAt}
-use Rattle.tm_sem.specs.Certificates.{DriverSets, RankedSet, IsIn, IsMade, AreRanked, no_answer, IsGoodMove, MeetsDriver, MeetsMoveForm, Level, IsNew, MeetsEnvironment}
+use Rattle.tm_sem.specs.Play.{Entry, StepsAlong, last_state, goal_holds, next_goal, pending_at}
+use Rattle.tm_sem.specs.Strategy.{AreAnswered, states_of, IsSafeAt}
+use Rattle.tm_sem.specs.Certificates.{DriverSets, IsIn, IsGoodMove, MeetsDriver, MeetsMoveForm}
 use Rattle.tm_sem.proofs.Turns.{at_turn}
 
 -- a design has a goal
@@ -42,14 +41,14 @@ pending_below d g s some below = of_test (goal_holds d s g)
 module _ (d : DesignTree) (answers : StateData → ℕ → Move → Type 0) (c : DriverSets)
     (meets : MeetsDriver d answers c) (some : 0 < length d.goals) where
   -- a step of a driven play stays in the region
-  stays : (s t : StateData) (g : ℕ) (move : Move) (choices : List ℕ) → g < length d.goals → IsIn d c.region s →
+  pub stays : (s t : StateData) (g : ℕ) (move : Move) (choices : List ℕ) → g < length d.goals → IsIn d c.region s →
       (is_driver_move move ≡ true → answers s g move) → Step d s move choices (Next t) → IsIn d c.region t
   stays s t g move choices below here answered step = of_mover (is_driver_move move) refl
     where
       of_mover : (b : Bool) → is_driver_move move ≡ b → IsIn d c.region t
       of_mover true is =
           let kept = (meets.c4 s g move here below (at_turn d s choices (Next t) (λ same. cc) move is step)
-              (answered is)).1 in
+          (answered is)).1 in
           kept.ends_within choices t step
       of_mover false is = (meets.c3 s here move is).ends_within choices t step
 
@@ -82,15 +81,6 @@ module _ (d : DesignTree) (answers : StateData → ℕ → Move → Type 0) (c :
       (stays s e.state (pending_at d g s) e.move e.choices (pending_below d g s some below) here answered.0 steps.0)
       steps.1 answered.1
 
--- driven plays of a strategy with a certificate are safe
-pub certified_is_safe : (d : DesignTree) (answers : StateData → ℕ → Move) (c : DriverSets) → IsDesign d →
-    MeetsDriver d (λ s g move. answers s g ≡ move) c → (first : StateData) (entries : List Entry) →
-    IsDriven d (λ s g move. answers s g ≡ move) first entries →
-    IsSafeAt d (λ s g move. answers s g ≡ move) (last_state first entries) (pending d (states_of first entries))
-certified_is_safe d answers c is meets first entries driven =
-    safe_along d (λ s g move. answers s g ≡ move) c meets (has_goal d is) (λ s g turn. (answers s g, refl)) 0 first
-    entries (has_goal d is) (meets.c1 first driven.play.initial) driven.play.steps driven.answered
-
 -- good moves are a strategy with a certificate
 pub good_moves_are_certified : (d : DesignTree) (c : DriverSets) → MeetsMoveForm d c →
     MeetsDriver d (λ s g move. IsGoodMove d c g s move) c
@@ -109,8 +99,3 @@ good_moves_are_certified d c meets = record {
       (λ is. meets.c6 s t goal ranked move choices here are fails fair (inl is) step)
       (λ good. (good.lower ranked are fails fair).ends_within choices t step) made;
 }
-
--- the environment's certificate has a level
-pub has_level : (d : DesignTree) (levels : List Level) → MeetsEnvironment d levels → 0 < length levels
-has_level d [] meets = let wrong : false ≡ true = meets.e1.2.1 in absurd (cc)
-has_level d (l ∷ ls) meets = omega arith

@@ -6,7 +6,7 @@ use Rattle.tm_sem.specs.Fairness.{IsMetAmong, IsCovered, Rounds, unfinished, rou
 
 module _ (d : DesignTree) where
   -- what is met in a part is met in what it is a part of
-  met_behind : (i : ℕ) (front part : List StateData) → IsMetAmong d part i → IsMetAmong d (front ++ part) i
+  pub met_behind : (i : ℕ) (front part : List StateData) → IsMetAmong d part i → IsMetAmong d (front ++ part) i
   met_behind i front part met = (
     front ++ met.0,
     met.1,
@@ -15,7 +15,7 @@ module _ (d : DesignTree) where
     met.4,
   )
 
-  met_before : (i : ℕ) (part rest : List StateData) → IsMetAmong d part i → IsMetAmong d (part ++ rest) i
+  pub met_before : (i : ℕ) (part rest : List StateData) → IsMetAmong d part i → IsMetAmong d (part ++ rest) i
   met_before i part rest met = (
     met.0,
     met.1 ++ rest,

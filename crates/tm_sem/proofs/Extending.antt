@@ -1,5 +1,5 @@
 -- Every play can be extended: time may always pass.
-use Rattle.std.proofs.Common.{◌≡◌, List, [], ◌∷◌, ◌++◌, refl}
+use Rattle.std.proofs.Common.{List, [], ◌∷◌, ◌++◌, refl}
 use Rattle.tm_syntax.specs.Design.{DesignTree}
 use Rattle.tm_sem.specs.declared.state.Move.TheVariants.{Stutter}
 use Rattle.tm_sem.specs.declared.state.Outcome.TheVariants.{Next}
@@ -9,7 +9,7 @@ use Rattle.tm_sem.specs.Run.{finished, none_left}
 use Rattle.tm_sem.specs.Step.{Step}
 use Rattle.tm_sem.specs.Play.{Entry, StepsAlong, last_state, stutter, IsPlay}
 
-time_passes : (d : DesignTree) (s : StateData) → Step d s Stutter [] (Next (record s { last = 0 }))
+pub time_passes : (d : DesignTree) (s : StateData) → Step d s Stutter [] (Next (record s { last = 0 }))
 time_passes d s = record { end = finished (plain_memory s.values); run = none_left refl; outcome = refl }
 
 steps_on : (d : DesignTree) (s : StateData) (entries : List Entry) → StepsAlong d s entries →

@@ -1,6 +1,6 @@
 -- A move of the driver has an outcome at its turn alone.
-use Rattle.std.proofs.Common.{◌≡◌, ◌≢◌, ℕ, ◌+◌, ◌<◌, Bool, true, false, Option, None, Some, List, refl, ◌∙◌, subst, sym, arith, length}
-use Rattle.std.specs.Prelude.{◌&&◌, nat_lt, MatchOption, slice_index}
+use Rattle.std.proofs.Common.{◌≡◌, ◌≢◌, ℕ, ◌+◌, ◌<◌, Bool, true, false, Option, None, Some, List, refl, arith, length}
+use Rattle.std.specs.Prelude.{◌&&◌, nat_lt, MatchOption}
 use Rattle.std.specs.Bool.{then_some}
 use Rattle.std.specs.Option.{option_and_then}
 use Rattle.std.specs.List.{range_with_len}
@@ -50,7 +50,7 @@ module _ (d : DesignTree) (s : StateData) (cs : List ℕ) (o : Outcome) (comes :
       is_driver_turn d s ≡ true
   left_at_turn p w h =
       let found = both (nat_lt p (length d.processes)) (stands_at_magic d s p)
-          (tested (nat_lt p (length d.processes) && stands_at_magic d s p) w h) in
+      (tested (nat_lt p (length d.processes) && stands_at_magic d s p) w h) in
       let below : p < length d.processes = grind (arith, nat_tests, found.0) in
       turn_of_magic d s p below found.1
 

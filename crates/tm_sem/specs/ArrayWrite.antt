@@ -51,7 +51,7 @@ body = record {
   stmts =
       assign (name_at (codes "i") 4 13 ∷ []) None (star (place_at 4 17))
       ∷ assign (name_at (codes "a") 4 20 ∷ []) (Some (path (name_at (codes "i") 4 22 ∷ [])))
-          (plain (number (number_at 9 4 27)))
+      (plain (number (number_at 9 4 27)))
       ∷ pause (place_at 4 30)
       ∷ magic (place_at 4 37)
       ∷ [];

@@ -1,6 +1,6 @@
 -- What a certificate shows, over the steps of a design alone: sets of valid states by which a driver never loses, or by
 -- which the environment always wins (ranks as in Piterman, Pnueli and Sa'ar 2006).
-use Rattle.std.specs.Prelude.{◌≡◌, ℕ, zero, suc, ◌+◌, ◌<◌, ◌≤◌, Bool, true, false, ◌||◌, ◌⊎◌, Some, List, length, slice_get}
+use Rattle.std.specs.Prelude.{◌≡◌, ℕ, zero, suc, ◌+◌, ◌<◌, ◌≤◌, Bool, true, false, ◌||◌, ◌⊎◌, Some, List, [], ◌∷◌, length, max, slice_get}
 use Rattle.std.specs.Option.{option_map_or}
 use Rattle.std.specs.List.{list_any, position_or_len}
 use Rattle.tm_syntax.specs.Design.{DesignTree}
@@ -220,3 +220,13 @@ pub record MeetsEnvironment (d : DesignTree) (levels : List Level) : Type 0 wher
   pub e3 : E3 d levels
   pub e4 : E4 d levels
   pub e5 : E5 d levels
+
+-- the sets of the longest of these chains
+abbrev pub longest_of : List (List (StateData → Bool)) → ℕ
+longest_of [] = 0
+longest_of (chain ∷ chains) = max (length chain) (longest_of chains)
+
+-- the sets of the longest chain of all levels
+abbrev pub longest_chain : List Level → ℕ
+longest_chain [] = 0
+longest_chain (l ∷ ls) = max (longest_of l.chains) (longest_chain ls)

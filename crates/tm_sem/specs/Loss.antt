@@ -15,7 +15,7 @@ pub record IsStarved (d : DesignTree) (states : List StateData) (n : ℕ) : Type
   pub before : List StateData
   pub stretch : List StateData
   pub after : List StateData
-  pub whole : states ≡ before ++ stretch ++ after
+  pub whole : states ≡ before ++ (stretch ++ after)
   pub fails : AllByRecursion (λ s. goal_holds d s goal ≡ false) stretch
   pub rounds : HasRounds d n stretch
 

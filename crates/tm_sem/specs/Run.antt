@@ -1,5 +1,5 @@
 -- A run of work items: what a process does from one location to the next, and what a task does when it is called.
-use Rattle.std.specs.Prelude.{◌≡◌, ℕ, ◌^◌, Option, None, Some, List, [], ◌∷◌, ◌++◌, map, find, length, nat_lt, slice_get, unwrap_or, if◌then◌else◌}
+use Rattle.std.specs.Prelude.{◌≡◌, ℕ, Option, None, Some, List, [], ◌∷◌, ◌++◌, map, nat_lt, slice_get, unwrap_or, if◌then◌else◌}
 use Rattle.std.specs.Option.{option_map, option_and_then, option_map_or, option_to_list}
 use Rattle.std.specs.List.{list_any, zip, fold}
 use Rattle.tm_base.specs.declared.place.Place.{Place}

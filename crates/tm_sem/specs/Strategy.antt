@@ -2,7 +2,7 @@
 use Rattle.std.specs.Prelude.{◌≡◌, ℕ, ◌<◌, true, false, List, [], ◌∷◌, ◌++◌, map, length, slice_index}
 use Rattle.tm_syntax.specs.Design.{DesignTree}
 use Rattle.tm_sem.specs.declared.state.Move.{Move}
-use Rattle.tm_sem.specs.declared.state.Outcome.TheVariants.{Next, Error}
+use Rattle.tm_sem.specs.declared.state.Outcome.TheVariants.{Error}
 use Rattle.tm_sem.specs.State.{StateData}
 use Rattle.tm_sem.specs.Step.{Step, IsAllowed, is_driver_move, is_driver_turn}
 use Rattle.tm_sem.specs.Play.{Entry, IsPlay, last_state, goal_holds, pending, pending_at}
@@ -40,7 +40,7 @@ pub record IsSafeAt (d : DesignTree) (answers : StateData → ℕ → Move → T
 -- each stretch of these states in which goal j is pending and holds nowhere has fewer rounds than the rank of j
 abbrev pub BoundsRounds : DesignTree → List ℕ → List StateData → Type 0
 BoundsRounds d ranks states =
-    (j k : ℕ) (before stretch after : List StateData) → j < length d.goals → states ≡ before ++ stretch ++ after →
+    (j k : ℕ) (before stretch after : List StateData) → j < length d.goals → states ≡ before ++ (stretch ++ after) →
     Waits d j (pending d before) stretch → HasRounds d k stretch → k < slice_index ranks j
 
 -- a good driver: no driven play meets an error or a forbidden move, and none makes the pending goal wait too long

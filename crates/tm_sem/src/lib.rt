@@ -1,7 +1,7 @@
 //! The plain meaning of a design: its states, the moves of its actors, and the steps that they make.
 #![tactic(auto)]
 
-ghost use Rattle.std.specs.Prelude.{◌≡◌, ◌<◌, ◌≤◌, ℕ, suc, List, [], ◌∷◌, ◌++◌, length};
+ghost use Rattle.std.specs.Prelude.{◌≡◌, ◌≤◌, ◌+◌, ◌*◌, ℕ, suc, List, [], ◌∷◌, ◌++◌, length, map};
 ghost use Rattle.tm_syntax.specs.Design.{DesignTree, IsDesign};
 ghost use Rattle.tm_sem.specs.declared.state.Move.{Move};
 ghost use Rattle.tm_sem.specs.declared.state.Move.TheVariants.{Process};
@@ -11,11 +11,11 @@ ghost use Rattle.tm_sem.specs.ArrayWrite.{array_design, array_start, last_writte
 ghost use Rattle.tm_sem.specs.State.{StateData};
 ghost use Rattle.tm_sem.specs.First.{IsFirst};
 ghost use Rattle.tm_sem.specs.Step.{IsInitial, Step};
-ghost use Rattle.tm_sem.specs.Play.{Entry, last_state, stutter, IsPlay, pending};
-ghost use Rattle.tm_sem.specs.Fairness.{Rounds, HasRounds};
-ghost use Rattle.tm_sem.specs.Strategy.{IsDriven, states_of, IsSafeAt};
+ghost use Rattle.tm_sem.specs.Play.{Entry, last_state, stutter, IsPlay};
+ghost use Rattle.tm_sem.specs.Fairness.{conditions, Rounds, HasRounds};
+ghost use Rattle.tm_sem.specs.Strategy.{Good};
 ghost use Rattle.tm_sem.specs.Loss.{Beats};
-ghost use Rattle.tm_sem.specs.Certificates.{DriverSets, IsGoodMove, MeetsDriver, MeetsMoveForm, Level, MeetsEnvironment};
+ghost use Rattle.tm_sem.specs.Certificates.{DriverSets, IsGoodMove, MeetsDriver, MeetsMoveForm, Level, MeetsEnvironment, longest_chain};
 
 mod bodies;
 mod first;
@@ -75,20 +75,17 @@ pub fn rounds_are_the_most_parts()
 {}
 
 /// What the environment forces in some steps it forces in one more.
-#[tactic(auto, using(crate::proofs::Winning::one_step_more))]
 pub fn more_steps_keep_a_win()
     ensures { (d : DesignTree) (t : ℕ) (before : List StateData) (s : StateData) (n : ℕ) → Beats d t before s n
         → Beats d (suc t) before s n }
 {}
 
-/// A driver with a certificate meets no error and makes no forbidden move, in any play that it drives.
-#[tactic(auto, using(crate::proofs::Certified::certified_is_safe))]
-pub fn certified_drivers_are_safe()
+/// A driver with a certificate is good: no play that it drives meets an error or a forbidden move, and any stretch in
+/// which a goal is pending and holds nowhere has fewer rounds than the goal has ranked regions.
+pub fn certified_drivers_are_good()
     ensures { (d : DesignTree) (answers : StateData → ℕ → Move) (c : DriverSets) → IsDesign d
-        → MeetsDriver d (λ s g move. answers s g ≡ move) c → (first : StateData) (entries : List Entry)
-        → IsDriven d (λ s g move. answers s g ≡ move) first entries
-        → IsSafeAt d (λ s g move. answers s g ≡ move) (last_state first entries)
-        (pending d (states_of first entries)) }
+        → MeetsDriver d (λ s g move. answers s g ≡ move) c
+        → Good d (λ s g move. answers s g ≡ move) (map length c.goals) }
 {}
 
 /// Where sets are a certificate of some strategy, their good moves are one.
@@ -98,8 +95,12 @@ pub fn good_moves_are_certified()
         → MeetsDriver d (λ s g move. IsGoodMove d c g s move) c }
 {}
 
-/// A certificate of the environment has a level.
-#[tactic(auto, using(crate::proofs::Certified::has_level))]
-pub fn environment_certificates_have_levels()
-    ensures { (d : DesignTree) (levels : List Level) → MeetsEnvironment d levels → 0 < length levels }
+/// A certificate of the environment shows that the design is lost: for any number of rounds the environment forces an
+/// error or a stretch of so many rounds in which some goal never holds, from an initial state and in a number of steps
+/// that the certificate tells.
+#[tactic(auto, using(crate::proofs::Losing::certified_is_lost))]
+pub fn certified_designs_are_lost()
+    ensures { (d : DesignTree) (levels : List Level) → MeetsEnvironment d levels → (n : ℕ)
+        → (first : StateData) × IsInitial d first
+        × Beats d (length levels * (n * (length (conditions d) * longest_chain levels) + 1)) [] first n }
 {}

@@ -1,5 +1,5 @@
 -- What a name means in a body of a template, by the text alone.
-use Rattle.std.specs.Prelude.{ℕ, Bool, true, Option, None, Some, List, [], ◌∷◌, ◌++◌, map, find, nat_eq, slice_get}
+use Rattle.std.specs.Prelude.{ℕ, Bool, true, Option, None, List, [], ◌∷◌, ◌++◌, map, find, nat_eq, slice_get}
 use Rattle.std.specs.Option.{option_map, option_and_then}
 use Rattle.std.specs.Cmp.Lexicographic.{pointwise}
 use Rattle.tm_syntax.specs.declared.tree.Ident.{Ident}

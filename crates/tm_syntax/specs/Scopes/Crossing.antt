@@ -1,9 +1,9 @@
 -- Which statements are sure to cross a location, whatever the values and choices are.
-use Rattle.std.specs.Prelude.{ℕ, zero, suc, Bool, true, false, List, [], ◌∷◌, ◌||◌, ◌&&◌}
+use Rattle.std.specs.Prelude.{ℕ, zero, suc, Bool, true, false, List, ◌||◌, ◌&&◌}
 use Rattle.std.specs.Option.{option_map_or}
 use Rattle.std.specs.List.{list_any}
 use Rattle.tm_syntax.specs.declared.tree.Ident.{Ident}
-use Rattle.tm_syntax.specs.Tree.{ValueTree, star, result, plain, StmtTree, assign, invoke, branch, repeat, forever, choose, assert, assume, pause, wait, magic, StmtRow, nothing, then, BlockRow, nowhere, or_else, BodyTree, TaskTree, TemplateTree, SpecTree}
+use Rattle.tm_syntax.specs.Tree.{ValueTree, star, result, plain, StmtTree, assign, invoke, branch, repeat, forever, choose, assert, assume, pause, wait, magic, StmtRow, nothing, then, BlockRow, nowhere, or_else, BodyTree, TemplateTree, SpecTree}
 use Rattle.tm_syntax.specs.Scopes.Pauses.{task_reached, call_depth}
 
 -- whether a value is a call of a body that is sure to cross, given which calls are

@@ -1,6 +1,6 @@
 -- Which tasks may pause: those that hold a location, or call one that does. Their parameters and locals are kept in
 -- the state.
-use Rattle.std.specs.Prelude.{ℕ, zero, suc, Bool, true, false, Option, None, Some, List, [], ◌∷◌, ◌||◌, ◌&&◌, find, length, sum_by}
+use Rattle.std.specs.Prelude.{ℕ, zero, suc, Bool, true, false, Option, List, ◌||◌, ◌&&◌, find, length, sum_by}
 use Rattle.std.specs.Option.{option_map, option_and_then, option_map_or}
 use Rattle.std.specs.List.{list_any}
 use Rattle.tm_syntax.specs.declared.tree.Ident.{Ident}

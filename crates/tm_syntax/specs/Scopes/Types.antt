@@ -4,8 +4,7 @@ use Rattle.std.specs.Option.{option_map, option_and_then}
 use Rattle.std.specs.List.{list_any}
 use Rattle.tm_syntax.specs.declared.tree.Ident.{Ident}
 use Rattle.tm_syntax.specs.declared.tree.UnaryOperator.TheVariants.{Complement, Not}
-use Rattle.tm_syntax.specs.declared.tree.BinaryOperator.{BinaryOperator}
-use Rattle.tm_syntax.specs.declared.tree.BinaryOperator.TheVariants.{Add, Subtract, And, AndAlso, Or, OrElse, Xor}
+use Rattle.tm_syntax.specs.declared.tree.BinaryOperator.TheVariants.{Add, Subtract, And, Or, Xor}
 use Rattle.tm_syntax.specs.declared.design.Ty.{Ty}
 use Rattle.tm_syntax.specs.declared.design.Ty.TheVariants as types
 use Rattle.tm_syntax.specs.Tree.{SpecTree, ExprTree, truth, number, path, group, unary, binary, shift, conditional, cast, element}
