@@ -213,6 +213,6 @@ module _ (s : Table) (reduced : IsReduced s) (k : Choice) (known : KnowsChoice s
       first absent)
 
 -- an empty memo notes nothing
-pub nothing_noted : (m : Memo) → m.entries ≡ [] → (k : Choice) → ¬ IsSome (noted m k)
-nothing_noted m empty k h = let found : is_some (lookup (choice_eq k) m.entries) ≡ false =
-    ap (λ es. is_some (lookup (choice_eq k) es)) empty in cc
+pub nothing_noted : (m : Memo) → m.entries ≡ [] → (k : Choice) (id : NodeId) → ¬ (noted m k ≡ Some id)
+nothing_noted m empty k id h =
+    let none : lookup (choice_eq k) m.entries ≡ None = ap (lookup (choice_eq k)) empty in cc
