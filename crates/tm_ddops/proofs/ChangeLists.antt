@@ -35,7 +35,7 @@ lookup-push test (x ∷ xs) p =
     either true = refl
     either false = refl
 
-pub change_of-more : (changes : List (ℕ × Change)) (i : ℕ) (d : ℕ × Change) → i < length changes → (k : ℕ) →
+change_of-more : (changes : List (ℕ × Change)) (i : ℕ) (d : ℕ × Change) → i < length changes → (k : ℕ) →
     change_of (take (i + 1) changes) k
     ≡ (if eqb (get_or changes i d).0 k then first_of (change_of (take i changes) k) (Some (get_or changes i d).1)
     else change_of (take i changes) k)

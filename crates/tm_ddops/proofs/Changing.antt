@@ -73,7 +73,7 @@ module _ (s t : Table) (e : Extends s t) where
   reads_before v k (Some (Becomes part)) b known h = h ∙ e.same_meaning part (known part refl) v
   reads_before v k (Some Quantified) b known h = tt
 
-  pub KnowsParts-Extends : (changes : ℕ → Option Change) → KnowsParts s changes → KnowsParts t changes
+  KnowsParts-Extends : (changes : ℕ → Option Change) → KnowsParts s changes → KnowsParts t changes
   KnowsParts-Extends changes parts k below part h =
       knows-Extends s t e part (parts k (omega (arith, below, e.same_levels)) part h)
 
@@ -190,7 +190,7 @@ module _ (s : Table) (reduced : IsReduced s) (changes : ℕ → Option Change) (
             ∙ low.enough v w may (sym (f_false w (forced v w may ∙ off)) ∙ h));
       }
 
-      pub changed_at_kept : changes (node_of s f).level ≡ None → (id : NodeId) →
+      changed_at_kept : changes (node_of s f).level ≡ None → (id : NodeId) →
           IsFunction s id (λ v. if v (node_of s f).level then means s hi v else means s lo v) → IsChanged s changes f id
       changed_at_kept at id x =
           changed_by_test (λ v. v (node_of s f).level)
@@ -198,7 +198,7 @@ module _ (s : Table) (reduced : IsReduced s) (changes : ℕ → Option Change) (
           (may (node_of s f).level node.below))
           id x
 
-      pub changed_at_part : (part : NodeId) → changes (node_of s f).level ≡ Some (Becomes part) → (id : NodeId) →
+      changed_at_part : (part : NodeId) → changes (node_of s f).level ≡ Some (Becomes part) → (id : NodeId) →
           IsFunction s id (λ v. if means s part v then means s hi v else means s lo v) → IsChanged s changes f id
       changed_at_part part at id x =
           changed_by_test (λ v. means s part v)
@@ -207,7 +207,7 @@ module _ (s : Table) (reduced : IsReduced s) (changes : ℕ → Option Change) (
           id x
 
       -- where any value may be read, one of the branches is enough
-      pub changed_at_quantified : changes (node_of s f).level ≡ Some Quantified → (id : NodeId) →
+      changed_at_quantified : changes (node_of s f).level ≡ Some Quantified → (id : NodeId) →
           IsFunction s id (λ v. means s lo v || means s hi v) → IsChanged s changes f id
       changed_at_quantified at id x = record {
         operand = known;

@@ -12,7 +12,7 @@ use Rattle.tm_ddops.specs.Visited.{AreChanged, SameElsewhere, Visited, found_und
 use Rattle.tm_ddops.proofs.Changing.{IsChanged-Extends, changed_alike}
 use Rattle.tm_ddops.proofs.Walks.{AreChoices-Extends}
 
-pub IsTrueVisit-Extends : (s t : Table) → Extends s t → (lists : List (List (ℕ × Change))) (n : ℕ) (f id : NodeId) →
+IsTrueVisit-Extends : (s t : Table) → Extends s t → (lists : List (List (ℕ × Change))) (n : ℕ) (f id : NodeId) →
     IsTrueVisit s lists n f id → IsTrueVisit t lists n f id
 IsTrueVisit-Extends s t e lists n f id x = record {
   within = x.within;
@@ -42,29 +42,29 @@ module _ (s : Table) (lists more : List (List (ℕ × Change))) (grows : length 
   pub visits_later : (m : Visited) → AreVisits s lists m → AreVisits s more m
   visits_later m are n f id h = visit_later n f id (are n f id h)
 
-  module _ (number : ℕ) (changes : List (ℕ × Change)) (is : get_or more number [] ≡ changes)
-      (table : ℕ → Option Change) (alike : (k : ℕ) → k < s.levels → table k ≡ change_of changes k) where
-    -- what was found under the number was found under its changes
-    pub visits_of_number : (m : Visited) → AreVisits s lists m → AreChanged s table number m
-    visits_of_number m are f id h =
-        changed_alike s (change_of changes) table (λ k below. sym (alike k below)) f id
-        (subst (λ l. IsChanged s (change_of l) f id) is (visit_later number f id (are number f id h)).changed)
+-- ---- a walk under the changes of a number
 
-    -- a walk under the changes of a number leaves true entries
-    pub visits_after : (t : Table) → Extends s t → number < length more → (m n : Visited) → AreVisits s lists m →
-        AreChanged t table number n → SameElsewhere number m n → AreVisits t more n
-    visits_after t e within m n are changed others k f id h = by_number (eqb k number) refl
-      where
-        by_number : (b : Bool) → eqb k number ≡ b → IsTrueVisit t more k f id
-        by_number true same =
-            let at : number ≡ k = sym (eqb-true k number same) in
-            let here : found_under n number f ≡ Some id = ap (λ j. found_under n j f) at ∙ h in
-            subst (λ j. IsTrueVisit t more j f id) at (record {
-              within = within;
-              changed = subst (λ l. IsChanged t (change_of l) f id) (sym is)
-                  (changed_alike t table (change_of changes)
-                  (λ j below. alike j (omega (arith, below, e.same_levels))) f id (changed f id here));
-            })
-        by_number false apart =
-            IsTrueVisit-Extends s t e more k f id
-            (visit_later k f id (are k f id (sym (others k f (eqb-false k number apart)) ∙ h)))
+module _ (s : Table) (lists : List (List (ℕ × Change))) (number : ℕ) (table : ℕ → Option Change)
+    (alike : (k : ℕ) → k < s.levels → table k ≡ numbered lists number k) where
+  -- what was found under the number was found under its changes
+  pub visits_of_number : (m : Visited) → AreVisits s lists m → AreChanged s table number m
+  visits_of_number m are f id h =
+      changed_alike s (numbered lists number) table (λ k below. sym (alike k below)) f id (are number f id h).changed
+
+  -- the walk leaves true entries
+  pub visits_after : (t : Table) → Extends s t → number < length lists → (m n : Visited) → AreVisits s lists m →
+      AreChanged t table number n → SameElsewhere number m n → AreVisits t lists n
+  visits_after t e within m n are changed others k f id h = by_number (eqb k number) refl
+    where
+      by_number : (b : Bool) → eqb k number ≡ b → IsTrueVisit t lists k f id
+      by_number true same =
+          let at : number ≡ k = sym (eqb-true k number same) in
+          let here : found_under n number f ≡ Some id = ap (λ j. found_under n j f) at ∙ h in
+          subst (λ j. IsTrueVisit t lists j f id) at (record {
+            within = within;
+            changed = changed_alike t table (numbered lists number)
+                (λ j below. alike j (omega (arith, below, e.same_levels))) f id (changed f id here);
+          })
+      by_number false apart =
+          IsTrueVisit-Extends s t e lists k f id
+          (are k f id (sym (others k f (eqb-false k number apart)) ∙ h))

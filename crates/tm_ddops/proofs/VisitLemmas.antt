@@ -1,5 +1,5 @@
 -- What walks under changes have found, after one more function.
-use Rattle.std.proofs.Common.{◌≡◌, ℕ, Bool, true, false, ◌&&◌, eqb, if◌then◌else◌, [], Some, None, refl, sym, ap, subst, ◌∙◌}
+use Rattle.std.proofs.Common.{◌≡◌, ℕ, Bool, true, false, ◌&&◌, eqb, if◌then◌else◌, Some, refl, sym, ap, subst, ◌∙◌}
 use Rattle.std.proofs.lemmas.Bool.{eqb-true, ne_eqb}
 use Rattle.std.specs.HashMap.{Updates, IsUnchanged}
 use Rattle.std.specs.Map.{lookup}
@@ -45,17 +45,3 @@ pub elsewhere_insert : (n : ℕ) (f id : NodeId) (old new : Visited) → Updates
 elsewhere_insert n f id old new updates k g apart =
     updates.2 (visit_of k g)
     (ap (λ t. t && (eqb (number_of f) (number_of g))) (ne_eqb n k (λ e. apart (sym e))))
-
-pub elsewhere_unchanged : (n : ℕ) (old new : Visited) → IsUnchanged old new → SameElsewhere n old new
-elsewhere_unchanged n old new e k g apart = ap (lookup (visit_eq (visit_of k g))) e
-
-pub elsewhere_trans : (n : ℕ) (a b c : Visited) → SameElsewhere n a b → SameElsewhere n b c → SameElsewhere n a c
-elsewhere_trans n a b c first second k g apart = second k g apart ∙ first k g apart
-
-pub elsewhere_same : (n : ℕ) (a b c : Visited) → SameElsewhere n a b → c ≡ b → SameElsewhere n a c
-elsewhere_same n a b c first e = subst (SameElsewhere n a) (sym e) first
-
--- an empty map has found nothing
-pub found_nothing_under : (m : Visited) → m.entries ≡ [] → (n : ℕ) (f id : NodeId) → ¬ (found_under m n f ≡ Some id)
-found_nothing_under m empty n f id h =
-    let none : lookup (visit_eq (visit_of n f)) m.entries ≡ None = ap (lookup (visit_eq (visit_of n f))) empty in cc

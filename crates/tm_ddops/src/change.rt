@@ -154,7 +154,7 @@ pub(crate) fn by_level(
 }
 
 /// The levels below `count` down to the deepest that changes: how many there are.
-fn depth(count: u32, changes: &[(u32, Change)]) -> u32
+pub(crate) fn depth(count: u32, changes: &[(u32, Change)]) -> u32
     ensures within { result ≤ count }
     ensures deepest { (k : ℕ) → k < count → result ≤ k → change_of changes.now k ≡ None }
 {

@@ -3,10 +3,10 @@ ghost use Rattle.std.specs.Prelude.{◌≡◌, ◌<◌, ◌≤◌, ℕ, [], IfOk
 ghost use Rattle.tm_dd.specs.Reduced.{Extends, IsReduced};
 ghost use Rattle.tm_dd.specs.Table.{Table, Knows};
 ghost use Rattle.tm_ddops.specs.Changed.{IsChanged, KnowsParts, change_of};
-ghost use Rattle.tm_ddops.specs.Tables.{AreTrue};
+ghost use Rattle.tm_ddops.specs.Tables.{AreTrue, numbered};
 
-use crate::change::{Changes, by_level};
-use crate::rewrite::Walks;
+use crate::change::{Changes, by_level, depth};
+use crate::rewrite::{Visit, Walks};
 use indexmap::IndexSet;
 use std::alloc::{AllocError, Global};
 use std::collections::HashMap;
@@ -74,8 +74,41 @@ impl Tables {
         ensures tables { AreTrue store.new self.new }
         ensures answer { IfOk result (IsChanged store.new (change_of changes) f) }
     {
-        let table = by_level(alloc, store.levels(), changes.as_slice())?;
+        if depth(store.levels(), changes.as_slice()) <= store.level(f) {
+            return Ok(f);
+        }
         let number = self.number(changes)?;
+        let visit = Visit {
+            changes: number,
+            function: f,
+        };
+        if let Some(known) = self.walks.found.get(&visit) {
+            return Ok(*known);
+        }
+        self.walk(alloc, store, f, number)
+    }
+
+    // The same, by a walk under the changes of a number.
+    fn walk(
+        &mut self,
+        alloc: Global,
+        store: &mut Store,
+        f: NodeId,
+        number: usize,
+    ) -> Result<NodeId, AllocError>
+        requires reduced { IsReduced store.old }
+        requires known { Knows store.old f }
+        requires number { number < length self.old.changes.keys }
+        requires parts { KnowsParts store.old (numbered self.old.changes.keys number) }
+        requires tables { AreTrue store.old self.old }
+
+        ensures extends { Extends store.old store.new }
+        ensures reduced { IsReduced store.new }
+        ensures tables { AreTrue store.new self.new }
+        ensures answer { IfOk result (IsChanged store.new (numbered self.old.changes.keys number) f) }
+    {
+        let changes = self.changes.as_slice()[number].as_slice();
+        let table = by_level(alloc, store.levels(), changes)?;
         self.walks.rewrite(store, f, number, &table)
     }
 
