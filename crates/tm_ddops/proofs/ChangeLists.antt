@@ -71,7 +71,8 @@ length-written_back new old n same is =
 -- what no change is at stays so, where the next change is at another level
 pub none_more : (changes : List (ℕ × Change)) (i : ℕ) (d : ℕ × Change) → i < length changes → (k : ℕ) →
     change_of (take i changes) k ≡ None → (get_or changes i d).0 ≢ k → change_of (take (i + 1) changes) k ≡ None
-none_more changes i d within k none apart = change_of-more changes i d within k ∙ by_test (eqb (get_or changes i d).0 k) refl
+none_more changes i d within k none apart =
+    change_of-more changes i d within k ∙ by_test (eqb (get_or changes i d).0 k) refl
   where
     by_test : (b : Bool) → eqb (get_or changes i d).0 k ≡ b →
         (if eqb (get_or changes i d).0 k then first_of (change_of (take i changes) k) (Some (get_or changes i d).1)

@@ -284,7 +284,8 @@ module _ (s t : Table) (e : Extends s t) (reduced : IsReduced t) (changes : ℕ 
       (ap (λ m. changes m.level) (sym node_later) ∙ at) id
       (record {
         known = x.known;
-        meaning = λ v. x.meaning v ∙ (λ i. sym (e.same_meaning lo low.known v) i || sym (e.same_meaning hi high.known v) i);
+        meaning = λ v. x.meaning v
+            ∙ (λ i. sym (e.same_meaning lo low.known v) i || sym (e.same_meaning hi high.known v) i);
       })
 
   pub after_change : (change : Change) → n.level < s.levels → changes n.level ≡ Some change → (id : NodeId) →
@@ -295,7 +296,8 @@ module _ (s t : Table) (e : Extends s t) (reduced : IsReduced t) (changes : ℕ 
 -- a choice of `TRUE` or a function is one of two functions
 pub either_of_choice : (s : Table) (lo hi : NodeId) (v : ℕ → Bool) →
     (if means s lo v then means s TRUE v else means s hi v) ≡ means s lo v || means s hi v
-either_of_choice s lo hi v = ap (λ t. if means s lo v then t else means s hi v) (means-TRUE s v) ∙ by_cases (means s lo v)
+either_of_choice s lo hi v =
+    ap (λ t. if means s lo v then t else means s hi v) (means-TRUE s v) ∙ by_cases (means s lo v)
   where
     by_cases : (b : Bool) → (if b then true else means s hi v) ≡ b || means s hi v
     by_cases true = refl

@@ -12,7 +12,8 @@ use Rattle.tm_ddops.specs.Visited.{Visited, found_under}
 abbrev pub numbered : List (List (ℕ × Change)) → ℕ → ℕ → Option Change
 numbered lists n = change_of (slice_index_or lists n [])
 
--- what was found under changes of a number: the number is one of the list's, and its changes make the id of the function
+-- what was found under changes of a number: the number is one of the list's, and its changes make the id of the
+-- function
 pub record IsTrueVisit (s : Table) (lists : List (List (ℕ × Change))) (n : ℕ) (f id : NodeId) : Type 0 where
   pub within : n < length lists
   pub changed : IsChanged s (numbered lists n) f id

@@ -19,6 +19,7 @@ loop-level-preserved c =
           (λ j h. c.loop-level.invariant.1 j (omega (arith, h, c.loop-level.invariant.0)))
           (λ j h. c.set_first.ensures j (omega (arith, h, c.deref_mut.ensures.len, is))
           ∙ ap (λ xs. if eqb (get_or c.args.changes.now c.loop-level.level-index (0, Becomes FALSE)).0 j
-          then first_of (change_at xs j) (Some (get_or c.args.changes.now c.loop-level.level-index (0, Becomes FALSE)).1)
+          then first_of (change_at xs j)
+          (Some (get_or c.args.changes.now c.loop-level.level-index (0, Becomes FALSE)).1)
           else change_at xs j) c.deref_mut.ensures.value) k (omega (arith, below, c.loop-level.invariant.0)),
     )

@@ -16,7 +16,11 @@ sound g c = manager_extended (diagrams_of c.self.inside) _ c.self.invariant.mana
     c.make.ensures.reduced refl
 
 pub invariant_of-self : goal.invariant_of-self
-invariant_of-self g c = record { manager = sound g c; room = c.self.invariant.room; tables = AreTrue-Extends _ _ c.make.ensures.extends c.self.inside.tables c.self.invariant.tables }
+invariant_of-self g c = record {
+  manager = sound g c;
+  room = c.self.invariant.room;
+  tables = AreTrue-Extends _ _ c.make.ensures.extends c.self.inside.tables c.self.invariant.tables;
+}
 
 pub returns-clause-manager : goal.returns-clause-manager
 returns-clause-manager g c = sound g c
