@@ -2,6 +2,7 @@
 #![tactic(auto)]
 
 mod failure;
+mod mailbox;
 mod mix;
 mod product;
 mod quantify;

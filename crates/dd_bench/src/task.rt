@@ -2,14 +2,17 @@
 ghost use Rattle.std.specs.Prelude.{◌≤◌, IfSome};
 
 use crate::failure::Failure;
+use crate::mailbox::mailbox;
 use crate::mix::mix;
 use crate::product::product;
 use crate::quantify::quantify;
 use crate::queens::queens;
 use std::alloc::Global;
 
-/// The greatest size of a board and the greatest width of a factor.
+/// The greatest size of a board, the greatest width of a factor and the greatest number of registers.
 const MOST: u8 = 16;
+/// The greatest number of rounds of a mailbox.
+const MOST_ROUNDS: u32 = 100_000;
 
 /// What a line asks for.
 #[derive(Clone, Copy)]
@@ -22,6 +25,8 @@ pub enum Task {
     Mix(u64, u32),
     /// Quantification and substitution over the bits of such a product.
     Quantify(u8),
+    /// The fixpoints of a device of so many registers, in so many rounds.
+    Mailbox(u8, u32),
 }
 
 /// A number of at most 16.
@@ -32,8 +37,18 @@ fn small(word: &str) -> Option<u8>
     if number <= MOST { Some(number) } else { None }
 }
 
+/// A number of rounds of a mailbox, of which there are at most 100,000.
+fn few(word: &str) -> Option<u32> {
+    let number = word.parse::<u32>().ok()?;
+    if number <= MOST_ROUNDS {
+        Some(number)
+    } else {
+        None
+    }
+}
+
 impl Task {
-    /// The task of a line: `queens N`, `product W`, `mix SEED ROUNDS` or `quantify W`.
+    /// The task of a line: `queens N`, `product W`, `mix SEED ROUNDS`, `quantify W` or `mailbox N ROUNDS`.
     pub fn from_line(line: &str) -> Option<Task> {
         let mut words = line.split_whitespace();
         let name = words.next()?;
@@ -47,6 +62,7 @@ impl Task {
                 rounds.parse::<u32>().ok()?,
             )),
             ("quantify", None) => Some(Task::Quantify(small(first)?)),
+            ("mailbox", Some(rounds)) => Some(Task::Mailbox(small(first)?, few(rounds)?)),
             _ => None,
         }
     }
@@ -77,6 +93,13 @@ impl Task {
                 format!(in alloc;
                     "quantify {w}: {} {} {}, {} requests",
                     counts.exists, counts.forall, counts.composed, counts.requests
+                )
+            }
+            Task::Mailbox(n, rounds) => {
+                let counts = mailbox(alloc, n, rounds)?;
+                format!(in alloc;
+                    "mailbox {n} {rounds}: {} {}, {} requests",
+                    counts.rounds, counts.sizes, counts.requests
                 )
             }
         };

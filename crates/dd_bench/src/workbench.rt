@@ -123,6 +123,11 @@ impl Workbench {
         self.number(composed)
     }
 
+    /// Whether two functions are the same.
+    pub fn are_same(&self, f: Function, g: Function) -> Result<bool, Failure> {
+        Ok(self.id(f)? == self.id(g)?)
+    }
+
     /// How many ids of inner nodes are reached from a function.
     pub fn size(&self, f: Function) -> Result<u64, Failure> {
         Ok(self.manager.size(self.id(f)?)?)

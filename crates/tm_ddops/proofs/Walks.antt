@@ -1,5 +1,5 @@
 -- What a walk meets and notes.
-use Rattle.std.proofs.Common.{◌≡◌, ◌-◌, ◌<◌, ◌≤◌, ◌⊎◌, inl, inr, Bool, true, false, ◌&&◌, if◌then◌else◌, [], Option, Some, None, IsSome, is_some, Result, Ok, Err, OnErr, Bor, option_copied, refl, sym, ap, subst, ◌∙◌, arith}
+use Rattle.std.proofs.Common.{◌≡◌, ◌-◌, ◌<◌, ◌≤◌, ◌⊎◌, inl, inr, Bool, true, false, ◌&&◌, if◌then◌else◌, Option, Some, None, IsSome, is_some, Result, Ok, Err, OnErr, Bor, option_copied, refl, sym, ap, subst, ◌∙◌, arith}
 use Rattle.std.proofs.lemmas.Bool.{eqb-true}
 use Rattle.std.specs.HashMap.{Updates, IsUnchanged}
 use Rattle.std.specs.Map.{lookup}
@@ -211,8 +211,3 @@ module _ (s : Table) (reduced : IsReduced s) (k : Choice) (known : KnowsChoice s
         choice_level-Extends s t e low (child_known s reduced k low false known open_ is_low),
       ))
       first absent)
-
--- an empty memo notes nothing
-pub nothing_noted : (m : Memo) → m.entries ≡ [] → (k : Choice) → ¬ IsSome (noted m k)
-nothing_noted m empty k h = let found : is_some (lookup (choice_eq k) m.entries) ≡ false =
-    ap (λ es. is_some (lookup (choice_eq k) es)) empty in cc

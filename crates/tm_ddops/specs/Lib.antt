@@ -1,5 +1,6 @@
+pub mod Change
+pub mod Changed
 pub mod Choice
-pub mod Composed
 pub mod Connective
 pub mod Copied
 pub mod Found
@@ -12,3 +13,5 @@ pub mod Parts
 pub mod Quantified
 pub mod Reached
 pub mod Support
+pub mod Tables
+pub mod Visited

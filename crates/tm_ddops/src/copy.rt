@@ -6,9 +6,11 @@ ghost use Rattle.tm_dd.specs.declared.node.NodeId.{NodeId as Id};
 ghost use Rattle.tm_ddops.specs.Copied.{AddsReached, AllReached, AreCopies, IsCopy, MeanTheSame};
 ghost use Rattle.tm_ddops.specs.Manager.{IsManager};
 
-use crate::descent::Descent;
 use crate::manager::{Manager, empty_cache};
+use crate::tables::Tables;
 use std::alloc::{AllocError, Global};
+use std::collections::HashMap;
+use tm_base::Steps;
 use tm_dd::{NodeId, Store};
 
 impl Manager {
@@ -33,6 +35,7 @@ impl Manager {
         roots.copy_from_slice(&new_roots);
         self.store = store;
         self.cache = cache;
+        self.tables = Tables::new(self.alloc);
         Ok(())
     }
 }
@@ -55,41 +58,42 @@ fn copies(
     ensures same { IfOk result (λ ids. MeanTheSame from.now roots.now to.new ids.items) }
     ensures reached { IfOk result (λ ids. AllReached to.new ids.items) }
 {
-    let mut descent = Descent::new(alloc);
+    let mut found = HashMap::new(alloc);
     let mut ids = Vec::new(alloc);
     for root in roots {
-        let id = descent.copy(from, to, *root)?;
+        let id = copied(from, to, *root, &mut found)?;
         ids.push(id)?;
     }
     Ok(ids)
 }
 
-impl Descent {
-    // The copy of `f` from one store in the other.
-    fn copy(&mut self, from: &Store, to: &mut Store, f: NodeId) -> Result<NodeId, AllocError>
-        requires from { IsReduced from.now }
-        requires to { IsReduced to.old }
-        requires levels { to.old.levels ≡ from.now.levels }
-        requires known { Knows from.now f }
-        requires found { AreCopies from.now to.old self.old.found }
+/// The copies that were made, by the ids of their functions.
+type Found = HashMap<NodeId, NodeId>;
 
-        ensures extends { Extends to.old to.new }
-        ensures reduced { IsReduced to.new }
-        ensures found { AreCopies from.now to.new self.new.found }
-        ensures answer { IfOk result (IsCopy from.now to.new f) }
-        ensures reached { IfOk result (AddsReached to.old to.new) }
-    {
-        if f.is_constant() {
-            return Ok(f);
-        }
-        if let Some(known) = self.found.get(&f) {
-            return Ok(*known);
-        }
-        let node = from.node(f);
-        let lo = self.copy(from, to, node.lo)?;
-        let hi = self.copy(from, to, node.hi)?;
-        let id = to.make(node.level, lo, hi, &mut self.steps)?;
-        self.found.insert(f, id)?;
-        Ok(id)
+/// The copy of `f` from one store in the other.
+fn copied(from: &Store, to: &mut Store, f: NodeId, found: &mut Found) -> Result<NodeId, AllocError>
+    requires from { IsReduced from.now }
+    requires to { IsReduced to.old }
+    requires levels { to.old.levels ≡ from.now.levels }
+    requires known { Knows from.now f }
+    requires found { AreCopies from.now to.old found.old }
+
+    ensures extends { Extends to.old to.new }
+    ensures reduced { IsReduced to.new }
+    ensures found { AreCopies from.now to.new found.new }
+    ensures answer { IfOk result (IsCopy from.now to.new f) }
+    ensures reached { IfOk result (AddsReached to.old to.new) }
+{
+    if f.is_constant() {
+        return Ok(f);
     }
+    if let Some(known) = found.get(&f) {
+        return Ok(*known);
+    }
+    let node = from.node(f);
+    let lo = copied(from, to, node.lo, found)?;
+    let hi = copied(from, to, node.hi, found)?;
+    let id = to.make(node.level, lo, hi, &mut Steps::new(()))?;
+    found.insert(f, id)?;
+    Ok(id)
 }

@@ -3,18 +3,20 @@
 
 mod binary;
 mod cache;
+mod change;
 mod choice;
 mod compose;
 mod connective;
 mod copy;
-mod descent;
 mod ite;
 mod least;
 mod manager;
 mod operation;
 mod quantify;
 mod reached;
+mod rewrite;
 mod support;
+mod tables;
 #[cfg(test)]
 mod tests;
 mod walk;

@@ -1,8 +1,9 @@
 //! The manager: a store of diagrams, and operations on them that remember their results.
 ghost use Rattle.std.specs.Prelude.{◌≡◌, ◌+◌, ◌≤◌, ◌<◌, ◌&&◌, ◌||◌, ◌⊎◌, ℕ, Bool, min, not, [], List, length, Contains, None, Some, IfSome, IfOk, OnOk, OnErr, IsOkAnd, Ok, if◌then◌else◌};
 ghost use Rattle.tm_dd.specs.NodeId.{complement};
-ghost use Rattle.tm_dd.specs.Reduced.{Extends};
-ghost use Rattle.tm_dd.specs.Table.{Table, Knows, kept, level_of, means};
+ghost use Rattle.tm_dd.specs.Reduced.{Extends, MeansNode};
+ghost use Rattle.tm_dd.specs.Table.{Table, Knows, kept, level_of, means, node_of};
+ghost use Rattle.tm_ddops.specs.Changed.{IsChanged, KnowsParts, change_of};
 ghost use Rattle.tm_ddops.specs.Choice.{choice_value, KnowsChoice};
 ghost use Rattle.tm_ddops.specs.Manager.{Grows, IsFunction, IsManager, IsResult, Remembers};
 ghost use Rattle.tm_ddops.specs.Memo.{HasOpen};
@@ -11,8 +12,10 @@ ghost use Rattle.tm_dd.specs.declared.node.NodeId.{NodeId as Id};
 ghost use Rattle.tm_ddops.specs.declared.choice.Choice.{Choice as Met};
 
 use crate::cache::{Cache, recall, remember};
+use crate::change::Changes;
 use crate::choice::Choice;
 use crate::operation::Operation;
+use crate::tables::Tables;
 use crate::walk::walk;
 use lru::LruCache;
 use std::alloc::{AllocError, Global};
@@ -34,6 +37,7 @@ pub struct Manager {
     pub(crate) alloc: Global,
     pub(crate) store: Store,
     pub(crate) cache: Cache,
+    pub(crate) tables: Tables,
 }
 
 impl Model for Manager {
@@ -62,6 +66,7 @@ impl Manager {
             alloc,
             store,
             cache,
+            tables: Tables::new(alloc),
         })
     }
 
@@ -94,6 +99,18 @@ impl Manager {
             IsFunction self.new.table id (λ v.
             if v level then means self.new.table hi v else means self.new.table lo v)) }
         ensures deep { IfOk result (λ id. level ≤ level_of self.new.table id) }
+        ensures node { IfOk result (λ id. ¬ (lo ≡ hi)
+            → node_of self.new.table id ≡ record { level = level; lo = lo; hi = hi }) }
+
+        // A function that was known has its id, and nothing is added for it. Another one adds one node, for itself and
+        // its complement.
+        ensures equal { lo ≡ hi → result ≡ Ok lo }
+        ensures found { (id : Id) → Knows self.old.table id
+            → MeansNode self.old.table id (record { level = level; lo = lo; hi = hi }) → result ≡ Ok id }
+        ensures unchanged { (id : Id) → Knows self.old.table id
+            → MeansNode self.old.table id (record { level = level; lo = lo; hi = hi }) → self.new ≡ self.old }
+        ensures added { IfOk result (λ r. (id : Id)
+            → Knows self.new.table id → Knows self.old.table id ⊎ ((id ≡ r) ⊎ (id ≡ complement r))) }
         ensures counted { steps.new ≡ min (steps.old + 1) u64.MAX }
         ensures adds { kept self.new.table ≤ kept self.old.table + 1 }
         ensures results { self.new.results ≡ self.old.results }
@@ -159,9 +176,29 @@ impl Manager {
         ensures nodes { (choices : List Met) → HasOpen self.new.table choice choices →
             kept self.new.table ≤ kept self.old.table + length choices }
     {
-        let answer = walk(self.alloc, &mut self.store, choice, steps)?;
+        self.tables.limit(self.alloc);
+        let answer = walk(
+            &mut self.store,
+            choice,
+            &mut self.tables.walks.choices,
+            steps,
+        )?;
         remember(&mut self.cache, operation, answer)?;
         Ok(answer)
+    }
+
+    // What the changes make of `f`, by a walk. It remembers nothing.
+    pub(crate) fn rewrite(&mut self, f: NodeId, changes: Changes) -> Result<NodeId, AllocError>
+        requires known { Knows self.old.table f }
+        requires parts { KnowsParts self.old.table (change_of changes) }
+
+        ensures manager { IsManager self.new }
+        ensures extends { Extends self.old.table self.new.table }
+        ensures results { self.new.results ≡ self.old.results }
+        ensures answer { IfOk result (IsChanged self.new.table (change_of changes) f) }
+    {
+        self.tables.limit(self.alloc);
+        self.tables.rewrite(self.alloc, &mut self.store, f, changes)
     }
 
     // The result of an operation that is a choice: the remembered one, or that of a walk, which then is remembered.

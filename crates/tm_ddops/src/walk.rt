@@ -7,26 +7,28 @@ ghost use Rattle.tm_ddops.specs.Choice.{choice_level, cofactor_choice, KnowsChoi
 ghost use Rattle.tm_ddops.specs.Memo.{Memo, choice_eq, noted, AreChoices, NotesOnlyMet, RisesByNotes, IsUnnoted, HasOpen};
 
 use crate::choice::Choice;
-use std::alloc::{AllocError, Global};
+use std::alloc::AllocError;
 use std::collections::HashMap;
 use tm_base::Steps;
 use tm_dd::{NodeId, Store};
 
-/// The choices that a walk has met, with their ids.
+/// The choices that walks have met, with their ids.
 pub(crate) type Memo = HashMap<Choice, NodeId>;
 
-/// The id of a choice, by a walk with a memo of its own.
+/// The id of a choice, by a walk. It meets no choice that the memo notes.
 pub(crate) fn walk<L>(
-    alloc: Global,
     store: &mut Store,
     choice: Choice,
+    memo: &mut Memo,
     steps: &mut Steps<L>,
 ) -> Result<NodeId, AllocError>
     requires reduced { IsReduced store.old }
     requires known { KnowsChoice store.old choice }
+    requires notes { AreChoices store.old memo.old }
 
     ensures extends { Extends store.old store.new }
     ensures reduced { IsReduced store.new }
+    ensures notes { AreChoices store.new memo.new }
     ensures answer { IfOk result (IsChoice store.new choice) }
 
     // At most one request and one node for each open choice on the way down.
@@ -35,8 +37,7 @@ pub(crate) fn walk<L>(
     ensures nodes { (choices : List Choice) → HasOpen store.new choice choices →
         kept store.new ≤ kept store.old + length choices }
 {
-    let mut memo = HashMap::new(alloc);
-    let answer = choose(store, choice, &mut memo, steps);
+    let answer = choose(store, choice, memo, steps);
     prove!(memo.len() < usize::MAX);
     answer
 }

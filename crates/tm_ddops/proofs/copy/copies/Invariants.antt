@@ -7,7 +7,7 @@ abbrev pub invariant-loop-root : goal.invariant-loop-root
 invariant-loop-root l = record {
   reduced : IsReduced l.to;
   levels : l.to.levels ≡ l.fn.to.levels;
-  found : AreCopies l.from l.to l.descent.found;
+  found : AreCopies l.from l.to l.found;
   same : MeanTheSame l.from (take l.root-index l.roots) l.to l.ids.items;
   reached : AllReached l.to l.ids.items;
 }

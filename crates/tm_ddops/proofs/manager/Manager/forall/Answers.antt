@@ -3,7 +3,7 @@ use Rattle.tm_dd.specs.declared.node.NodeId.{NodeId}
 use Rattle.tm_dd.specs.NodeId.{complement}
 use Rattle.tm_dd.specs.Table.{Table}
 use Rattle.tm_ddops.specs.Quantified.{IsExists, IsForall}
-use Rattle.tm_ddops.proofs.Exists.{forall_of_exists}
+use Rattle.tm_ddops.proofs.ChangeLists.{forall_of_exists}
 use Rattle.tm_ddops.proofs.manager.Manager.forall.Goals as goal
 
 answer : (s : Table) (levels : List ℕ) (f g id r : NodeId) → IsExists s levels g id → g ≡ complement f →

@@ -14,7 +14,11 @@ sound c =
     (omega (arith, c.recall.ensures.few, c.recall.ensures.capacity, c.self.invariant.room))
 
 pub invariant_of-self : goal.invariant_of-self
-invariant_of-self c = record { manager = sound c; room = c.recall.ensures.capacity ∙ c.self.invariant.room }
+invariant_of-self c = record {
+  manager = sound c;
+  room = c.recall.ensures.capacity ∙ c.self.invariant.room;
+  tables = c.self.invariant.tables;
+}
 
 pub returns-clause-found : goal.returns-clause-found
 returns-clause-found c id h =

@@ -20,7 +20,11 @@ sound c =
     (omega (arith, c.remember.ensures.few, c.remember.ensures.capacity, c.self.invariant.room))
 
 pub invariant_of-self : goal.invariant_of-self
-invariant_of-self c = record { manager = sound c; room = c.remember.ensures.capacity ∙ c.self.invariant.room }
+invariant_of-self c = record {
+  manager = sound c;
+  room = c.remember.ensures.capacity ∙ c.self.invariant.room;
+  tables = c.self.invariant.tables;
+}
 
 pub returns-clause-manager : goal.returns-clause-manager
 returns-clause-manager c = sound c

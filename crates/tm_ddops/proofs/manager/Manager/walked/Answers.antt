@@ -3,6 +3,7 @@ use Rattle.tm_dd.specs.Table.{Knows}
 use Rattle.tm_ddops.specs.Layout.{diagrams_of}
 use Rattle.tm_ddops.specs.Manager.{Grows, IsManager, IsResult, Remembers}
 use Rattle.tm_ddops.proofs.Sound.{manager_extended, manager_remembers, result_of_choice}
+use Rattle.tm_ddops.proofs.TableLemmas.{AreVisits-Extends}
 use Rattle.tm_ddops.proofs.manager.Manager.walked.Goals as goal
 use Rattle.tm_ddops.proofs.manager.Manager.walked.Goals.{In_ok-answer, In_ok-remember}
 use Rattle.tm_ddops.proofs.manager.Manager.walked.Given.{Over}
@@ -16,6 +17,12 @@ invariant_of-self g c = record {
   manager = manager_extended (diagrams_of c.self.inside) _ c.self.invariant.manager c.walk.ensures.extends
       c.walk.ensures.reduced refl;
   room = c.self.invariant.room;
+  tables = record {
+    choices = c.walk.ensures.notes;
+    visits = AreVisits-Extends c.self.inside.store c.walk.new.store c.walk.ensures.extends
+        c.limit.new.self.changes.keys c.limit.new.self.walks.found
+        (c.limit.ensures c.self.inside.store c.self.invariant.tables).visits;
+  };
 }
 
 pub returns-in_err-answer-clause-manager : goal.returns-in_err-answer-clause-manager
@@ -28,6 +35,12 @@ invariant_of-self-in_err-remember g c = record {
   manager = manager_extended (diagrams_of c.self.inside) _ c.self.invariant.manager c.walk.ensures.extends
       c.walk.ensures.reduced (ap (λ d. d.entries) c.in_err-remember.ensures.refused);
   room = c.in_err-remember.ensures.capacity ∙ c.self.invariant.room;
+  tables = record {
+    choices = c.walk.ensures.notes;
+    visits = AreVisits-Extends c.self.inside.store c.walk.new.store c.walk.ensures.extends
+        c.limit.new.self.changes.keys c.limit.new.self.walks.found
+        (c.limit.ensures c.self.inside.store c.self.invariant.tables).visits;
+  };
 }
 
 pub returns-in_err-remember-clause-manager : goal.returns-in_err-remember-clause-manager
@@ -53,7 +66,16 @@ sound g c =
 
 pub invariant_of-self-2 : goal.invariant_of-self-2
 invariant_of-self-2 g c =
-    record { manager = sound g c; room = c.in_ok-remember.ensures.capacity ∙ c.self.invariant.room }
+    record {
+      manager = sound g c;
+      room = c.in_ok-remember.ensures.capacity ∙ c.self.invariant.room;
+      tables = record {
+        choices = c.walk.ensures.notes;
+        visits = AreVisits-Extends c.self.inside.store c.walk.new.store c.walk.ensures.extends
+            c.limit.new.self.changes.keys c.limit.new.self.walks.found
+            (c.limit.ensures c.self.inside.store c.self.invariant.tables).visits;
+      };
+    }
 
 pub returns-clause-manager : goal.returns-clause-manager
 returns-clause-manager g c = sound g c
@@ -74,3 +96,6 @@ returns-clause-answer g c = answer g (goal.at.returns-clause-answer g c).In_ok-a
 
 pub returns-clause-remembered : goal.returns-clause-remembered
 returns-clause-remembered g c = c.in_ok-remember.ensures.there
+
+pub walk-requires-clause-notes : goal.walk-requires-clause-notes
+walk-requires-clause-notes g c = (c.limit.ensures c.self.inside.store c.self.invariant.tables).choices

@@ -1,0 +1,4 @@
+use Rattle.tm_ddops.proofs.tables.Tables.limit.Goals as goal
+
+pub returns-then-entries-gt-MOST_ENTRIES : goal.returns-then-entries-gt-MOST_ENTRIES
+returns-then-entries-gt-MOST_ENTRIES c s _ = c.new.ensures s

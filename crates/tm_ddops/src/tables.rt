@@ -1,0 +1,131 @@
+//! The tables that walks leave from call to call.
+ghost use Rattle.std.specs.Prelude.{◌≡◌, ◌<◌, ◌≤◌, ℕ, [], IfOk, length, slice_index_or};
+ghost use Rattle.tm_dd.specs.Reduced.{Extends, IsReduced};
+ghost use Rattle.tm_dd.specs.Table.{Table, Knows};
+ghost use Rattle.tm_ddops.specs.Changed.{IsChanged, KnowsParts, change_of};
+ghost use Rattle.tm_ddops.specs.Tables.{AreTrue, numbered};
+
+use crate::change::{Changes, by_level, depth};
+use crate::rewrite::{Visit, Walks};
+use indexmap::IndexSet;
+use std::alloc::{AllocError, Global};
+use std::collections::HashMap;
+use tm_dd::{NodeId, Store};
+
+/// How many entries the tables hold at most when a walk begins. One takes up to 96 bytes with the room that its table
+/// keeps, so they hold about 100 million bytes at most between calls, and what the last call added.
+pub(crate) const MOST_ENTRIES: usize = 1_048_576;
+
+/// What walks have found: the choices and the functions that they met. The number of changes is their place in the
+/// set.
+#[derive(Drop)]
+pub struct Tables {
+    pub(crate) walks: Walks,
+    pub(crate) changes: IndexSet<Changes>,
+    // How many levels the changes of the set have together.
+    pub(crate) levels: usize,
+}
+
+impl Tables {
+    /// Tables that hold nothing.
+    pub(crate) fn new(alloc: Global) -> Tables
+        ensures { (s : Table) → AreTrue s result }
+    {
+        Tables {
+            walks: Walks {
+                choices: HashMap::new(alloc),
+                found: HashMap::new(alloc),
+            },
+            changes: IndexSet::new(alloc),
+            levels: 0,
+        }
+    }
+
+    /// Drops all entries where there are more than `MOST_ENTRIES`.
+    pub(crate) fn limit(&mut self, alloc: Global)
+        ensures { (s : Table) → AreTrue s self.old → AreTrue s self.new }
+    {
+        let entries = self
+            .walks
+            .choices
+            .len()
+            .saturating_add(self.walks.found.len())
+            .saturating_add(self.levels);
+        if entries > MOST_ENTRIES {
+            *self = Tables::new(alloc);
+        }
+    }
+
+    /// What the changes make of `f`.
+    pub(crate) fn rewrite(
+        &mut self,
+        alloc: Global,
+        store: &mut Store,
+        f: NodeId,
+        changes: Changes,
+    ) -> Result<NodeId, AllocError>
+        requires reduced { IsReduced store.old }
+        requires known { Knows store.old f }
+        requires parts { KnowsParts store.old (change_of changes) }
+        requires tables { AreTrue store.old self.old }
+
+        ensures extends { Extends store.old store.new }
+        ensures reduced { IsReduced store.new }
+        ensures tables { AreTrue store.new self.new }
+        ensures answer { IfOk result (IsChanged store.new (change_of changes) f) }
+    {
+        if depth(store.levels(), changes.as_slice()) <= store.level(f) {
+            return Ok(f);
+        }
+        let number = self.number(changes)?;
+        let visit = Visit {
+            changes: number,
+            function: f,
+        };
+        if let Some(known) = self.walks.found.get(&visit) {
+            return Ok(*known);
+        }
+        self.walk(alloc, store, f, number)
+    }
+
+    // The same, by a walk under the changes of a number.
+    fn walk(
+        &mut self,
+        alloc: Global,
+        store: &mut Store,
+        f: NodeId,
+        number: usize,
+    ) -> Result<NodeId, AllocError>
+        requires reduced { IsReduced store.old }
+        requires known { Knows store.old f }
+        requires number { number < length self.old.changes.keys }
+        requires parts { KnowsParts store.old (numbered self.old.changes.keys number) }
+        requires tables { AreTrue store.old self.old }
+
+        ensures extends { Extends store.old store.new }
+        ensures reduced { IsReduced store.new }
+        ensures tables { AreTrue store.new self.new }
+        ensures answer { IfOk result (IsChanged store.new (numbered self.old.changes.keys number) f) }
+    {
+        let changes = self.changes.as_slice()[number].as_slice();
+        let table = by_level(alloc, store.levels(), changes)?;
+        self.walks.rewrite(store, f, number, &table)
+    }
+
+    // The number of the changes, which are added to the set where they are not there.
+    fn number(&mut self, changes: Changes) -> Result<usize, AllocError>
+        ensures within { IfOk result (λ n. n < length self.new.changes.keys) }
+        ensures number { IfOk result (λ n. slice_index_or self.new.changes.keys n [] ≡ changes) }
+        ensures grows { length self.old.changes.keys ≤ length self.new.changes.keys }
+        ensures kept { (n : ℕ) → n < length self.old.changes.keys →
+            slice_index_or self.new.changes.keys n [] ≡ slice_index_or self.old.changes.keys n [] }
+        ensures walks { self.new.walks ≡ self.old.walks }
+    {
+        let levels = changes.as_slice().len();
+        let (number, added) = self.changes.insert_full(changes)?;
+        if added {
+            self.levels = self.levels.saturating_add(levels);
+        }
+        Ok(number)
+    }
+}
