@@ -56,11 +56,14 @@ abbrev pub arguments_text : DesignTree → List NumTree → List ℕ
 arguments_text d [] = []
 arguments_text d (a ∷ others) = num_text d a ++ flat_map (λ b. codes ", " ++ num_text d b) others
 
+-- a jump to a block
+abbrev pub goto_text : ℕ → List ℕ
+goto_text k = codes "goto L" ++ decimal k ++ codes ";"
+
 -- what a block does
 abbrev pub statement_text : DesignTree → BlockTree → List ℕ
 statement_text d (test t first second) =
-    codes "\tif (" ++ truth_text d t ++ codes ") goto L" ++ decimal first ++ codes "; else goto L" ++ decimal second
-    ++ codes ";\n"
+    codes "\tif (" ++ truth_text d t ++ codes ") " ++ goto_text first ++ codes " else " ++ goto_text second ++ codes "\n"
 statement_text d (call k args) =
     codes "\t" ++ task_name d k ++ codes "(" ++ arguments_text d args ++ codes ");\n\treturn;\n"
 statement_text d (leave p) = codes "\ttermite_leave(" ++ constant_text p ++ codes ");\n\treturn;\n"

@@ -7,7 +7,7 @@ ghost use Rattle.tm_cir.specs.Tree.{BlockTree, test, call};
 ghost use Rattle.tm_cir.specs.View.{num_tree, truth_tree, block_tree, block_trees, trees_of};
 ghost use Rattle.tm_cir.specs.Fit.{FitBlocks};
 ghost use Rattle.tm_cir.specs.Text.{IsDriverText};
-ghost use Rattle.tm_cprint.specs.Layout.{constant_text, num_text, arguments_text, statement_text, blocks_text, driver_text};
+ghost use Rattle.tm_cprint.specs.Layout.{constant_text, goto_text, num_text, arguments_text, statement_text, blocks_text, driver_text};
 
 use crate::expression::{push_num, push_truth};
 use crate::piece::{push, push_constant, push_number, push_task};
@@ -81,11 +81,21 @@ fn push_test(
 {
     push(text, b"\tif (")?;
     push_truth(text, design, truth)?;
-    push(text, b") goto L")?;
-    push_number(text, u64::from(first))?;
-    push(text, b"; else goto L")?;
-    push_number(text, u64::from(second))?;
-    push(text, b";\n")?;
+    push(text, b") ")?;
+    push_goto(text, first)?;
+    push(text, b" else ")?;
+    push_goto(text, second)?;
+    push(text, b"\n")?;
+    Ok(())
+}
+
+#[tactic(auto, using(crate::proofs::Behind::append_assoc))]
+fn push_goto(text: &mut Vec<u8>, target: u32) -> Result<(), AllocError>
+    ensures { OnOk result (text.new.items ≡ text.old.items ++ goto_text target) }
+{
+    push(text, b"goto L")?;
+    push_number(text, u64::from(target))?;
+    push(text, b";")?;
     Ok(())
 }
 
