@@ -4,5 +4,6 @@ pub mod Following
 pub mod Fronts
 pub mod Refusals
 pub mod SmallLemmas
+pub mod Text
 pub mod TokenLists
 pub mod TokenTexts

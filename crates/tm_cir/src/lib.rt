@@ -8,6 +8,7 @@ ghost use Rattle.tm_sem.specs.declared.state.Move.{Move};
 ghost use Rattle.tm_cir.specs.Tree.{BlockTree};
 ghost use Rattle.tm_cir.specs.Answer.{Answers};
 ghost use Rattle.tm_cir.specs.SmallText.{IsSmallDriverText};
+ghost use Rattle.tm_cir.specs.Text.{IsDriverText};
 
 mod answering;
 pub mod block;
@@ -34,6 +35,12 @@ pub fn answers_are_determined()
 pub fn small_drivers_are_determined()
     ensures { (d : DesignTree) (text : List ℕ) (one other : List BlockTree)
         → IsSmallDriverText d text one → IsSmallDriverText d text other → one ≡ other }
+{}
+
+/// A text is one list of blocks over a design.
+pub fn driver_texts_are_determined()
+    ensures { (d : DesignTree) (text : List ℕ) (one other : List BlockTree)
+        → IsDriverText d text one → IsDriverText d text other → one ≡ other }
 {}
 
 #[cfg(test)]

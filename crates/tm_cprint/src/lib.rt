@@ -1,0 +1,10 @@
+//! Prints the blocks of a driver as C text.
+#![tactic(auto)]
+
+mod expression;
+mod piece;
+mod printer;
+#[cfg(test)]
+mod tests;
+
+pub use printer::print;
