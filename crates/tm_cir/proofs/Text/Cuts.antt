@@ -116,13 +116,13 @@ sign_read (comparing Equal) rest longest = refl
 sign_read (comparing NotEqual) rest longest = refl
 sign_read (comparing Less) rest longest =
     ap₂ (λ (v w : Bool).
-        sign_or (cond v (Some (shifting Left)) (cond w (Some (comparing LessEqual)) (Some (comparing Less)))) None)
+    sign_or (cond v (Some (shifting Left)) (cond w (Some (comparing LessEqual)) (Some (comparing Less)))) None)
     (not_next (comparing Less) (shifting Left) 60 rest refl refl longest)
     (not_next (comparing Less) (comparing LessEqual) 61 rest refl refl longest)
 sign_read (comparing LessEqual) rest longest = refl
 sign_read (comparing Greater) rest longest =
     ap₂ (λ (v w : Bool).
-        sign_or (cond v (Some (shifting Right)) (cond w (Some (comparing GreaterEqual)) (Some (comparing Greater)))) None)
+    sign_or (cond v (Some (shifting Right)) (cond w (Some (comparing GreaterEqual)) (Some (comparing Greater)))) None)
     (not_next (comparing Greater) (shifting Right) 62 rest refl refl longest)
     (not_next (comparing Greater) (comparing GreaterEqual) 61 rest refl refl longest)
 sign_read (comparing GreaterEqual) rest longest = refl
@@ -175,13 +175,13 @@ token_read d (location k) bytes rest small spelled ends =
 token_read d (task k) bytes rest small spelled ends =
     item_read (λ (t : Item). t.path) 116 k _ bytes rest (task k) small spelled
     (λ more digit number.
-        ap₂ (λ (v : Bool) (n : ℕ). cond v (Some (task n)) (Some (word (termite_word (get_or more 7 0) (get_or more 8 0)))))
-        digit number)
+    ap₂ (λ (v : Bool) (n : ℕ). cond v (Some (task n)) (Some (word (termite_word (get_or more 7 0) (get_or more 8 0)))))
+    digit number)
 token_read d (constant k) bytes rest small spelled ends =
     let text = (decimal k ++ codes "ULL") ++ rest in
     let other = sign_or (sign_of (get_or text 0 0) (get_or text 1 0))
-        (word_of (get_or text 0 0) (begins_digit (drop 1 text)) (number_in_front (drop 1 text))
-        (termite_word (get_or text 8 0) (get_or text 9 0))) in
+    (word_of (get_or text 0 0) (begins_digit (drop 1 text)) (number_in_front (drop 1 text))
+    (termite_word (get_or text 8 0) (get_or text 9 0))) in
     let front = numbered k (codes "ULL") rest small refl in
     spelled_so (decimal k ++ codes "ULL") bytes rest (constant k) spelled
     (ap₂ (λ (v : Bool) (n : ℕ). cond v (Some (constant n)) other) front.0 front.1)

@@ -21,7 +21,7 @@ same_more (x ∷ xs) (y ∷ ys) rest others same =
     let left = sign close_parenthesis ∷ rest in
     let right = sign close_parenthesis ∷ others in
     let whole : sign comma ∷ (num_tokens x ++ (more_tokens xs ++ left))
-        ≡ sign comma ∷ (num_tokens y ++ (more_tokens ys ++ right)) =
+    ≡ sign comma ∷ (num_tokens y ++ (more_tokens ys ++ right)) =
     sym (ap (λ (ts : List Token). sign comma ∷ ts) (append_assoc (num_tokens x) (more_tokens xs) left))
     ∙ same ∙ ap (λ (ts : List Token). sign comma ∷ ts) (append_assoc (num_tokens y) (more_tokens ys) right) in
     let tail : num_tokens x ++ (more_tokens xs ++ left) ≡ num_tokens y ++ (more_tokens ys ++ right) = cc in
@@ -55,8 +55,8 @@ same_arguments (x ∷ xs) (y ∷ ys) rest others same =
     let left = sign close_parenthesis ∷ rest in
     let right = sign close_parenthesis ∷ others in
     let first = same_num x y (more_tokens xs ++ left) (more_tokens ys ++ right)
-        (sym (append_assoc (num_tokens x) (more_tokens xs) left) ∙ same
-        ∙ append_assoc (num_tokens y) (more_tokens ys) right) in
+    (sym (append_assoc (num_tokens x) (more_tokens xs) left) ∙ same
+    ∙ append_assoc (num_tokens y) (more_tokens ys) right) in
     let behind = same_more xs ys rest others first.1 in
     (ap₂ (λ (a : NumTree) (l : List NumTree). a ∷ l) first.0 behind.0, behind.1)
 
@@ -85,7 +85,7 @@ same_test : (t u : TruthTree) (i j m n : ℕ) (rest others : List Token) →
     (test t i j ≡ test u m n) × (rest ≡ others)
 same_test t u i j m n rest others same =
     let whole : word if_word ∷ sign open_parenthesis ∷ (truth_tokens t ++ branches i j rest)
-        ≡ word if_word ∷ sign open_parenthesis ∷ (truth_tokens u ++ branches m n others) =
+    ≡ word if_word ∷ sign open_parenthesis ∷ (truth_tokens u ++ branches m n others) =
     sym (test_is t i j rest) ∙ same ∙ test_is u m n others in
     let parts = same_truth t u (branches i j rest) (branches m n others) (cc) in
     let truth : t ≡ u = parts.0 in
@@ -97,7 +97,7 @@ same_call : (k n : ℕ) (xs ys : List NumTree) (rest others : List Token) →
     (call k xs ≡ call n ys) × (rest ≡ others)
 same_call k n xs ys rest others same =
     let whole : task k ∷ sign open_parenthesis ∷ (argument_tokens xs ++ sign close_parenthesis ∷ call_end rest)
-        ≡ task n ∷ sign open_parenthesis ∷ (argument_tokens ys ++ sign close_parenthesis ∷ call_end others) =
+    ≡ task n ∷ sign open_parenthesis ∷ (argument_tokens ys ++ sign close_parenthesis ∷ call_end others) =
     sym (call_is k xs rest) ∙ same ∙ call_is n ys others in
     let parts = same_arguments xs ys (call_end rest) (call_end others) (cc) in
     let args : xs ≡ ys = parts.0 in
@@ -134,10 +134,10 @@ same_blocks k (b ∷ bs) (c ∷ cs) same =
     let left = block_tokens (k + 1) bs ++ end in
     let right = block_tokens (k + 1) cs ++ end in
     let tail : (statement_tokens b ++ block_tokens (k + 1) bs) ++ end
-        ≡ (statement_tokens c ++ block_tokens (k + 1) cs) ++ end = cc in
+    ≡ (statement_tokens c ++ block_tokens (k + 1) cs) ++ end = cc in
     let first = same_statement b c left right
-        (sym (append_assoc (statement_tokens b) (block_tokens (k + 1) bs) end) ∙ tail
-        ∙ append_assoc (statement_tokens c) (block_tokens (k + 1) cs) end) in
+    (sym (append_assoc (statement_tokens b) (block_tokens (k + 1) bs) end) ∙ tail
+    ∙ append_assoc (statement_tokens c) (block_tokens (k + 1) cs) end) in
     ap₂ (λ (x : BlockTree) (l : List BlockTree). x ∷ l) first.0 (same_blocks (k + 1) bs cs first.1)
 
 -- the tokens of a driver are those of one list of blocks

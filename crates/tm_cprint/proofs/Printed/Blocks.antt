@@ -115,12 +115,12 @@ statement_prints : (d : DesignTree) → IsCounted d → (count at : ℕ) → cou
     AreTokens d (statement_text d b ++ rest) (statement_tokens b ++ us)
 statement_prints d counted count at few (test t i j) fits rest us are =
     let end : AreTokens d (32 ∷ 101 ∷ 108 ∷ 115 ∷ 101 ∷ 32 ∷ (goto_text j ++ (10 ∷ rest)))
-        (word else_word ∷ (goto_tokens j ++ us)) =
+    (word else_word ∷ (goto_tokens j ++ us)) =
     space_then
     (word_then else_word
     (space_then (goto_prints d j (10 ∷ rest) us (omega (arith, fits.2.1)) (blank refl are) refl)) refl) in
     let middle : AreTokens d (41 ∷ 32 ∷ (goto_text i ++ (32 ∷ 101 ∷ 108 ∷ 115 ∷ 101 ∷ 32 ∷ (goto_text j ++ (10 ∷ rest)))))
-        (sign close_parenthesis ∷ (goto_tokens i ++ (word else_word ∷ (goto_tokens j ++ us)))) =
+    (sign close_parenthesis ∷ (goto_tokens i ++ (word else_word ∷ (goto_tokens j ++ us)))) =
     sign_then close_parenthesis (space_then (goto_prints d i _ _ (omega (arith, fits.1.1)) end refl)) refl in
     same_as (test_text (truth_text d t) (goto_text i) (goto_text j) rest)
     (test_tokens (truth_tokens t) (goto_tokens i) (goto_tokens j) us)
@@ -134,7 +134,7 @@ statement_prints d counted count at few (call k args) fits rest us are =
     let within : k < length d.tasks = task_within d k (length args) fits.0 in
     let small : k < 2 ^ 64 = omega (arith, counted.tasks) in
     let end : AreTokens d (41 ∷ 59 ∷ 10 ∷ return_text rest)
-        (sign close_parenthesis ∷ sign semicolon ∷ (return_tokens ++ us)) =
+    (sign close_parenthesis ∷ sign semicolon ∷ (return_tokens ++ us)) =
     sign_then close_parenthesis (sign_then semicolon (blank refl (return_prints d rest us are)) refl) refl in
     same_as (call_text (task_name d k) (arguments_text d args) rest)
     (call_tokens (task k) (argument_tokens args) us)
@@ -146,7 +146,7 @@ statement_prints d counted count at few (call k args) fits rest us are =
 statement_prints d counted count at few (leave p) fits rest us are =
     let small : p < 2 ^ 64 = omega (arith, counted.processes) in
     let end : AreTokens d (41 ∷ 59 ∷ 10 ∷ return_text rest)
-        (sign close_parenthesis ∷ sign semicolon ∷ (return_tokens ++ us)) =
+    (sign close_parenthesis ∷ sign semicolon ∷ (return_tokens ++ us)) =
     sign_then close_parenthesis (sign_then semicolon (blank refl (return_prints d rest us are)) refl) refl in
     same_as
     (ap (λ (text : List ℕ). codes "\ttermite_leave(" ++ text) (append_assoc (constant_text p) (codes ");\n\treturn;\n") rest))

@@ -95,7 +95,7 @@ choice_prints d t a b xs ys zs truth quiet first second rest us are breaks =
     let right : AreTokens d (32 ∷ 58 ∷ 32 ∷ (b ++ 41 ∷ rest)) (sign colon ∷ (zs ++ sign close_parenthesis ∷ us)) =
     space_then (sign_then colon (space_then (second _ _ closed (record { word = refl; quiet = refl }))) refl) in
     let left : AreTokens d (32 ∷ 63 ∷ 32 ∷ (a ++ (32 ∷ 58 ∷ 32 ∷ (b ++ 41 ∷ rest))))
-        (sign question ∷ (ys ++ (sign colon ∷ (zs ++ sign close_parenthesis ∷ us)))) =
+    (sign question ∷ (ys ++ (sign colon ∷ (zs ++ sign close_parenthesis ∷ us)))) =
     space_then (sign_then question (space_then (first _ _ right (break _))) refl) in
     same_as (choice_text t a b rest) (choice_tokens xs ys zs us)
     (sign_then open_parenthesis (truth _ _ left (break _)) (quiet _))

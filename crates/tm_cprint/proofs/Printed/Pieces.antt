@@ -164,31 +164,37 @@ pub variable_named : (d : DesignTree) (k : ℕ) → k < length d.vars →
     (path : List ℕ) × IsNamed (variable_name d k) (item_name 118 k path) (token_text d (variable k))
 variable_named d k within =
     let found = item_at d.vars k within in
-    let name : Var → List ℕ = λ v. item_name 118 k v.path in
-    (found.0.path, record {
-      spelled = ap (option_map name) found.1 ∙ sym (ap (λ (o : Option Var). Some (option_map_or name o [])) found.1);
-      same = ap (λ (o : Option Var). option_map_or name o []) found.1;
-    })
+    let name : Var → List ℕ = λ v. item_name 118 k v.path in (
+      found.0.path,
+      record {
+        spelled = ap (option_map name) found.1 ∙ sym (ap (λ (o : Option Var). Some (option_map_or name o [])) found.1);
+        same = ap (λ (o : Option Var). option_map_or name o []) found.1;
+      },
+    )
 
 pub location_named : (d : DesignTree) (k : ℕ) → k < length d.processes →
     (path : List ℕ) × IsNamed (location_name d k) (item_name 112 k path) (token_text d (location k))
 location_named d k within =
     let found = item_at d.processes k within in
-    let name : Item → List ℕ = λ p. item_name 112 k p.path in
-    (found.0.path, record {
-      spelled = ap (option_map name) found.1 ∙ sym (ap (λ (o : Option Item). Some (option_map_or name o [])) found.1);
-      same = ap (λ (o : Option Item). option_map_or name o []) found.1;
-    })
+    let name : Item → List ℕ = λ p. item_name 112 k p.path in (
+      found.0.path,
+      record {
+        spelled = ap (option_map name) found.1 ∙ sym (ap (λ (o : Option Item). Some (option_map_or name o [])) found.1);
+        same = ap (λ (o : Option Item). option_map_or name o []) found.1;
+      },
+    )
 
 pub task_named : (d : DesignTree) (k : ℕ) → k < length d.tasks →
     (path : List ℕ) × IsNamed (task_name d k) (item_name 116 k path) (token_text d (task k))
 task_named d k within =
     let found = item_at d.tasks k within in
-    let name : Item → List ℕ = λ t. item_name 116 k t.path in
-    (found.0.path, record {
-      spelled = ap (option_map name) found.1 ∙ sym (ap (λ (o : Option Item). Some (option_map_or name o [])) found.1);
-      same = ap (λ (o : Option Item). option_map_or name o []) found.1;
-    })
+    let name : Item → List ℕ = λ t. item_name 116 k t.path in (
+      found.0.path,
+      record {
+        spelled = ap (option_map name) found.1 ∙ sym (ap (λ (o : Option Item). Some (option_map_or name o [])) found.1);
+        same = ap (λ (o : Option Item). option_map_or name o []) found.1;
+      },
+    )
 
 pub variable_then : {d : DesignTree} (k : ℕ) {rest : List ℕ} {us : List Token} → k < length d.vars → k < 2 ^ 64 →
     AreTokens d rest us → BeginsNoWord rest → AreTokens d (variable_name d k ++ rest) (variable k ∷ us)
