@@ -23,7 +23,8 @@ use Rattle.termite.proofs.OneEnd.{one_end}
 not_longer : (told : Option (List ℕ)) (text : List ℕ) → told ≡ Some text → length text ≤ file_limit →
     IsLonger told file_limit → ⊥
 not_longer told text is short long =
-    let longer : file_limit < length text = subst (λ (t : Option (List ℕ)). IsLonger t file_limit) is long in omega arith
+    let longer : file_limit < length text = subst (λ (t : Option (List ℕ)). IsLonger t file_limit) is long in
+    omega arith
 
 module _ (contents : List ℕ → Option (List ℕ)) where
   -- a file tells one text

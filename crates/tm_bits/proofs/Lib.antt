@@ -1,2 +1,4 @@
+pub mod BitLists
 pub mod Bounds
 pub mod Cuts
+pub mod NumberBits

@@ -1,6 +1,6 @@
--- Numbers of a width, as in any text on the theory of fixed-size bit-vectors (SMT-LIB's `QF_BV`): a number of width w is
--- a natural number below 2 ^ w, and arithmetic is modulo 2 ^ w. At every width the conjunction, the disjunction and the
--- exclusive disjunction of the bits of two numbers are the standard library's `bit_and`, `bit_or` and `bit_xor`.
+-- Numbers of a width, as in any text on the theory of fixed-size bit-vectors (SMT-LIB's `QF_BV`): a number of width w
+-- is a natural number below 2 ^ w, and arithmetic is modulo 2 ^ w. At every width the conjunction, the disjunction and
+-- the exclusive disjunction of the bits of two numbers are the standard library's `bit_and`, `bit_or` and `bit_xor`.
 use Rattle.std.specs.Prelude.{ℕ, ◌+◌, ◌-◌, ◌*◌, ◌/◌, ◌%◌, ◌^◌, ◌≤◌, ◌==◌, Bool, not, nat_lt, nat_le, if◌then◌else◌}
 
 -- a width in bits that a machine word has

@@ -1,2 +1,3 @@
 pub mod Arithmetic
+pub mod Bits
 pub mod Shift

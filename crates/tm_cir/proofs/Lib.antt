@@ -1,3 +1,4 @@
+pub mod Deciding
 pub mod Determined
 pub mod DriverTexts
 pub mod Following

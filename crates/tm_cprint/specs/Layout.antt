@@ -63,7 +63,8 @@ goto_text k = codes "goto L" ++ decimal k ++ codes ";"
 -- what a block does
 abbrev pub statement_text : DesignTree → BlockTree → List ℕ
 statement_text d (test t first second) =
-    codes "\tif (" ++ truth_text d t ++ codes ") " ++ goto_text first ++ codes " else " ++ goto_text second ++ codes "\n"
+    codes "\tif (" ++ truth_text d t ++ codes ") " ++ goto_text first ++ codes " else " ++ goto_text second
+    ++ codes "\n"
 statement_text d (call k args) =
     codes "\t" ++ task_name d k ++ codes "(" ++ arguments_text d args ++ codes ");\n\treturn;\n"
 statement_text d (leave p) = codes "\ttermite_leave(" ++ constant_text p ++ codes ");\n\treturn;\n"

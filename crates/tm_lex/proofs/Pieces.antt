@@ -20,11 +20,15 @@ bytes_of-push (q ∷ ps) p rest =
 ArePieces-push : (ps : List Piece) (p : Piece) (rest : List ℕ) → ArePieces ps (p.bytes ++ rest) →
     IsPiece p.kind p.bytes → IsLongest p.bytes rest → ArePieces (ps ++ p ∷ []) rest
 ArePieces-push [] p rest each is longest = (is, longest, tt)
-ArePieces-push (q ∷ ps) p rest each is longest =
-    (each.0, subst (IsLongest q.bytes) (sym (bytes_of-push ps p rest)) each.1, ArePieces-push ps p rest each.2 is longest)
+ArePieces-push (q ∷ ps) p rest each is longest = (
+  each.0,
+  subst (IsLongest q.bytes) (sym (bytes_of-push ps p rest)) each.1,
+  ArePieces-push ps p rest each.2 is longest,
+)
 
 tokens_behind-push : (front : List ℕ) (ps : List Piece) (p : Piece) →
-    tokens_behind front (ps ++ p ∷ []) ≡ tokens_behind front ps ++ option_to_list (token_behind (front ++ bytes_of ps) p)
+    tokens_behind front (ps ++ p ∷ [])
+    ≡ tokens_behind front ps ++ option_to_list (token_behind (front ++ bytes_of ps) p)
 tokens_behind-push front [] p = append-nil _ ∙ ap (λ l. option_to_list (token_behind l p)) (sym (append-nil front))
 tokens_behind-push front (q ∷ ps) p =
     ap (λ l. option_to_list (token_behind front q) ++ l) (tokens_behind-push (front ++ q.bytes) ps p)

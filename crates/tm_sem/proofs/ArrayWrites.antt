@@ -23,7 +23,12 @@ pub is_initial : IsInitial array_design array_start
 is_initial = record { values = (refl, (refl, (refl, (refl, tt)))); places = refl; last = refl }
 
 pub within : Step array_design array_start (Process 0) (2 ∷ []) (Next last_written)
-within = record { end = stopped (place_at 4 30) [] (plain_memory (2 ∷ 7 ∷ 7 ∷ 9 ∷ [])); run = goes refl (goes {front = []} {n = plain_memory (2 ∷ 7 ∷ 7 ∷ 9 ∷ [])} {ds = []} (rw (decimal_digit 2 (omega arith)) refl) (ends refl)); outcome = refl }
+within = record {
+  end = stopped (place_at 4 30) [] (plain_memory (2 ∷ 7 ∷ 7 ∷ 9 ∷ []));
+  run = goes refl (goes {front = []} {n = plain_memory (2 ∷ 7 ∷ 7 ∷ 9 ∷ [])} {ds = []}
+      (rw (decimal_digit 2 (omega arith)) refl) (ends refl));
+  outcome = refl;
+}
 
 pub past_the_end : Step array_design array_start (Process 0) (3 ∷ []) Error
 past_the_end = record { end = failed; run = goes refl (ends refl); outcome = refl }

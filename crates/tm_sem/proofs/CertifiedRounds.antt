@@ -88,7 +88,8 @@ module _ (d : DesignTree) (answers : StateData → ℕ → Move → Type 0) (c :
   within g s entries [] x xs after below here steps answered same waits =
       let head : s ≡ x = ap (λ ys. get_or ys 0 s) same in
       subst
-      (λ y. IsIn d c.region y × Falls d (rank ranked) (IsFairAtRank d ranked) y (xs ++ later (last_of y xs) ∷ [])) head (
+      (λ y. IsIn d c.region y × Falls d (rank ranked) (IsFairAtRank d ranked) y (xs ++ later (last_of y xs) ∷ []))
+      head (
         here,
         along g s entries xs after below here steps answered (ap behind_first same)
             (subst (λ y. Waits d j g (y ∷ xs)) (sym head) waits),

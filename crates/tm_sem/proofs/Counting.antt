@@ -32,18 +32,6 @@ module _ (d : DesignTree) where
   pub covered_before : (part rest : List StateData) → IsCovered d part → IsCovered d (part ++ rest)
   covered_before part rest covered = λ i below. met_before i part rest (covered i below)
 
-  -- a further part may stand at any distance behind the others
-  pub one_part_more : {n : ℕ} (front gap part : List StateData) → HasRounds d n front → IsCovered d part →
-      HasRounds d (suc n) (front ++ (gap ++ part))
-  one_part_more front gap part rounds covered = one_more (gap ++ part) rounds (covered_behind gap part covered)
-
-  -- rounds stay when more stands in front
-  pub rounds_behind : {n : ℕ} (front stretch : List StateData) → HasRounds d n stretch → HasRounds d n (front ++ stretch)
-  rounds_behind front stretch (no_round _) = no_round (front ++ stretch)
-  rounds_behind front _ (one_more {n = n} {front = first} part rounds covered) =
-      subst (HasRounds d (suc n)) (append_assoc front first part)
-      (one_more part (rounds_behind front first rounds) covered)
-
   -- a covered part in front of a stretch is a round more
   round_in_front : {n : ℕ} (part rest : List StateData) → IsCovered d part → HasRounds d n rest →
       HasRounds d (suc n) (part ++ rest)
@@ -70,7 +58,7 @@ abbrev pub SplitAt : List StateData → List StateData → List StateData → St
 SplitAt x y f l r =
     ((gap : List StateData) × (f ≡ x ++ gap)) ⊎ ((gap : List StateData) × (x ≡ f ++ l ∷ gap) × (r ≡ gap ++ y))
 
-split_at : (x y f : List StateData) (l : StateData) (r : List StateData) → x ++ y ≡ f ++ l ∷ r → SplitAt x y f l r
+pub split_at : (x y f : List StateData) (l : StateData) (r : List StateData) → x ++ y ≡ f ++ l ∷ r → SplitAt x y f l r
 split_at [] y f l r same = inl (f, refl)
 split_at (a ∷ x) y [] l r same =
     let head : a ≡ l = ap (λ xs. get_or xs 0 a) same in

@@ -1,5 +1,5 @@
--- In a level of an environment's certificate the environment forces rounds in which the level's goal never holds, or the
--- level before.
+-- In a level of an environment's certificate the environment forces rounds in which the level's goal never holds, or
+-- the level before.
 use Rattle.std.proofs.Common.{◌≡◌, ℕ, zero, suc, ◌+◌, ◌*◌, ◌<◌, ◌≤◌, ◌⊎◌, inl, inr, ⊎_elim, Bool, true, false, Option, None, Some, List, [], ◌∷◌, ◌++◌, get_or, length, refl, ap, ◌∙◌, subst, arith}
 use Rattle.std.specs.Prelude.{cond, not, slice_get, ◌||◌}
 use Rattle.std.specs.Option.{option_map_or}
@@ -154,7 +154,8 @@ module _ (d : DesignTree) (levels : List Level) (meets : MeetsEnvironment d leve
         (through q (suc steps) (omega arith)
         (λ before s carried new. starved_beats d (suc steps) before s n
         (subst (IsStarved d (before ++ s ∷ [])) (omega arith)
-        (is_starved d l.goal (suc q) 0 (before ++ s ∷ []) (meets.goals k l at) (ends_round d l.goal q before s carried))))
+        (is_starved d l.goal (suc q) 0 (before ++ s ∷ []) (meets.goals k l at)
+        (ends_round d l.goal q before s carried))))
         (length (conditions d)) 0 (omega arith) before u (arrives d l.goal q before u 0 carried fails) new))
     rounds_left (suc r) q left before u carried here =
         let m = length (conditions d) in

@@ -4,6 +4,7 @@ pub mod Certified
 pub mod CertifiedRounds
 pub mod Counting
 pub mod Determined
+pub mod Excluding
 pub mod Extending
 pub mod Falling
 pub mod Firsts
@@ -13,6 +14,10 @@ pub mod Losing
 pub mod Runs
 pub mod Small
 pub mod SmallBodies
+pub mod Starving
+pub mod StateOrder
+pub mod Staying
+pub mod Sums
 pub mod Turns
 pub mod ValidStates
 pub mod Waiting

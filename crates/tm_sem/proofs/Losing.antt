@@ -69,8 +69,10 @@ module _ (d : DesignTree) (levels : List Level) (meets : MeetsEnvironment d leve
           IsIn d (option_map_or (λ (l : Level). l.set) o nowhere) s → Beats d (suc k * cost) before s n
       of_level lower None at here = absurd (let wrong : false ≡ true = here.1 in cc)
       of_level lower (Some l) at here =
-          more_steps d (k * cost + n * (length (conditions d) * (longest_chain levels - 1) + 1)) (suc k * cost) before s n
-          (let fewer = cost_of_rounds n (length (conditions d)) (longest_chain levels) (omega arith) (some_chain k l at) in
+          more_steps d (k * cost + n * (length (conditions d) * (longest_chain levels - 1) + 1)) (suc k * cost) before s
+          n
+          (let fewer = cost_of_rounds n (length (conditions d)) (longest_chain levels) (omega arith)
+          (some_chain k l at) in
           grind arith)
           (level_beats d levels meets n k l at (longest_chain levels - 1)
           (λ i chain is. omega (arith, level_within levels k i l chain at is)) (k * cost)

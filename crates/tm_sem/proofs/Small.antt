@@ -69,7 +69,8 @@ no_process_slot t small name next (suc k) = rw small.processes refl
 -- no name of a body is one of its own
 no_slot : (d : DesignTree) (at : Site) (small : IsSmallTemplate at.template) (name : List ℕ)
     (next : Frame → Slot → Option Cell) (body : BodyName) →
-    option_and_then (λ frame. option_and_then (next frame) (slot_named frame name)) (frame_of d.spec at.template body) ≡ None
+    option_and_then (λ frame. option_and_then (next frame) (slot_named frame name)) (frame_of d.spec at.template body)
+    ≡ None
 no_slot d at small name next (process_body k) = no_process_slot at.template small name next k
 no_slot d at small name next (task_body k) = no_task_slot d.spec at.template name next at.template.tasks small.tasks k
 no_slot d at small name next outside = refl

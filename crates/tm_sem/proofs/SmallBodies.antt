@@ -131,7 +131,8 @@ process_body_of d h p x is =
     let left : rest d p 0 ≡ map (perform x.scope []) (body_stmts x.process.body) = rw is refl in
     record {
       body = small.body;
-      locations = at ∙ ap (λ (scope : Scope). body_locations (suc (call_depth d.spec)) d scope [] x.process.body []) small.scope
+      locations = at
+          ∙ ap (λ (scope : Scope). body_locations (suc (call_depth d.spec)) d scope [] x.process.body []) small.scope
           ∙ small_locations d small.body x.process.body small.is_small;
       rest = left ∙ ap (λ (scope : Scope). map (perform scope []) (body_stmts x.process.body)) small.scope
           ∙ ap (map (perform (main_scope small.body) [])) (stmts_of_small x.process.body IsSmallStmt small.is_small);

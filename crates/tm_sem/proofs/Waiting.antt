@@ -16,8 +16,8 @@ fail_both : (d : DesignTree) (goal : ℕ) (a b : List StateData) → Fail d goal
 fail_both d goal [] b fa fb = fb
 fail_both d goal (s ∷ ss) b fa fb = (fa.0, fail_both d goal ss b fa.1 fb)
 
--- some earlier states, then q whole rounds, then a part in which the first i conditions are met; the goal fails from the
--- rounds on
+-- some earlier states, then q whole rounds, then a part in which the first i conditions are met; the goal fails from
+-- the rounds on
 pub record Carried (d : DesignTree) (goal q i : ℕ) (before : List StateData) : Type 0 where
   pub earlier : List StateData
   pub done : List StateData

@@ -22,14 +22,16 @@ pub one_step_more : (d : DesignTree) (t : ℕ) (before : List StateData) (s : St
 one_step_more d zero before s n won = inl won
 one_step_more d (suc t) before s n (inl won) = inl won
 one_step_more d (suc t) before s n (inr forced) =
-    inr (forced_wider d (λ next. Beats d t (before ++ s ∷ []) next n) (λ next. Beats d (suc t) (before ++ s ∷ []) next n)
+    inr (forced_wider d (λ next. Beats d t (before ++ s ∷ []) next n)
+    (λ next. Beats d (suc t) (before ++ s ∷ []) next n)
     (λ next won. one_step_more d t (before ++ s ∷ []) next n won) s forced)
 
 more_by : (gap t u : ℕ) → u ≡ t + gap → (d : DesignTree) (before : List StateData) (s : StateData) (n : ℕ) →
     Beats d t before s n → Beats d u before s n
 more_by zero t u is d before s n won =
     let same : t ≡ u = omega arith in subst (λ x. Beats d x before s n) same won
-more_by (suc gap) t u is d before s n won = more_by gap (suc t) u (omega arith) d before s n (one_step_more d t before s n won)
+more_by (suc gap) t u is d before s n won =
+    more_by gap (suc t) u (omega arith) d before s n (one_step_more d t before s n won)
 
 -- a win in some steps is one in any larger number of them
 pub more_steps : (d : DesignTree) (t u : ℕ) (before : List StateData) (s : StateData) (n : ℕ) → t ≤ u →

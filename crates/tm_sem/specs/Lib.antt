@@ -8,6 +8,7 @@ pub mod Loss
 pub mod Play
 pub mod Run
 pub mod State
+pub mod StateBits
 pub mod Step
 pub mod Strategy
 pub mod Value

@@ -1,7 +1,8 @@
 //! The plain meaning of a design: its states, the moves of its actors, and the steps that they make.
 #![tactic(auto)]
 
-ghost use Rattle.std.specs.Prelude.{◌≡◌, ◌≤◌, ◌+◌, ◌*◌, ℕ, suc, List, [], ◌∷◌, ◌++◌, length, map};
+ghost use Rattle.std.specs.Prelude.{◌≡◌, ◌<◌, ◌≤◌, ◌+◌, ◌*◌, ℕ, suc, List, Bool, true, false, [], ◌∷◌, ◌++◌, length, map};
+ghost use Rattle.std.specs.List.{AllByRecursion, sum};
 ghost use Rattle.tm_syntax.specs.Design.{DesignTree, IsDesign};
 ghost use Rattle.tm_sem.specs.declared.state.Move.{Move};
 ghost use Rattle.tm_sem.specs.declared.state.Move.TheVariants.{Process};
@@ -11,10 +12,12 @@ ghost use Rattle.tm_sem.specs.ArrayWrite.{array_design, array_start, last_writte
 ghost use Rattle.tm_sem.specs.State.{StateData};
 ghost use Rattle.tm_sem.specs.First.{IsFirst};
 ghost use Rattle.tm_sem.specs.Step.{IsInitial, Step};
-ghost use Rattle.tm_sem.specs.Play.{Entry, last_state, stutter, IsPlay};
+ghost use Rattle.tm_sem.specs.Play.{Entry, last_state, stutter, IsPlay, goal_holds};
+ghost use Rattle.tm_sem.specs.Forcing.{Forced, Stays};
 ghost use Rattle.tm_sem.specs.Fairness.{conditions, Rounds, HasRounds};
-ghost use Rattle.tm_sem.specs.Strategy.{Good};
-ghost use Rattle.tm_sem.specs.Loss.{Beats};
+ghost use Rattle.tm_sem.specs.Strategy.{IsDriven, states_of, Good};
+ghost use Rattle.tm_sem.specs.Loss.{Beats, Lost};
+ghost use Rattle.tm_sem.specs.StateBits.{comes_before, weight_order};
 ghost use Rattle.tm_sem.specs.Certificates.{DriverSets, IsGoodMove, MeetsDriver, MeetsMoveForm, Level, MeetsEnvironment, longest_chain};
 
 mod bodies;
@@ -74,6 +77,12 @@ pub fn rounds_are_the_most_parts()
         → k ≤ n }
 {}
 
+/// Where the driver can stay in a set, the environment cannot force an error or a state outside it.
+pub fn staying_is_not_forced_out()
+    ensures { (d : DesignTree) (set : StateData → Bool) (s : StateData) → Stays d (λ t. set t ≡ true) s
+        → Forced d (λ t. set t ≡ false) s → ⊥ }
+{}
+
 /// What the environment forces in some steps it forces in one more.
 pub fn more_steps_keep_a_win()
     ensures { (d : DesignTree) (t : ℕ) (before : List StateData) (s : StateData) (n : ℕ) → Beats d t before s n
@@ -103,4 +112,30 @@ pub fn certified_designs_are_lost()
     ensures { (d : DesignTree) (levels : List Level) → MeetsEnvironment d levels → (n : ℕ)
         → (first : StateData) × IsInitial d first
         × Beats d (length levels * (n * (length (conditions d) * longest_chain levels) + 1)) [] first n }
+{}
+
+/// Under a good driver a stretch in which some goal never holds, whichever goals are pending meanwhile, has fewer
+/// rounds than all ranks together.
+pub fn no_goal_waits_for_all_ranks()
+    ensures { (d : DesignTree) (answers : StateData → ℕ → Move) (ranks : List ℕ) → IsDesign d
+        → Good d (λ s g move. answers s g ≡ move) ranks → (first : StateData) (entries : List Entry)
+        → IsDriven d (λ s g move. answers s g ≡ move) first entries → (goal n : ℕ)
+        (before stretch after : List StateData) → goal < length d.goals
+        → states_of first entries ≡ before ++ (stretch ++ after)
+        → AllByRecursion (λ s. goal_holds d s goal ≡ false) stretch → HasRounds d n stretch → n < sum ranks }
+{}
+
+/// No design has both a good driver and is lost: the definitions of the two sides exclude one another.
+pub fn good_designs_are_not_lost()
+    ensures { (d : DesignTree) (answers : StateData → ℕ → Move) (ranks : List ℕ) → IsDesign d
+        → Good d (λ s g move. answers s g ≡ move) ranks → Lost d → ⊥ }
+{}
+
+/// Of two states at most one comes before the other, and the weight order takes the most significant bits first: here
+/// of a byte, two truths, another byte, two locations and the last mover.
+pub fn state_bits_are_ordered()
+    ensures one_way { (xs ys : List Bool) → comes_before xs ys ≡ true → comes_before ys xs ≡ false }
+    ensures weights { weight_order (8 ∷ 1 ∷ 1 ∷ 8 ∷ 2 ∷ 2 ∷ 2 ∷ [])
+        ≡ 0 ∷ 10 ∷ 1 ∷ 11 ∷ 2 ∷ 12 ∷ 3 ∷ 13 ∷ 4 ∷ 14 ∷ 5 ∷ 15 ∷ 6 ∷ 16 ∷ 18 ∷ 20 ∷ 22
+        ∷ 7 ∷ 8 ∷ 9 ∷ 17 ∷ 19 ∷ 21 ∷ 23 ∷ [] }
 {}

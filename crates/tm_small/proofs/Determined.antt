@@ -67,7 +67,8 @@ same_design d e spec instances one other = λ i. record {
   processes = (one.processes
       ∙ (λ j. all_items (λ t. t.processes) (λ _. true) (λ (p : ProcessTree). p.name) (spec j) (instances j))
       ∙ sym other.processes) i;
-  tasks = (one.tasks ∙ (λ j. all_items (λ t. t.tasks) (λ (k : TaskTree). is_controllable k.kind) (λ (k : TaskTree). k.name) (spec j) (instances j))
+  tasks = (one.tasks ∙ (λ j. all_items (λ t. t.tasks) (λ (k : TaskTree). is_controllable k.kind) (λ (k : TaskTree). k.name) (spec j)
+      (instances j))
       ∙ sym other.tasks) i;
   goals = (one.goals ∙ (λ j.
       with_goal (all_items (λ t. t.goals) (λ _. true) (λ (g : NamedTree). g.name) (spec j) (instances j)))

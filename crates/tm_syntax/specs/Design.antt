@@ -160,6 +160,7 @@ pub record IsDesign (d : DesignTree) : Type 0 where
   pub processes : d.processes
       ≡ all_items (λ t. t.processes) (λ _. true) (λ (p : ProcessTree). p.name) d.spec d.instances
   pub tasks : d.tasks
-      ≡ all_items (λ t. t.tasks) (λ (k : TaskTree). is_controllable k.kind) (λ (k : TaskTree). k.name) d.spec d.instances
+      ≡ all_items (λ t. t.tasks) (λ (k : TaskTree). is_controllable k.kind) (λ (k : TaskTree). k.name) d.spec
+      d.instances
   pub goals : d.goals ≡ with_goal (all_items (λ t. t.goals) (λ _. true) (λ (g : NamedTree). g.name) d.spec d.instances)
   pub fairs : d.fairs ≡ all_items (λ t. t.fairs) (λ _. true) (λ (f : NamedTree). f.name) d.spec d.instances

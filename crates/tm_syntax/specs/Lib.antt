@@ -1,4 +1,5 @@
 pub mod Design
+pub mod Grammar
 pub mod Limits
 pub mod Scopes
 pub mod Tokens

@@ -4,5 +4,5 @@
 mod term;
 mod terms;
 
-pub use term::{Term, TermId};
+pub use term::{Parts, Term, TermId};
 pub use terms::Terms;

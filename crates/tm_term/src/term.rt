@@ -41,15 +41,21 @@ pub enum Term {
 }
 
 /// The parts of a term, in order.
-pub(crate) enum Parts {
+#[derive(Clone, Copy, Debug)]
+pub enum Parts {
+    /// A constant or an input has no part.
     None,
+    /// The one part of a complement, a shift or a change of width.
     One(TermId),
+    /// The two parts of an operator between terms.
     Two(TermId, TermId),
+    /// The test of a choice, and what it chooses between.
     Three(TermId, TermId, TermId),
 }
 
 impl Term {
-    pub(crate) fn parts(self) -> Parts
+    /// The ids that the term names, in order.
+    pub fn parts(self) -> Parts
         ensures { result ≡ parts_of self }
     {
         match self {

@@ -1,5 +1,5 @@
 -- A text is one list of tokens: the token is read back from the first bytes.
-use Rattle.std.proofs.Common.{◌≡◌, ℕ, ◌+◌, ◌^◌, ◌<◌, ◌≤◌, Bool, true, false, cond, Option, None, Some, option_map, ◌==◌, ◌||◌, List, [], ◌∷◌, ◌++◌, map, length, get_or, drop, codes, refl, ap, ap₂, sym, subst, ◌∙◌, true≢false, append_assoc, length-append, arith}
+use Rattle.std.proofs.Common.{◌≡◌, ℕ, ◌+◌, ◌^◌, ◌<◌, Bool, true, false, cond, Option, None, Some, option_map, ◌==◌, ◌||◌, List, [], ◌∷◌, ◌++◌, map, length, get_or, drop, codes, refl, ap, ap₂, sym, subst, ◌∙◌, true≢false, append_assoc, length-append, arith}
 use Rattle.std.specs.Fmt.{decimal}
 use Rattle.std.proofs.lemmas.Bool.Decides.{Decides-eqb}
 use Rattle.std.proofs.lemmas.List.{append_cancel_left}
@@ -12,7 +12,7 @@ use Rattle.tm_bits.specs.declared.shift_operator.ShiftOperator.TheVariants.{Left
 use Rattle.tm_cir.specs.declared.block.Comparison.TheVariants.{Equal, NotEqual, Less, LessEqual, Greater, GreaterEqual}
 use Rattle.tm_cir.specs.declared.block.Junction.TheVariants as truths
 use Rattle.tm_cir.specs.Text.Token.{Word, void, driver_turn, if_word, else_word, goto, return_word, termite_leave, termite_goal, termite_last, Sign, open_parenthesis, close_parenthesis, open_brace, close_brace, colon, semicolon, comma, question, tilde, bang, arithmetic, shifting, comparing, joining, Token, word, label, variable, location, task, constant, sign}
-use Rattle.tm_cir.specs.Text.Spelling.{word_text, sign_text, name_byte, item_name, token_text, token_number, IsLongestSign, BeginsNoWord, EndsToken, BeginsWith, AreTokens, no_more, blank, token}
+use Rattle.tm_cir.specs.Text.Spelling.{word_text, sign_text, name_byte, item_name, token_text, token_number, IsLongestSign, EndsToken, BeginsWith, AreTokens, no_more, blank, token}
 use Rattle.tm_cir.proofs.Text.Expressions.{same_inside}
 use Rattle.tm_cir.proofs.Text.Numbers.{begins_digit, number_in_front, number_read, no_digit, numbered}
 
@@ -122,7 +122,8 @@ sign_read (comparing Less) rest longest =
 sign_read (comparing LessEqual) rest longest = refl
 sign_read (comparing Greater) rest longest =
     ap₂ (λ (v w : Bool).
-    sign_or (cond v (Some (shifting Right)) (cond w (Some (comparing GreaterEqual)) (Some (comparing Greater)))) None)
+    sign_or
+    (cond v (Some (shifting Right)) (cond w (Some (comparing GreaterEqual)) (Some (comparing Greater)))) None)
     (not_next (comparing Greater) (shifting Right) 62 rest refl refl longest)
     (not_next (comparing Greater) (comparing GreaterEqual) 61 rest refl refl longest)
 sign_read (comparing GreaterEqual) rest longest = refl
@@ -175,8 +176,9 @@ token_read d (location k) bytes rest small spelled ends =
 token_read d (task k) bytes rest small spelled ends =
     item_read (λ (t : Item). t.path) 116 k _ bytes rest (task k) small spelled
     (λ more digit number.
-    ap₂ (λ (v : Bool) (n : ℕ). cond v (Some (task n)) (Some (word (termite_word (get_or more 7 0) (get_or more 8 0)))))
-    digit number)
+    ap₂
+    (λ (v : Bool) (n : ℕ).
+    cond v (Some (task n)) (Some (word (termite_word (get_or more 7 0) (get_or more 8 0))))) digit number)
 token_read d (constant k) bytes rest small spelled ends =
     let text = (decimal k ++ codes "ULL") ++ rest in
     let other = sign_or (sign_of (get_or text 0 0) (get_or text 1 0))

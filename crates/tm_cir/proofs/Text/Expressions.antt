@@ -3,7 +3,7 @@
 use Rattle.std.proofs.Common.{◌≡◌, ℕ, zero, suc, ◌+◌, ◌<◌, Option, None, Some, option_and_then, List, [], ◌∷◌, ◌++◌, refl, ap, sym, ◌∙◌, append_assoc, arith}
 use Rattle.tm_cir.specs.Tree.{NumTree, var, goal, last, complement, binary, shift, conditional, TruthTree, num, negation, compare, join}
 use Rattle.tm_cir.specs.Tree as trees
-use Rattle.tm_cir.specs.Text.Token.{Token, word, label, variable, location, task, constant, sign, Sign, termite_goal, termite_last, open_parenthesis, close_parenthesis, colon, question, tilde, bang, arithmetic, shifting, comparing, joining}
+use Rattle.tm_cir.specs.Text.Token.{Token, word, variable, location, constant, sign, termite_goal, termite_last, open_parenthesis, close_parenthesis, colon, question, tilde, bang, arithmetic, shifting, comparing, joining}
 use Rattle.tm_cir.specs.Text.Grammar.{num_tokens, truth_tokens}
 
 -- what stands in front of some tokens, and what follows it
@@ -135,7 +135,8 @@ read_is (suc n) (num (complement a)) rest deep =
 read_is (suc n) (num (binary op a b)) rest deep =
     let close = sign close_parenthesis in
     let s = sign (arithmetic op) in
-    behind (read n) (num a) (s ∷ (num_tokens b ++ close ∷ rest)) _ (two_parts (num_tokens a) (num_tokens b) rest s close)
+    behind (read n) (num a) (s ∷ (num_tokens b ++ close ∷ rest)) _
+    (two_parts (num_tokens a) (num_tokens b) rest s close)
     (read_is n (num a) (s ∷ (num_tokens b ++ close ∷ rest)) (omega arith))
     ∙ ap (option_and_then
     (λ u. option_and_then
@@ -144,7 +145,8 @@ read_is (suc n) (num (binary op a b)) rest deep =
 read_is (suc n) (num (shift op a by)) rest deep =
     let close = sign close_parenthesis in
     let s = sign (shifting op) in
-    behind (read n) (num a) (s ∷ constant by ∷ close ∷ rest) _ (two_parts (num_tokens a) (constant by ∷ []) rest s close)
+    behind (read n) (num a) (s ∷ constant by ∷ close ∷ rest) _
+    (two_parts (num_tokens a) (constant by ∷ []) rest s close)
     (read_is n (num a) (s ∷ constant by ∷ close ∷ rest) (omega arith))
 read_is (suc n) (num (conditional t a b)) rest deep =
     let close = sign close_parenthesis in
@@ -164,7 +166,8 @@ read_is (suc n) (negation t) rest deep =
 read_is (suc n) (compare op a b) rest deep =
     let close = sign close_parenthesis in
     let s = sign (comparing op) in
-    behind (read n) (num a) (s ∷ (num_tokens b ++ close ∷ rest)) _ (two_parts (num_tokens a) (num_tokens b) rest s close)
+    behind (read n) (num a) (s ∷ (num_tokens b ++ close ∷ rest)) _
+    (two_parts (num_tokens a) (num_tokens b) rest s close)
     (read_is n (num a) (s ∷ (num_tokens b ++ close ∷ rest)) (omega arith))
     ∙ ap (option_and_then
     (λ u. option_and_then
@@ -173,7 +176,8 @@ read_is (suc n) (compare op a b) rest deep =
 read_is (suc n) (join op t u) rest deep =
     let close = sign close_parenthesis in
     let s = sign (joining op) in
-    behind (read n) t (s ∷ (truth_tokens u ++ close ∷ rest)) _ (two_parts (truth_tokens t) (truth_tokens u) rest s close)
+    behind (read n) t (s ∷ (truth_tokens u ++ close ∷ rest)) _
+    (two_parts (truth_tokens t) (truth_tokens u) rest s close)
     (read_is n t (s ∷ (truth_tokens u ++ close ∷ rest)) (omega arith))
     ∙ ap (option_and_then (λ v. closed (join op t v.0) v.1)) (read_is n u (close ∷ rest) (omega arith))
 

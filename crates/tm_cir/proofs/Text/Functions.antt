@@ -3,8 +3,8 @@ use Rattle.std.proofs.Common.{◌≡◌, ℕ, ◌+◌, List, [], ◌∷◌, ◌+
 use Rattle.std.specs.List.{flat_map}
 use Rattle.tm_cir.specs.Tree.{NumTree, var, goal, last, complement, binary, shift, conditional, TruthTree, BlockTree, test, call, leave, idle}
 use Rattle.tm_cir.specs.Tree as trees
-use Rattle.tm_cir.specs.Text.Token.{Token, word, label, task, constant, sign, void, driver_turn, if_word, else_word, goto, return_word, termite_leave, open_parenthesis, close_parenthesis, open_brace, close_brace, colon, semicolon, comma}
-use Rattle.tm_cir.specs.Text.Grammar.{num_tokens, truth_tokens, argument_tokens, goto_tokens, return_tokens, statement_tokens, block_tokens, driver_tokens}
+use Rattle.tm_cir.specs.Text.Token.{Token, word, label, task, sign, if_word, else_word, goto, return_word, open_parenthesis, close_parenthesis, close_brace, semicolon, comma}
+use Rattle.tm_cir.specs.Text.Grammar.{num_tokens, truth_tokens, argument_tokens, statement_tokens, block_tokens, driver_tokens}
 use Rattle.tm_cir.proofs.Text.Expressions.{same_truth, same_num}
 
 -- the arguments behind the first one

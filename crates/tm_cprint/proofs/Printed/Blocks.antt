@@ -7,7 +7,7 @@ use Rattle.tm_syntax.specs.declared.design.Item.{Item}
 use Rattle.tm_syntax.specs.Design.{DesignTree}
 use Rattle.tm_cir.specs.Tree.{NumTree, BlockTree, test, call, leave, idle}
 use Rattle.tm_cir.specs.Fit.{declared_task, parameter_count, FitsBlock}
-use Rattle.tm_cir.specs.Text.Token.{open_parenthesis, close_parenthesis, colon, semicolon, comma, Token, word, label, task, constant, sign, if_word, else_word, goto, return_word, termite_leave}
+use Rattle.tm_cir.specs.Text.Token.{open_parenthesis, close_parenthesis, colon, semicolon, comma, Token, word, label, task, sign, if_word, else_word, goto, return_word, termite_leave}
 use Rattle.tm_cir.specs.Text.Grammar.{parenthesized, num_tokens, truth_tokens, argument_tokens, goto_tokens, return_tokens, statement_tokens, block_tokens}
 use Rattle.tm_cir.specs.Text.Spelling.{AreTokens, blank}
 use Rattle.tm_cprint.specs.Layout.{task_name, constant_text, num_text, truth_text, arguments_text, goto_text, statement_text, blocks_text}
@@ -119,7 +119,8 @@ statement_prints d counted count at few (test t i j) fits rest us are =
     space_then
     (word_then else_word
     (space_then (goto_prints d j (10 ∷ rest) us (omega (arith, fits.2.1)) (blank refl are) refl)) refl) in
-    let middle : AreTokens d (41 ∷ 32 ∷ (goto_text i ++ (32 ∷ 101 ∷ 108 ∷ 115 ∷ 101 ∷ 32 ∷ (goto_text j ++ (10 ∷ rest)))))
+    let middle : AreTokens d
+    (41 ∷ 32 ∷ (goto_text i ++ (32 ∷ 101 ∷ 108 ∷ 115 ∷ 101 ∷ 32 ∷ (goto_text j ++ (10 ∷ rest)))))
     (sign close_parenthesis ∷ (goto_tokens i ++ (word else_word ∷ (goto_tokens j ++ us)))) =
     sign_then close_parenthesis (space_then (goto_prints d i _ _ (omega (arith, fits.1.1)) end refl)) refl in
     same_as (test_text (truth_text d t) (goto_text i) (goto_text j) rest)
@@ -149,7 +150,8 @@ statement_prints d counted count at few (leave p) fits rest us are =
     (sign close_parenthesis ∷ sign semicolon ∷ (return_tokens ++ us)) =
     sign_then close_parenthesis (sign_then semicolon (blank refl (return_prints d rest us are)) refl) refl in
     same_as
-    (ap (λ (text : List ℕ). codes "\ttermite_leave(" ++ text) (append_assoc (constant_text p) (codes ");\n\treturn;\n") rest))
+    (ap (λ (text : List ℕ). codes "\ttermite_leave(" ++ text)
+    (append_assoc (constant_text p) (codes ");\n\treturn;\n") rest))
     refl
     (blank refl
     (word_then termite_leave

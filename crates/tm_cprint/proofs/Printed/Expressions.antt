@@ -1,10 +1,10 @@
 -- The text of an expression is its tokens, whatever stands behind it that continues neither a word nor a sign.
-use Rattle.std.proofs.Common.{◌≡◌, ℕ, ◌^◌, ◌<◌, List, [], ◌∷◌, ◌++◌, length, codes, refl, sym, ap, ap₂, subst, ◌∙◌, append_assoc, arith}
+use Rattle.std.proofs.Common.{◌≡◌, ℕ, ◌^◌, ◌<◌, List, [], ◌∷◌, ◌++◌, length, codes, refl, ap, append_assoc, arith}
 use Rattle.tm_syntax.specs.Design.{DesignTree}
 use Rattle.tm_cir.specs.Tree.{NumTree, var, goal, last, complement, binary, shift, conditional, TruthTree, num, negation, compare, join}
 use Rattle.tm_cir.specs.Tree as trees
 use Rattle.tm_cir.specs.Fit.{FitsNum, FitsTruth}
-use Rattle.tm_cir.specs.Text.Token.{Sign, open_parenthesis, close_parenthesis, colon, question, tilde, bang, arithmetic, shifting, comparing, joining, Token, word, constant, sign, termite_goal, termite_last}
+use Rattle.tm_cir.specs.Text.Token.{Sign, open_parenthesis, close_parenthesis, colon, question, tilde, bang, arithmetic, shifting, comparing, joining, Token, constant, sign, termite_goal, termite_last}
 use Rattle.tm_cir.specs.Text.Grammar.{parenthesized, num_tokens, truth_tokens}
 use Rattle.tm_cir.specs.Text.Spelling.{sign_text, BeginsNoWord, AreTokens}
 use Rattle.tm_cprint.specs.Layout.{constant_text, between, num_text, truth_text}
@@ -53,7 +53,8 @@ between_prints d a b xs ys s first quiet second rest us are breaks =
     sign_then close_parenthesis are breaks.quiet in
     let right : AreTokens d (32 ∷ (b ++ 41 ∷ rest)) (ys ++ sign close_parenthesis ∷ us) =
     space_then (second _ _ closed (record { word = refl; quiet = refl })) in
-    let both : AreTokens d (32 ∷ (sign_text s ++ (32 ∷ (b ++ 41 ∷ rest)))) (sign s ∷ (ys ++ sign close_parenthesis ∷ us)) =
+    let both : AreTokens d (32 ∷ (sign_text s ++ (32 ∷ (b ++ 41 ∷ rest))))
+    (sign s ∷ (ys ++ sign close_parenthesis ∷ us)) =
     space_then (sign_then s right refl) in
     same_as (between_text a (sign_text s) b rest) (between_tokens xs ys us (sign s))
     (sign_then open_parenthesis (first _ _ both (record { word = refl; quiet = refl })) (quiet _))

@@ -1,6 +1,6 @@
--- A token in front of a text, and what may follow it: behind a sign no byte that makes it longer, and behind a word or a
--- constant no letter, digit or `_`.
-use Rattle.std.proofs.Common.{◌≡◌, ℕ, ◌+◌, ◌^◌, ◌<◌, ◌≤◌, Bool, true, false, Option, Some, None, option_map, ◌==◌, ◌||◌, ◌⊎◌, inl, inr, List, [], ◌∷◌, ◌++◌, length, get_or, drop, codes, refl, ap, sym, subst, ◌∙◌, true≢false, lit<, slice_get, append_assoc, arith}
+-- A token in front of a text, and what may follow it: behind a sign no byte that makes it longer, and behind a word or
+-- a constant no letter, digit or `_`.
+use Rattle.std.proofs.Common.{◌≡◌, ℕ, ◌^◌, ◌<◌, ◌≤◌, Bool, true, false, Option, Some, None, option_map, ◌==◌, ◌||◌, ◌⊎◌, inl, inr, List, [], ◌∷◌, ◌++◌, length, get_or, drop, codes, refl, ap, sym, subst, ◌∙◌, true≢false, lit<, slice_get, append_assoc, arith}
 use Rattle.std.specs.Fmt.{decimal}
 use Rattle.std.specs.Option.{option_map_or}
 use Rattle.std.specs.Str.Parse.{AllDigits}

@@ -34,7 +34,8 @@ body_is d counted bs few fits =
     (word_then driver_turn
     (sign_then open_parenthesis
     (word_then void
-    (sign_then close_parenthesis (blank refl (sign_then open_brace (blank refl inner) refl)) refl) refl) refl) refl)) refl)
+    (sign_then close_parenthesis (blank refl (sign_then open_brace (blank refl inner) refl)) refl) refl) refl)
+    refl)) refl)
 
 -- the printed text is its blocks
 pub is_driver : (d : DesignTree) → IsCounted d → (bs : List BlockTree) → length bs < 2 ^ 64 → FitBlocks d bs →

@@ -80,7 +80,8 @@ thread d p =
 
 -- the locations of a process between its start and its end
 abbrev pub locations : DesignTree → ℕ → List Location
-locations d p = option_map_or (λ t. body_locations (suc (call_depth d.spec)) d t.scope [] t.process.body []) (thread d p) []
+locations d p =
+    option_map_or (λ t. body_locations (suc (call_depth d.spec)) d t.scope [] t.process.body []) (thread d p) []
 
 -- the number of a process's end; its start is 0
 abbrev pub end_number : DesignTree → ℕ → ℕ

@@ -12,7 +12,7 @@ value_crosses called (star _) = false
 value_crosses called (result path _) = called path
 value_crosses called (plain _) = false
 
--- whether a statement is sure to cross: both branches of an `if`, every alternative of a `choice`, one statement of a row
+-- whether a statement is sure to cross: both branches of an `if`, every alternative of a `choice`, a statement of a row
 abbrev mutual
   pub stmt_crosses : (List Ident → Bool) → StmtTree → Bool
   stmt_crosses called (assign _ _ value) = value_crosses called value

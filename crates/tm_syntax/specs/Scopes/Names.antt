@@ -1,5 +1,5 @@
 -- Where the names of a specification lead: to types, templates, enums, constants, instances and tasks.
-use Rattle.std.specs.Prelude.{ℕ, Bool, Option, Some, List, [], ◌∷◌, ◌++◌, nat_eq, position, find, unwrap_or, slice_get}
+use Rattle.std.specs.Prelude.{ℕ, ◌^◌, Bool, Option, Some, List, [], ◌∷◌, ◌++◌, nat_eq, position, find, unwrap_or, slice_get}
 use Rattle.std.specs.Option.{option_and_then}
 use Rattle.std.specs.Bool.{then_some}
 use Rattle.std.specs.List.{filter_map}
@@ -20,10 +20,14 @@ is_spelled bytes name = pointwise nat_eq bytes name.text
 abbrev pub number_of : Num → ℕ
 number_of n = unwrap_or n.value 0
 
+-- the number of bits that a type writes; all from 2 ^ 64 on are one
+abbrev pub written_width : Num → ℕ
+written_width n = unwrap_or n.value (2 ^ 64)
+
 -- a type as it stands in the text, resolved
 abbrev pub type_of : TypeName → Ty
 type_of (written.Bool _) = types.Bool
-type_of (written.Uint _ n) = types.Uint (number_of n)
+type_of (written.Uint _ n) = types.Uint (written_width n)
 type_of (written.Enum name) = types.Enum name.text
 
 -- the number of the template of this name

@@ -8,7 +8,7 @@ use Rattle.tm_syntax.specs.declared.tree.BinaryOperator.TheVariants.{Add, Subtra
 use Rattle.tm_syntax.specs.declared.design.Ty.{Ty}
 use Rattle.tm_syntax.specs.declared.design.Ty.TheVariants as types
 use Rattle.tm_syntax.specs.Tree.{SpecTree, ExprTree, truth, number, path, group, unary, binary, shift, conditional, cast, element}
-use Rattle.tm_syntax.specs.Scopes.Names.{is_spelled, number_of, type_of}
+use Rattle.tm_syntax.specs.Scopes.Names.{is_spelled, number_of, written_width, type_of}
 use Rattle.tm_syntax.specs.Scopes.Context.{Context, slot_of, variable_of}
 
 -- the first of two types that is there
@@ -44,7 +44,7 @@ own_type c (binary _ Xor a b) = either_type (own_type c a) (own_type c b)
 own_type c (binary _ _ _ _) = Some types.Bool
 own_type c (shift _ _ e _) = own_type c e
 own_type c (conditional _ _ a b) = either_type (own_type c a) (own_type c b)
-own_type c (cast _ to _) = Some (types.Uint (number_of to))
+own_type c (cast _ to _) = Some (types.Uint (written_width to))
 own_type c (element names _) = named_type c names
 
 -- the type in which an expression is valued: its own, or the one that its place asks for
