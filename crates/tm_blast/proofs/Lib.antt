@@ -1,0 +1,12 @@
+pub mod CallerLaws
+pub mod Entries
+pub mod Extended
+pub mod Filling
+pub mod InputLevels
+pub mod Marked
+pub mod Numbers
+pub mod PartNumbers
+pub mod PartTerms
+pub mod Places
+pub mod Rows
+pub mod TermNumbers
