@@ -1,0 +1,16 @@
+pub mod Canonical
+pub mod Exact
+pub mod ExactCert
+pub mod ExactNodes
+pub mod ExactObjects
+pub mod ExactParts
+pub mod Judging
+pub mod KeyOrders
+pub mod Keys
+pub mod LineFeed
+pub mod Lists
+pub mod Paths
+pub mod Shallow
+pub mod Texts
+pub mod Writing
+pub mod WrittenTexts

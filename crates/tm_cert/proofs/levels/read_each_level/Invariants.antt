@@ -1,0 +1,12 @@
+use Rattle.std.proofs.Common.{◌≡◌, [], drop}
+use Rattle.serde_json.specs.View.{items_view}
+use Rattle.tm_cert.specs.Judged.{at_next, each}
+use Rattle.tm_cert.specs.Levels.{level_at}
+use Rattle.tm_cert.specs.Path.{path_text}
+use Rattle.tm_cert.proofs.levels.read_each_level.Given as goal
+
+abbrev pub invariant-loop-value : goal.invariant-loop-value
+invariant-loop-value l =
+    let judge = at_next (level_at l.goals l.fairs l.ids) (path_text l.path) in
+    each judge [] (items_view l.parts)
+    ≡ each judge l.levels.items (items_view (drop l.value-index l.parts))

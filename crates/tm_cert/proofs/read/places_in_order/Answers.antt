@@ -1,0 +1,7 @@
+use Rattle.std.proofs.Common.{refl, arith}
+use Rattle.std.proofs.lemmas.Iterator.{items_from_collect, YieldsList-from_range}
+use Rattle.tm_cert.proofs.read.places_in_order.Goals as goal
+
+pub returns : goal.returns
+returns c =
+    items_from_collect _ c.collect.ensures.ran (YieldsList-from_range 0 c.args.bits c.args.bits refl (omega arith))

@@ -1,0 +1,14 @@
+pub mod Cert
+pub mod CertValue
+pub mod Goals
+pub mod Judge
+pub mod Judged
+pub mod KeyOrder
+pub mod Levels
+pub mod Nodes
+pub mod Order
+pub mod Part
+pub mod Parts
+pub mod Path
+pub mod Three
+pub mod Written

@@ -1,0 +1,15 @@
+//! What stands in both kinds of certificate.
+
+/// The formats of a certificate. The first one has no order.
+#[derive(Clone, Copy, PartialEq, Eq, Debug)]
+pub(crate) enum Format {
+    First,
+    Second,
+}
+
+/// Whose certificate it is.
+#[derive(Clone, Copy, PartialEq, Eq, Debug)]
+pub(crate) enum Side {
+    Driver,
+    Environment,
+}

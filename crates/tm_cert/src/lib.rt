@@ -1,0 +1,23 @@
+//! Certificates as JSON, read and written.
+#![tactic(auto)]
+
+mod cert;
+mod goals;
+mod head;
+mod levels;
+mod nodes;
+mod order;
+mod part;
+mod path;
+mod read;
+mod refusal;
+mod shape;
+#[cfg(test)]
+mod tests;
+mod write;
+
+pub use cert::{Cert, CertLevel, DriverCert, Entry, EnvCert, Rank};
+pub use read::{judged_exactly, keys_are_in_byte_order, read_shaped};
+pub use refusal::{BadCert, ReadCertError};
+pub use shape::{CertShape, Kind};
+pub use write::write_shaped;
