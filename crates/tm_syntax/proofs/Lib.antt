@@ -1,4 +1,11 @@
 pub mod Crossings
+pub mod Designs
+pub mod Examples
+pub mod Faults
+pub mod Instances
+pub mod Limits
+pub mod Places
 pub mod TokenSpans
 pub mod Tokens
+pub mod Variables
 pub mod Views

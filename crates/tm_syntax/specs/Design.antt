@@ -1,5 +1,6 @@
 -- The design of a specification (Ryzhyk et al. 2009): its instances in preorder from `main`, and what they hold,
 -- numbered instance by instance and in text order within a template.
+pub mod Atoms
 pub mod Cells
 pub mod Locations
 pub mod Scope

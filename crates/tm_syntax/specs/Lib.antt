@@ -1,6 +1,10 @@
+pub mod Counts
 pub mod Design
+pub mod Examples
+pub mod Faults
 pub mod Grammar
 pub mod Limits
+pub mod Places
 pub mod Scopes
 pub mod Tokens
 pub mod Tree
