@@ -16,7 +16,8 @@ use tm_dd::NodeId;
 use tm_ddops::Manager;
 use tm_term::{TermId, Terms};
 
-/// The bits of a term, the most significant first, as `TermBits::bits` makes them where none were made.
+/// The bits of a term, the most significant first, as `TermBits::bits` makes them where none were made. What it made
+/// below the term is let go.
 pub fn bits(
     alloc: Global,
     terms: &Terms,
@@ -36,7 +37,7 @@ pub fn bits(
 
 impl TermBits {
     /// The bits of a term, the most significant first: on every assignment of the levels they mean the term's value
-    /// over the values of the inputs.
+    /// over the values of the inputs (bit-blasting; Kroening and Strichman, Decision Procedures, 2008).
     ///
     /// `levels` gives each input one level for each bit, the most significant bit's first. What was made before was
     /// made with these terms, or ones that they extend, these levels and this manager. In one pass, in the order of

@@ -11,7 +11,7 @@ use tm_base::Steps;
 use tm_dd::NodeId;
 use tm_ddops::Manager;
 
-/// What is done with two bits of one weight, and with what the bits below handed on.
+/// What is done with two bits of one weight, and with what the cell below handed on.
 #[derive(Clone, Copy)]
 pub(crate) enum Cell {
     /// Both bits.
@@ -106,7 +106,7 @@ fn sum_carry(carry: NodeId, x: NodeId, y: NodeId, dd: &mut Manager) -> Result<No
     dd.ite(differ, x, y)
 }
 
-// One of two bits: equal ones are not asked which.
+// The first of two bits where the test holds, and else the second. Equal bits need no test.
 fn chosen(test: NodeId, x: NodeId, y: NodeId, dd: &mut Manager) -> Result<NodeId, AllocError>
     requires test { Knows dd.old.table test }
     requires x { Knows dd.old.table x }
@@ -122,8 +122,8 @@ fn chosen(test: NodeId, x: NodeId, y: NodeId, dd: &mut Manager) -> Result<NodeId
     dd.ite(test, x, y)
 }
 
-/// What a row of cells gives for the bits of two numbers, the least significant first. The highest cell hands nothing
-/// on.
+/// What a row of cells gives for the bits of two numbers, the least significant first. `carry` comes into the lowest
+/// cell, and the highest one hands nothing on.
 pub(crate) fn rippled(
     alloc: Global,
     cell: Cell,

@@ -46,7 +46,8 @@ impl Comparison {
     }
 }
 
-/// What a comparison gives for the bits of two numbers, the least significant first.
+/// What a comparison gives for the bits of two numbers, the least significant first. `first` is what it gives for no
+/// bits.
 pub(crate) fn compared(
     op: Comparison,
     first: NodeId,

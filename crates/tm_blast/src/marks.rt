@@ -1,6 +1,6 @@
 //! Which terms are wanted for the bits of a term: itself, and the parts of wanted terms whose bits were not made.
 //!
-//! A term is marked by how far below the term it stands, so that no more is looked at than lies between.
+//! A mark's place is how far below the term its own term stands, so no more marks are made than ids lie between.
 ghost use Rattle.std.specs.Prelude.{◌≡◌, ℕ, ◌+◌, ◌-◌, ◌<◌, ◌≤◌, true, IfOk, OnOk, length, max};
 ghost use Rattle.tm_term.specs.Parts.{AreBelow};
 ghost use Rattle.tm_term.specs.Table.{IsKnown};

@@ -1,4 +1,4 @@
-//! Bits that no operation on diagrams makes, but those of inputs: constants, complements and shifts.
+//! Bits that take no operation on diagrams: those of constants and inputs, complements, and bits that are moved or cut.
 ghost use Rattle.std.specs.Prelude.{◌≡◌, ◌-◌, ◌<◌, ◌≤◌, All, IfOk, map, reverse, slice_index_or};
 ghost use Rattle.tm_dd.specs.Reduced.{Extends};
 ghost use Rattle.tm_dd.specs.Table.{Table, Knows};

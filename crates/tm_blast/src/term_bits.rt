@@ -172,7 +172,7 @@ fn difference(
     rippled(alloc, Cell::Sum, TRUE, a, &turned, dd)
 }
 
-// The one bit of a comparison.
+// The one bit of a comparison, which gives `first` for no bits.
 fn tested(
     alloc: Global,
     op: Comparison,

@@ -11,7 +11,7 @@ use Rattle.tm_ddops.specs.declared.connective.Connective.TheVariants.{And, Or, X
 use Rattle.tm_ddops.specs.Choice.{IsChoice, IsOpen, choice_value}
 use Rattle.tm_ddops.specs.Connective.{connective_choice, connective_operation, connective_value, larger, smaller, xor}
 use Rattle.tm_ddops.specs.Manager.{IsFunction, IsResult}
-use Rattle.tm_ddops.specs.Memo.{HasOpen}
+use Rattle.tm_ddops.specs.Inner.Memo.{HasOpen}
 use Rattle.tm_ddops.specs.Operation.{operands, operation_value}
 use Rattle.tm_ddops.specs.Reached.{IsInnerNodes, RisesByPairs}
 use Rattle.tm_ddops.proofs.Facts.{knows-Extends}

@@ -9,10 +9,10 @@ use Rattle.tm_dd.specs.declared.node.NodeId.{NodeId}
 use Rattle.tm_dd.specs.declared.node.TheConstants.{FALSE, TRUE}
 use Rattle.tm_dd.specs.NodeId.{IsConstant, complement}
 use Rattle.tm_dd.specs.Reduced.{IsReduced, IsNode, Extends}
-use Rattle.tm_dd.specs.Table.{Table, Knows, kept, level_of, means, node_of}
+use Rattle.tm_dd.specs.Table.{Table, Knows, level_of, means, node_of}
 use Rattle.tm_dd.proofs.CallerLaws.{means-FALSE, means-TRUE, complement-complement, Extends-trans}
 use Rattle.tm_ddops.specs.Copied.{AddsReached, AllReached, AreCopies, IsCopy, MeanTheSame, ReachesUpToMark}
-use Rattle.tm_ddops.specs.Found.{Found}
+use Rattle.tm_ddops.specs.Inner.Found.{Found}
 use Rattle.tm_ddops.specs.Manager.{IsFunction}
 use Rattle.tm_ddops.specs.Reached.{Reaches, itself, through_lo, through_hi}
 use Rattle.tm_ddops.proofs.Facts.{below_or_not, constant_cases, knows-constant, knows-Extends}
@@ -132,12 +132,6 @@ adds_node a b c d rb rc bc cd lo hi id klo khi low high inner is_lo is_hi added 
 
 -- ---- root by root
 
-pub means_nothing : (from to : Table) (ids : List NodeId) → ids ≡ [] → MeanTheSame from [] to ids
-means_nothing from to ids empty = record {
-  as_many = ap length empty;
-  functions = λ i d below. absurd (omega (arith, below));
-}
-
 same_function : (from to : Table) (f g x y : NodeId) → f ≡ g → x ≡ y → IsFunction to x (means from f) →
     IsFunction to y (means from g)
 same_function from to f g x y of is h =
@@ -173,9 +167,6 @@ knows_each : (from s : Table) (fs ids : List NodeId) → MeanTheSame from fs s i
     Knows s r
 knows_each from s fs ids m r there =
     subst (Knows s) there.2 (m.functions there.0 r (omega (arith, there.1, m.as_many))).known
-
-pub reached_nothing : (s : Table) (ids : List NodeId) → kept s ≡ 0 → AllReached s ids
-reached_nothing s ids empty g known = inl (omega (arith, known, empty))
 
 pub reached_more : (from s t : Table) → IsReduced s → Extends s t → (fs ids : List NodeId) → MeanTheSame from fs s ids →
     (id : NodeId)

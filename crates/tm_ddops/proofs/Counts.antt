@@ -15,7 +15,7 @@ use Rattle.tm_dd.specs.declared.node.NodeId.{NodeId}
 use Rattle.tm_dd.specs.NodeId.{number_of}
 use Rattle.tm_dd.specs.Table.{Table}
 use Rattle.tm_ddops.specs.declared.choice.Choice.{Choice}
-use Rattle.tm_ddops.specs.Memo.{Memo, choice_eq, HasOpen, IsUnnoted, NotesOnlyMet, RisesByNotes}
+use Rattle.tm_ddops.specs.Inner.Memo.{Memo, choice_eq, HasOpen, IsUnnoted, NotesOnlyMet, RisesByNotes}
 use Rattle.tm_ddops.proofs.Walks.{same_choice}
 
 choice_eq-refl : (a : Choice) → choice_eq a a ≡ true

@@ -1,11 +1,11 @@
 -- What a walk has found, after one more id.
-use Rattle.std.proofs.Common.{◌≡◌, Bool, true, false, if◌then◌else◌, [], Some, None, refl, sym, ap, subst, ◌∙◌}
+use Rattle.std.proofs.Common.{◌≡◌, Bool, true, false, if◌then◌else◌, Some, refl, sym, ap, subst, ◌∙◌}
 use Rattle.std.proofs.lemmas.Bool.{eqb-true}
 use Rattle.std.specs.HashMap.{Updates, IsUnchanged}
 use Rattle.std.specs.Map.{lookup}
 use Rattle.tm_dd.specs.declared.node.NodeId.{NodeId}
 use Rattle.tm_dd.proofs.CallerLaws.{same_number}
-use Rattle.tm_ddops.specs.Found.{Found, found_at, id_eq}
+use Rattle.tm_ddops.specs.Inner.Found.{Found, found_at, id_eq}
 
 pub same_id : (f g : NodeId) → id_eq f g ≡ true → f ≡ g
 same_id f g h = same_number f g (eqb-true _ _ h)
@@ -25,7 +25,3 @@ module _ (P : NodeId → NodeId → Type 0) (m n : Found) (were : (g r : NodeId)
 
   pub found_unchanged : IsUnchanged m n → (g r : NodeId) → found_at n g ≡ Some r → P g r
   found_unchanged e g r h = were g r (ap (lookup (id_eq g)) (sym e) ∙ h)
-
-pub found_nothing : (P : NodeId → NodeId → Type 0) (m : Found) → m.entries ≡ [] → (g r : NodeId) →
-    found_at m g ≡ Some r → P g r
-found_nothing P m empty g r h = let none : lookup (id_eq g) m.entries ≡ None = ap (lookup (id_eq g)) empty in cc

@@ -76,11 +76,6 @@ knows_connective s And f g kf kg = record { test = kf; if_true = kg; if_false = 
 knows_connective s Or f g kf kg = record { test = kf; if_true = omega arith; if_false = kg }
 knows_connective s Xor f g kf kg = record { test = kf; if_true = Knows-complement s g kg; if_false = kg }
 
-second_known : (s : Table) (c : Connective) (f g : NodeId) → KnowsChoice s (connective_choice c f g) → Knows s g
-second_known s And f g k = k.if_true
-second_known s Or f g k = k.if_false
-second_known s Xor f g k = k.if_false
-
 -- an open choice of a connective is one of two inner nodes
 pub first_inner : (c : Connective) (f g : NodeId) → IsOpen (connective_choice c f g) → ¬ IsConstant f
 first_inner And f g open_ = open_.0

@@ -8,7 +8,7 @@ use Rattle.tm_dd.proofs.CallerLaws.{Extends-trans}
 use Rattle.tm_ddops.specs.declared.choice.Choice.{Choice}
 use Rattle.tm_ddops.specs.declared.operation.Operation.{Operation}
 use Rattle.tm_ddops.specs.Choice.{IsChoice, choice_value}
-use Rattle.tm_ddops.specs.Manager.{AreResults, Diagrams, Grows, IsManager, IsResult, Remembers}
+use Rattle.tm_ddops.specs.Manager.{AreResults, Diagrams, Grows, IsManager, IsResult, Remembers, most_results}
 use Rattle.tm_ddops.specs.Operation.{operands, operation_value}
 use Rattle.tm_ddops.proofs.Facts.{knows-Extends}
 use Rattle.tm_ddops.proofs.Results.{AreResults-Extends}
@@ -16,7 +16,7 @@ use Rattle.tm_ddops.proofs.Results.{AreResults-Extends}
 -- a manager whose store was extended, and whose results are those that it had, and true new ones
 pub manager_after : (m n : Diagrams) → IsManager m → Extends m.table n.table → IsReduced n.table
     → ((o : Operation) (id : NodeId) → Remembers n o id → Remembers m o id ⊎ IsResult n.table o id)
-    → AllPairs (λ a b. a.0 ≢ b.0) n.results → length n.results ≤ 65536 → IsManager n
+    → AllPairs (λ a b. a.0 ≢ b.0) n.results → length n.results ≤ most_results → IsManager n
 manager_after m n sound e reduced only once few = record {
   reduced = reduced;
   results = λ o id h. elim (only o id h) [
@@ -32,7 +32,7 @@ pub manager_extended : (m n : Diagrams) → IsManager m → Extends m.table n.ta
     n.results ≡ m.results → IsManager n
 manager_extended m n sound e reduced same =
     manager_after m n sound e reduced (λ o id h. inl (subst (λ rs. Contains rs (o, id)) same h))
-    (subst (AllPairs (λ a b. a.0 ≢ b.0)) (sym same) sound.once) (subst (λ rs. length rs ≤ 65536) (sym same) sound.few)
+    (subst (AllPairs (λ a b. a.0 ≢ b.0)) (sym same) sound.once) (subst (λ rs. length rs ≤ most_results) (sym same) sound.few)
 
 -- a result of a choice is one of the operation that has its value
 pub result_of_choice : (s t : Table) → Extends s t → (o : Operation) (k : Choice) (id : NodeId) →
@@ -49,7 +49,7 @@ manager_empty n reduced empty = record {
   reduced = reduced;
   results = λ o id h. absurd (Contains-nil (o, id) (subst (λ rs. Contains rs (o, id)) empty h));
   once = subst (AllPairs (λ a b. a.0 ≢ b.0)) (sym empty) (λ i j d below within. absurd (omega (arith, within)));
-  few = subst (λ rs. length rs ≤ 65536) (sym empty) (omega arith);
+  few = subst (λ rs. length rs ≤ most_results) (sym empty) (omega arith);
 }
 
 -- a remembered result that is told is true
@@ -63,7 +63,7 @@ result_told s results o (Some id) are told = are o id told
 pub manager_remembers : (m n : Diagrams) → IsManager m → Extends m.table n.table → IsReduced n.table →
     (o : Operation) (id : NodeId) → IsResult n.table o id
     → ((e : Operation × NodeId) → Contains n.results e → Contains m.results e ⊎ (e ≡ (o, id)))
-    → AllPairs (λ a b. a.0 ≢ b.0) n.results → length n.results ≤ 65536 → IsManager n
+    → AllPairs (λ a b. a.0 ≢ b.0) n.results → length n.results ≤ most_results → IsManager n
 manager_remembers m n sound e reduced o id new only once few =
     manager_after m n sound e reduced
     (λ p f h. elim (only (p, f) h) [

@@ -7,8 +7,8 @@ use Rattle.tm_dd.specs.Table.{Table}
 use Rattle.tm_ddops.specs.declared.change.Change.{Change}
 use Rattle.tm_ddops.specs.declared.tables.Tables.{Tables}
 use Rattle.tm_ddops.specs.Changed.{IsChanged, change_of}
-use Rattle.tm_ddops.specs.Tables.{AreTrue, AreVisits, IsTrueVisit, numbered}
-use Rattle.tm_ddops.specs.Visited.{AreChanged, SameElsewhere, Visited, found_under}
+use Rattle.tm_ddops.specs.Inner.Tables.{AreTrue, AreVisits, IsTrueVisit, numbered}
+use Rattle.tm_ddops.specs.Inner.Visited.{AreChanged, SameElsewhere, Visited, found_under}
 use Rattle.tm_ddops.proofs.Changing.{IsChanged-Extends, changed_alike}
 use Rattle.tm_ddops.proofs.Walks.{AreChoices-Extends}
 

@@ -7,7 +7,7 @@ use Rattle.tm_dd.specs.declared.node.NodeId.{NodeId}
 use Rattle.tm_dd.specs.NodeId.{number_of}
 use Rattle.tm_dd.proofs.CallerLaws.{same_number}
 use Rattle.tm_ddops.specs.declared.rewrite.Visit.{Visit}
-use Rattle.tm_ddops.specs.Visited.{SameElsewhere, Visited, found_under, visit_eq}
+use Rattle.tm_ddops.specs.Inner.Visited.{SameElsewhere, Visited, found_under, visit_eq}
 
 both_true : (a b : Bool) → a && b ≡ true → (a ≡ true) × (b ≡ true)
 both_true true b h = (refl, h)

@@ -9,7 +9,7 @@ use Rattle.tm_dd.specs.Table.{Table}
 use Rattle.tm_dd.proofs.CallerLaws.{same_number, Extends-trans}
 use Rattle.tm_ddops.specs.declared.choice.Choice.{Choice}
 use Rattle.tm_ddops.specs.Choice.{choice_level, cofactor_choice, IsChoice, IsOpen, KnowsChoice, Met, here, below}
-use Rattle.tm_ddops.specs.Memo.{Memo, choice_eq, noted, AreChoices, NotesOnlyMet, IsUnnoted}
+use Rattle.tm_ddops.specs.Inner.Memo.{Memo, choice_eq, noted, AreChoices, NotesOnlyMet, IsUnnoted}
 use Rattle.tm_ddops.proofs.Choices.{choice_level-open, choice_level-cofactor_choice, knows-cofactor_choice, cofactor_choice-Extends, choice_level-Extends, KnowsChoice-Extends, IsChoice-Extends}
 
 -- ---- equality of choices

@@ -3,7 +3,7 @@ use Rattle.std.specs.Prelude.{◌≡◌, ℕ, ◌<◌, ◌≤◌, ◌⊎◌, Boo
 use Rattle.tm_dd.specs.declared.node.NodeId.{NodeId}
 use Rattle.tm_dd.specs.NodeId.{IsConstant, complement}
 use Rattle.tm_dd.specs.Table.{Table, Knows, level_of, means}
-use Rattle.tm_ddops.specs.Found.{Found, found_at}
+use Rattle.tm_ddops.specs.Inner.Found.{Found, found_at}
 use Rattle.tm_ddops.specs.Manager.{IsFunction}
 use Rattle.tm_ddops.specs.Reached.{Reaches}
 

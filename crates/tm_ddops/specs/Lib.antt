@@ -3,15 +3,12 @@ pub mod Changed
 pub mod Choice
 pub mod Connective
 pub mod Copied
-pub mod Found
+pub mod Inner
 pub mod Layout
 pub mod Least
 pub mod Manager
-pub mod Memo
 pub mod Operation
 pub mod Parts
 pub mod Quantified
 pub mod Reached
 pub mod Support
-pub mod Tables
-pub mod Visited

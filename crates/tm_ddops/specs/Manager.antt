@@ -30,17 +30,21 @@ AreResults s results = (operation : Operation) (id : NodeId) → Contains result
 abbrev pub Remembers : Diagrams → Operation → NodeId → Type 0
 Remembers m operation id = Contains m.results (operation, id)
 
--- what holds of every manager: ids are canonical, each remembered result is true, none stands twice, and there are at
--- most 65,536
+-- how many results a manager remembers at most
+abbrev pub most_results : ℕ
+most_results = 65536
+
+-- what holds of every manager: ids are canonical, each remembered result is true, none stands twice, and there are no
+-- more than may be
 pub record IsManager (m : Diagrams) : Type 0 where
   pub reduced : IsReduced m.table
   pub results : AreResults m.table m.results
   pub once : AllPairs (λ a b. a.0 ≢ b.0) m.results
-  pub few : length m.results ≤ 65536
+  pub few : length m.results ≤ most_results
 
 -- what a call that makes diagrams leaves: each id means what it meant, and a result is forgotten only where the list
 -- is full
 pub record Grows (old new : Diagrams) : Type 0 where
   pub extends : Extends old.table new.table
   pub results : (operation : Operation) (id : NodeId) → Remembers old operation id →
-      Remembers new operation id ⊎ (length new.results ≡ 65536)
+      Remembers new operation id ⊎ (length new.results ≡ most_results)

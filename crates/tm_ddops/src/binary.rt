@@ -8,7 +8,7 @@ ghost use Rattle.tm_ddops.specs.Reached.{RisesByPairs};
 ghost use Rattle.tm_ddops.specs.declared.operation.Operation.TheVariants as operation;
 
 use crate::connective::Connective;
-use crate::manager::{Manager, ROOM};
+use crate::manager::Manager;
 use std::alloc::AllocError;
 use tm_base::Steps;
 use tm_dd::NodeId;
@@ -132,7 +132,7 @@ impl Manager {
         ensures again_free { (id : Id) → Remembers self.old (connective_operation connective f g) id →
             steps.new ≡ steps.old }
     {
-        prove!(self.cache.len() <= ROOM);
+        prove!(self.cache.len() <= self.cache.cap().get());
         let choice = connective.choice(f, g);
         if f.is_constant() || g.is_constant() || f == g {
             if let Some(known) = choice.shortcut() {

@@ -5,8 +5,8 @@ ghost use Rattle.tm_dd.specs.Reduced.{Extends, MeansNode};
 ghost use Rattle.tm_dd.specs.Table.{Table, Knows, kept, level_of, means, node_of};
 ghost use Rattle.tm_ddops.specs.Changed.{IsChanged, KnowsParts, change_of};
 ghost use Rattle.tm_ddops.specs.Choice.{choice_value, KnowsChoice};
-ghost use Rattle.tm_ddops.specs.Manager.{Grows, IsFunction, IsManager, IsResult, Remembers};
-ghost use Rattle.tm_ddops.specs.Memo.{HasOpen};
+ghost use Rattle.tm_ddops.specs.Manager.{Grows, IsFunction, IsManager, IsResult, Remembers, most_results};
+ghost use Rattle.tm_ddops.specs.Inner.Memo.{HasOpen};
 ghost use Rattle.tm_ddops.specs.Operation.{operands, operation_value};
 ghost use Rattle.tm_dd.specs.declared.node.NodeId.{NodeId as Id};
 ghost use Rattle.tm_ddops.specs.declared.choice.Choice.{Choice as Met};
@@ -236,7 +236,7 @@ impl Manager {
 /// A cache that remembers no result, and at most `ROOM` of them.
 pub(crate) fn empty_cache(alloc: Global) -> Result<Cache, AllocError>
     ensures empty { IfOk result (λ cache. cache.entries ≡ []) }
-    ensures room { IfOk result (λ cache. cache.cap ≡ 65536) }
+    ensures room { IfOk result (λ cache. cache.cap ≡ most_results) }
 {
     LruCache::sparse(alloc, NonZeroUsize::MIN.saturating_add(ROOM - 1))
 }

@@ -5,7 +5,7 @@ ghost use Rattle.tm_ddops.specs.Manager.{Grows, IsManager};
 ghost use Rattle.tm_ddops.specs.Quantified.{IsExists, IsForall};
 
 use crate::change::Changes;
-use crate::manager::{Manager, ROOM};
+use crate::manager::Manager;
 use std::alloc::AllocError;
 use tm_dd::NodeId;
 

@@ -6,8 +6,8 @@ ghost use Rattle.tm_dd.specs.Table.{Knows, level_of, means, node_of};
 ghost use Rattle.tm_dd.specs.declared.node.NodeId.{NodeId as Id};
 ghost use Rattle.tm_ddops.specs.Changed.{IsChanged, KnowsParts, branch_value, change_at};
 ghost use Rattle.tm_ddops.specs.Manager.{IsFunction};
-ghost use Rattle.tm_ddops.specs.Memo.{AreChoices};
-ghost use Rattle.tm_ddops.specs.Visited.{AreChanged, SameElsewhere};
+ghost use Rattle.tm_ddops.specs.Inner.Memo.{AreChoices};
+ghost use Rattle.tm_ddops.specs.Inner.Visited.{AreChanged, SameElsewhere};
 ghost use Rattle.tm_ddops.specs.declared.change.Change.TheVariants as variant;
 
 use crate::change::Change;

@@ -3,7 +3,7 @@ ghost use Rattle.std.specs.Prelude.{◌≡◌, ◌<◌, ◌≤◌, ℕ, [], IfOk
 ghost use Rattle.tm_dd.specs.Reduced.{Extends, IsReduced};
 ghost use Rattle.tm_dd.specs.Table.{Table, Knows};
 ghost use Rattle.tm_ddops.specs.Changed.{IsChanged, KnowsParts, change_of};
-ghost use Rattle.tm_ddops.specs.Tables.{AreTrue, numbered};
+ghost use Rattle.tm_ddops.specs.Inner.Tables.{AreTrue, numbered};
 
 use crate::change::{Changes, by_level, depth};
 use crate::rewrite::{Visit, Walks};

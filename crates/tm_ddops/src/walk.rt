@@ -4,7 +4,7 @@ ghost use Rattle.tm_ddops.specs.declared.choice.Choice.{Choice};
 ghost use Rattle.tm_dd.specs.Table.{Table, Knows, kept, level_of, means};
 ghost use Rattle.tm_dd.specs.Reduced.{IsReduced, Extends};
 ghost use Rattle.tm_ddops.specs.Choice.{choice_level, cofactor_choice, KnowsChoice, IsChoice, IsOpen};
-ghost use Rattle.tm_ddops.specs.Memo.{Memo, choice_eq, noted, AreChoices, NotesOnlyMet, RisesByNotes, IsUnnoted, HasOpen};
+ghost use Rattle.tm_ddops.specs.Inner.Memo.{Memo, choice_eq, noted, AreChoices, NotesOnlyMet, RisesByNotes, IsUnnoted, HasOpen};
 
 use crate::choice::Choice;
 use std::alloc::AllocError;

@@ -5,7 +5,7 @@ use Rattle.tm_dd.proofs.CallerLaws.{Extends-refl}
 use Rattle.tm_ddops.specs.Choice.{IsChoice, KnowsChoice, choice_value}
 use Rattle.tm_ddops.specs.Connective.{connective_operation, connective_value}
 use Rattle.tm_ddops.specs.Manager.{IsFunction, IsManager, IsResult, Remembers}
-use Rattle.tm_ddops.specs.Memo.{HasOpen}
+use Rattle.tm_ddops.specs.Inner.Memo.{HasOpen}
 use Rattle.tm_ddops.specs.Operation.{operands, operation_value}
 use Rattle.tm_ddops.proofs.Connectives.{same_value, operands_known, function_of_result, function_of_choice, result_of_function, rises_by_pairs, rises_by_none}
 use Rattle.tm_ddops.proofs.Facts.{same_ids}

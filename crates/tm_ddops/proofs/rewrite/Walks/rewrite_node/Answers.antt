@@ -1,6 +1,6 @@
 use Rattle.std.proofs.Common.{sym, ap, subst, ◌∙◌}
 use Rattle.tm_ddops.specs.Changed.{IsChanged, change_at}
-use Rattle.tm_ddops.specs.Visited.{AreChanged, SameElsewhere, found_under}
+use Rattle.tm_ddops.specs.Inner.Visited.{AreChanged, SameElsewhere, found_under}
 use Rattle.tm_ddops.proofs.Changing.{IsChanged-Extends}
 use Rattle.tm_ddops.proofs.VisitLemmas.{elsewhere_insert, visit_insert, visit_unchanged}
 use Rattle.tm_ddops.proofs.rewrite.Walks.rewrite_node.Goals as goal

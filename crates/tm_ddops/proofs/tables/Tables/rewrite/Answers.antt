@@ -1,7 +1,7 @@
 use Rattle.std.proofs.Common.{IfOk, sym, ap, subst, ◌∙◌, arith}
 use Rattle.tm_ddops.specs.Changed.{IsChanged, KnowsParts, change_of}
-use Rattle.tm_ddops.specs.Memo.{AreChoices}
-use Rattle.tm_ddops.specs.Tables.{AreTrue, AreVisits}
+use Rattle.tm_ddops.specs.Inner.Memo.{AreChoices}
+use Rattle.tm_ddops.specs.Inner.Tables.{AreTrue, AreVisits}
 use Rattle.tm_ddops.proofs.Changing.{changed_below}
 use Rattle.tm_ddops.proofs.TableLemmas.{visits_later}
 use Rattle.tm_ddops.proofs.tables.Tables.rewrite.Goals as goal

@@ -2,7 +2,7 @@ use Rattle.std.proofs.Common.{◌≡◌, ℕ, ◌<◌, [], get_or, ap, ◌∙◌
 use Rattle.std.proofs.lemmas.List.{get_or_default}
 use Rattle.std.proofs.lemmas.Result.{IfOk-weaker}
 use Rattle.tm_ddops.specs.Changed.{change_at, change_of}
-use Rattle.tm_ddops.specs.Tables.{numbered}
+use Rattle.tm_ddops.specs.Inner.Tables.{numbered}
 use Rattle.tm_ddops.proofs.Changing.{changed_alike}
 use Rattle.tm_ddops.proofs.TableLemmas.{visits_after, visits_of_number}
 use Rattle.tm_ddops.proofs.tables.Tables.walk.Goals as goal

@@ -5,8 +5,8 @@ use Rattle.tm_dd.specs.Table.{Table}
 use Rattle.tm_ddops.specs.declared.change.Change.{Change}
 use Rattle.tm_ddops.specs.declared.tables.Tables.{Tables}
 use Rattle.tm_ddops.specs.Changed.{IsChanged, change_of}
-use Rattle.tm_ddops.specs.Memo.{AreChoices}
-use Rattle.tm_ddops.specs.Visited.{Visited, found_under}
+use Rattle.tm_ddops.specs.Inner.Memo.{AreChoices}
+use Rattle.tm_ddops.specs.Inner.Visited.{Visited, found_under}
 
 -- the changes of a number
 abbrev pub numbered : List (List (ℕ × Change)) → ℕ → ℕ → Option Change

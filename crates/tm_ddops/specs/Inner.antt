@@ -1,0 +1,5 @@
+-- What contracts of private functions alone cite: the tables that walks fill.
+pub mod Found
+pub mod Memo
+pub mod Tables
+pub mod Visited
