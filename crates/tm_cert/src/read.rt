@@ -30,6 +30,9 @@ use std::alloc::{AllocError, Global};
 /// `Bad` is the first fault of the text. The keys are judged in the order `format`, `kind`, `bits`, `order`, `nodes`,
 /// `region` and `goals` or `levels`, and any other key last; each part before its own parts, and its shape before its
 /// range. `Memory` is want of memory.
+///
+/// Time and memory are linear in the length of the text. Measured, not proved: a certificate of 16 MiB is made, written
+/// and read within a second, in 20 times its length of memory.
 #[tactic(auto, unfolding(crate::specs::Judge::judge_text))]
 pub fn read_shaped(alloc: Global, shape: CertShape, text: &[u8]) -> Result<Cert, ReadCertError>
     ensures ok { IfOk result (IsCertText shape text.now) }

@@ -21,7 +21,7 @@ struct Written {
     written: &'static str,
 }
 
-const WRITTEN: [Written; 7] = [
+const WRITTEN: [Written; 9] = [
     // A driver that sets a bit.
     Written {
         goals: 1,
@@ -64,13 +64,30 @@ const WRITTEN: [Written; 7] = [
             \"kind\":\"driver\",\"nodes\":[[3,1,0],[2,2,1],[1,3,0],[0,0,4],[0,4,0],[4,1,0],[2,0,7],\
             [1,8,0],[2,0,1],[1,10,0]],\"order\":[0,1,2,3,4],\"region\":4}\n",
     },
-    // A goal that holds from the start and for ever, in another order of the levels.
+    // A goal that holds from the start and for ever.
+    Written {
+        goals: 1,
+        text: "{\"bits\":5,\"format\":1,\"goals\":[{\"ranks\":[[0,2]]}],\"kind\":\"driver\",\
+            \"nodes\":[[0,1,0]],\"region\":2}",
+        written: "{\"bits\":5,\"format\":2,\"goals\":[{\"ranks\":[[0,2]]}],\"kind\":\"driver\",\
+            \"nodes\":[[0,1,0]],\"order\":[0,1,2,3,4],\"region\":2}\n",
+    },
+    // The same in another order of the levels.
     Written {
         goals: 1,
         text: "{\"bits\":5,\"format\":2,\"goals\":[{\"ranks\":[[0,2]]}],\"kind\":\"driver\",\
             \"nodes\":[[4,1,0]],\"order\":[1,2,3,4,0],\"region\":2}",
         written: "{\"bits\":5,\"format\":2,\"goals\":[{\"ranks\":[[0,2]]}],\"kind\":\"driver\",\
             \"nodes\":[[4,1,0]],\"order\":[1,2,3,4,0],\"region\":2}\n",
+    },
+    // A set that stands twice among the ranks, which is for the checker of a design to refuse.
+    Written {
+        goals: 1,
+        text: "{\"bits\":5,\"format\":1,\"goals\":[{\"ranks\":[[0,7],[0,7],[0,9],[1,6]]}],\"kind\":\"driver\",\
+            \"nodes\":[[3,1,0],[4,1,0],[2,2,3],[1,4,0],[0,5,1],[0,0,1],[2,0,3],[1,8,0]],\"region\":6}\n",
+        written: "{\"bits\":5,\"format\":2,\"goals\":[{\"ranks\":[[0,7],[0,7],[0,9],[1,6]]}],\"kind\":\"driver\",\
+            \"nodes\":[[3,1,0],[4,1,0],[2,2,3],[1,4,0],[0,5,1],[0,0,1],[2,0,3],[1,8,0]],\
+            \"order\":[0,1,2,3,4],\"region\":6}\n",
     },
     // Any layout, and of a key that stands twice the last one counts.
     Written {
@@ -90,7 +107,7 @@ const WRITTEN: [Written; 7] = [
 ];
 
 /// Texts that are no certificate of a driver, and the first fault of each.
-const HEADS: [(&str, &str); 20] = [
+const HEADS: [(&str, &str); 21] = [
     ("{\"bits\":5", "json"),
     ("", "json"),
     ("{\"bits\":1e400}", "json"),
@@ -134,6 +151,11 @@ const HEADS: [(&str, &str); 20] = [
         "shape goals",
     ),
     (
+        "{\"bits\":5,\"format\":1,\"kind\":\"driver\",\
+            \"nodes\":[[3,1,0],[4,1,0],[2,2,3],[1,4,0],[0,5,1],[0,0,1],[2,0,3],[1,8,0]],\"region\":10}",
+        "range region",
+    ),
+    (
         "{\"bits\":5,\"format\":2,\"kind\":\"driver\",\"nodes\":0}",
         "shape order",
     ),
@@ -157,7 +179,7 @@ const ORDERS: [(&str, &str); 5] = [
 /// What stands before nodes, and values that are none.
 const BEFORE_NODES: &str = "{\"bits\":5,\"format\":1,\"kind\":\"driver\",\"nodes\":";
 
-const NODES: [(&str, &str); 13] = [
+const NODES: [(&str, &str); 14] = [
     ("{}", "shape nodes"),
     ("[0]", "shape nodes[0]"),
     ("[[3,1,0],[3,1]]", "shape nodes[1]"),
@@ -171,6 +193,10 @@ const NODES: [(&str, &str); 13] = [
     ("[[5,1,0]]", "node 2"),
     ("[[4294967296,1,0]]", "node 2"),
     ("[[3,1,0],[4,1,0],[2,2,3],[3,1,0]]", "node 5"),
+    (
+        "[[3,1,0],[4,1,0],[2,2,3],[1,4,0],[0,5,1],[0,0,1],[2,0,3],[1,8,0],[0,0,1]]",
+        "node 10",
+    ),
 ];
 
 /// What stands before a region, and values that are none.
