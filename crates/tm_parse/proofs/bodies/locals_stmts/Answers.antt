@@ -1,0 +1,44 @@
+use Rattle.std.proofs.Common.{is_some, refl, arith, rules, sym, ap, ◌∙◌, subst, [], ◌∷◌, ◌++◌, ◌+◌, List}
+use Rattle.std.proofs.Common.{map}
+use Rattle.std.proofs.lemmas.List.{map_push}
+use Rattle.tm_syntax.specs.Tree.{LocalTree}
+use Rattle.tm_syntax.specs.Tree.View.{local_tree}
+use Rattle.tm_parse.proofs.Locals.{LocalsSoFar, locals_begun, locals_more, taken_body, no_body_local, no_body_stmts}
+use Rattle.tm_parse.proofs.Taking.{refused_so}
+use Rattle.tm_parse.proofs.bodies.locals_stmts.Goals as goal
+
+pub declarations-init : goal.declarations-init
+declarations-init c =
+    record {
+      so_far = subst (λ (ds : List LocalTree).
+          LocalsSoFar c.args.text.now c.args.depth ds c.args.tokens.now c.args.tokens.now)
+          (sym (ap (map local_tree) c.new-locals.ensures.items)) locals_begun;
+      shorter = omega arith;
+    }
+
+pub declarations-preserved : goal.declarations-preserved
+declarations-preserved c =
+    record {
+      so_far = subst (λ (ds : List LocalTree).
+          LocalsSoFar c.args.text.now c.args.depth ds c.args.tokens.now c.in_ok-local.behind.now)
+          (sym (ap (map local_tree) c.in_ok-push.ensures.items
+          ∙ map_push local_tree c.declarations.locals.items c.in_ok-local.local))
+          (locals_more c.declarations.invariant.so_far c.in_ok-local.ensures.taken);
+      shorter = omega (arith, c.in_ok-local.ensures.shorter);
+    }
+
+pub returns-in_err-local-clause-refused : goal.returns-in_err-local-clause-refused
+returns-in_err-local-clause-refused c =
+    let h = refused_so (λ deep here. no_body_local (search rules) c.declarations.invariant.so_far) _
+    c.in_err-local.ensures.refused in
+    search rules
+
+pub returns-in_err-stmts-clause-refused : goal.returns-in_err-stmts-clause-refused
+returns-in_err-stmts-clause-refused c =
+    let h = refused_so (λ deep here. no_body_stmts (search rules) c.declarations.invariant.so_far) _
+    c.in_err-stmts.ensures.refused in
+    search rules
+
+pub returns-clause-taken : goal.returns-clause-taken
+returns-clause-taken c =
+    taken_body (search rules) c.in_ok-stmts.ensures.ended c.declarations.invariant.so_far c.in_ok-stmts.ensures.taken

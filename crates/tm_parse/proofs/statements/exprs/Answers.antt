@@ -1,0 +1,48 @@
+use Rattle.std.proofs.Common.{refl, arith, rules, sym, ap, ◌∙◌, subst, [], ◌∷◌, ◌++◌, List}
+use Rattle.std.proofs.lemmas.List.{map_push}
+use Rattle.tm_syntax.specs.declared.token.Sign.TheVariants as sign
+use Rattle.tm_syntax.specs.Tree.{ExprTree}
+use Rattle.tm_syntax.specs.Tree.View.{expr_tree, expr_trees}
+use Rattle.tm_parse.specs.Operands.{AnExpr, GoesExpr}
+use Rattle.tm_parse.proofs.Lists.{SoFar, so_far_one, so_far_more, so_far_all, list_blocked, more_blocked}
+use Rattle.tm_parse.proofs.Taking.{refused_so}
+use Rattle.tm_parse.proofs.Terminals.{without_place}
+use Rattle.tm_parse.proofs.Values.{listed_exprs}
+use Rattle.tm_parse.proofs.statements.exprs.Goals as goal
+
+pub returns-in_err-first-clause-refused : goal.returns-in_err-first-clause-refused
+returns-in_err-first-clause-refused c =
+    let h = refused_so (λ deep here. list_blocked sign.Comma (listed_exprs c.args.text.now c.args.depth).comma) _
+    c.in_err-first.ensures.refused in
+    search rules
+
+pub loop-behind-init : goal.loop-behind-init
+loop-behind-init c = record {
+  so_far = subst (λ (es : List ExprTree).
+      SoFar sign.Comma (AnExpr c.args.text.now 0 c.args.depth) (GoesExpr 0) es c.args.tokens.now c.in_ok-first.rest.now)
+      (sym (ap expr_trees (c.in_ok-push.ensures.items
+      ∙ ap (λ es. es ++ c.in_ok-first.first ∷ []) c.new-exprs.ensures.items)))
+      (so_far_one (listed_exprs c.args.text.now c.args.depth).comma c.in_ok-first.ensures.taken);
+  shorter = omega (arith, c.in_ok-first.ensures.shorter);
+}
+
+pub returns-in_err-next-clause-refused : goal.returns-in_err-next-clause-refused
+returns-in_err-next-clause-refused c =
+    let h = refused_so (λ deep here. more_blocked (listed_exprs c.args.text.now c.args.depth).comma
+    c.loop-behind.invariant.so_far (without_place c.in-Some.ensures.taken)) _ c.in_err-next.ensures.refused in
+    search rules
+
+pub loop-behind-preserved : goal.loop-behind-preserved
+loop-behind-preserved c = record {
+  so_far = subst (λ (es : List ExprTree).
+      SoFar sign.Comma (AnExpr c.args.text.now 0 c.args.depth) (GoesExpr 0) es c.args.tokens.now
+      c.in_ok-next.behind.now)
+      (sym (ap expr_trees c.in_ok-push-2.ensures.items ∙ map_push expr_tree c.loop-behind.exprs.items
+      c.in_ok-next.next))
+      (so_far_more (listed_exprs c.args.text.now c.args.depth).comma c.loop-behind.invariant.so_far
+      (without_place c.in-Some.ensures.taken) c.in_ok-next.ensures.taken);
+  shorter = omega (arith, c.in_ok-next.ensures.shorter, c.in-Some.ensures.shorter);
+}
+
+pub returns-clause-taken : goal.returns-clause-taken
+returns-clause-taken c = so_far_all (c.in_default.ensures.none refl) c.loop-behind.invariant.so_far

@@ -1,0 +1,6 @@
+pub mod Answer
+pub mod Commands
+pub mod Items
+pub mod Operands
+pub mod Reading
+pub mod Width
