@@ -1,0 +1,124 @@
+-- The numbers of variables and tasks lead to what their paths mean.
+use Rattle.std.proofs.Common.{◌≡◌, ℕ, Bool, Option, None, Some, List, map, slice_get, position, find, refl, sym, ap, ◌∙◌}
+use Rattle.std.proofs.lemmas.Option.{slice_get-map}
+use Rattle.std.specs.Option.{option_map, option_and_then}
+use Rattle.tm_syntax.specs.declared.tree.Ident.{Ident}
+use Rattle.tm_syntax.specs.declared.tree.Spec.{Spec}
+use Rattle.tm_syntax.specs.declared.tree.Template.{Template}
+use Rattle.tm_syntax.specs.Tree.{SpecTree, TemplateTree, VarTree, TaskTree}
+use Rattle.tm_syntax.specs.Tree.View.{spec_tree, template_tree, var_tree}
+use Rattle.tm_syntax.specs.Scopes.Names.{is_spelled, last_name, template_along}
+use Rattle.tm_syntax.specs.Scopes.Context.{BodyName, variable_of}
+use Rattle.tm_syntax.specs.Scopes.Pauses.{task_reached}
+use Rattle.tm_scope.specs.declared.members.Member.{Member}
+use Rattle.tm_scope.specs.Context.{template_at}
+use Rattle.tm_scope.specs.Members.{var_at, task_at}
+use Rattle.tm_scope.specs.Numbers.{number_along, var_number, task_number}
+use Rattle.tm_scope.proofs.FirstNames.{find-map}
+use Rattle.tm_scope.proofs.Numbers.{template_at_number_along}
+use Rattle.tm_scope.proofs.PathSteps.{template_read}
+use Rattle.tm_scope.proofs.Positions.{find-position}
+
+and_then-and_then : {X Y Z : Type 0} (f : X → Option Y) (g : Y → Option Z) (o : Option X) →
+    option_and_then g (option_and_then f o) ≡ option_and_then (λ x. option_and_then g (f x)) o
+and_then-and_then f g None = refl
+and_then-and_then f g (Some x) = refl
+
+and_then-map : {X Y Z : Type 0} (f : X → Y) (g : Y → Option Z) (o : Option X) →
+    option_and_then g (option_map f o) ≡ option_and_then (λ x. g (f x)) o
+and_then-map f g None = refl
+and_then-map f g (Some x) = refl
+
+-- one sort of members of the templates, and what is told of one
+module _ {X Y : Type 0} (spec : SpecTree) (sort : TemplateTree → List X) (tell : TemplateTree → Option X → Option Y)
+    (none : (t : TemplateTree) → tell t None ≡ None) (p : X → Bool) where
+  abbrev told_at : Member → Option Y
+  told_at m = option_and_then (λ t. tell t (slice_get (sort t) m.index)) (slice_get spec.templates m.template)
+
+  in_template : (n : ℕ) (o : Option TemplateTree) → slice_get spec.templates n ≡ o →
+      option_and_then told_at
+      (option_and_then (λ t. option_map (λ k. record { template = n; index = k }) (position p (sort t))) o)
+      ≡ option_and_then (λ t. tell t (find p (sort t))) o
+  in_template n None is = refl
+  in_template n (Some t) is =
+      and_then-map (λ k. record { template = n; index = k }) told_at (position p (sort t))
+      ∙ by (position p (sort t))
+      ∙ ap (tell t) (sym (find-position p (sort t)))
+    where
+      by : (o : Option ℕ) → option_and_then (λ k. told_at (record { template = n; index = k })) o
+          ≡ tell t (option_and_then (slice_get (sort t)) o)
+      by None = sym (none t)
+      by (Some k) = ap (option_and_then (λ t. tell t (slice_get (sort t) k))) is
+
+  told : (number : Option ℕ) →
+      option_and_then told_at (option_and_then (λ n. option_and_then (λ t.
+      option_map (λ k. record { template = n; index = k }) (position p (sort t))) (slice_get spec.templates n)) number)
+      ≡ option_and_then (λ t. tell t (find p (sort t))) (template_at spec number)
+  told None = refl
+  told (Some n) = in_template n (slice_get spec.templates n) refl
+
+-- the variable of the number is the variable that the path means
+pub var_at_number : (spec : SpecTree) (path : List Ident) (from : ℕ) (body : BodyName) →
+    option_and_then (var_at spec) (var_number spec from path)
+    ≡ option_and_then (λ t. variable_of (record { spec = spec; template = t; body = body }) path)
+    (slice_get spec.templates from)
+var_at_number spec path from body =
+    told spec (λ t. t.vars) (λ t o. o) (λ t. refl) (λ (v : VarTree). is_spelled (last_name path) v.name)
+    (number_along spec from path)
+    ∙ ap (option_and_then (λ t. find (λ (v : VarTree). is_spelled (last_name path) v.name) t.vars))
+    (template_at_number_along spec path from)
+    ∙ and_then-and_then (λ t. template_along spec t path)
+    (λ t. find (λ (v : VarTree). is_spelled (last_name path) v.name) t.vars) (slice_get spec.templates from)
+
+-- the task of the number is the task that the path leads to
+pub task_at_number : (spec : SpecTree) (path : List Ident) (from : ℕ) →
+    option_and_then (task_at spec) (task_number spec from path)
+    ≡ option_and_then (λ t. task_reached spec t path) (slice_get spec.templates from)
+task_at_number spec path from =
+    told spec (λ t. t.tasks) (λ t o. option_map (λ k. (t, k)) o) (λ t. refl)
+    (λ (k : TaskTree). is_spelled (last_name path) k.name) (number_along spec from path)
+    ∙ ap (option_and_then (λ t. option_map (λ k. (t, k))
+    (find (λ (k : TaskTree). is_spelled (last_name path) k.name) t.tasks)))
+    (template_at_number_along spec path from)
+    ∙ and_then-and_then (λ t. template_along spec t path)
+    (λ t. option_map (λ k. (t, k)) (find (λ (k : TaskTree). is_spelled (last_name path) k.name) t.tasks))
+    (slice_get spec.templates from)
+
+-- the template in which a path ends, from one that is there
+module _ (s : Spec) (from : ℕ) (t : Template) (at : slice_get s.templates.items from ≡ Some t) (path : List Ident)
+  where
+    template_along-tables : template_along (spec_tree s) (template_tree t) path
+        ≡ option_map template_tree
+        (option_and_then (slice_get s.templates.items) (number_along (spec_tree s) from path))
+    template_along-tables =
+        sym (template_at_number_along (spec_tree s) path from
+        ∙ ap (option_and_then (λ u. template_along (spec_tree s) u path)) (template_read s from t at))
+        ∙ by (number_along (spec_tree s) from path)
+      where
+        by : (number : Option ℕ) → template_at (spec_tree s) number
+            ≡ option_map template_tree (option_and_then (slice_get s.templates.items) number)
+        by None = refl
+        by (Some n) = slice_get-map template_tree s.templates.items n
+
+    -- the variable that a path means stands in the template that the tables find
+    pub variable_of-tables : (body : BodyName) →
+        variable_of (record { spec = spec_tree s; template = template_tree t; body = body }) path
+        ≡ option_and_then (λ (u : Template). option_map var_tree
+        (find (λ v. is_spelled (last_name path) v.name) u.vars.items))
+        (option_and_then (slice_get s.templates.items) (number_along (spec_tree s) from path))
+    variable_of-tables body =
+        ap (option_and_then (λ u. find (λ (v : VarTree). is_spelled (last_name path) v.name) u.vars))
+        template_along-tables
+        ∙ and_then-map template_tree (λ u. find (λ (v : VarTree). is_spelled (last_name path) v.name) u.vars) found
+        ∙ by found
+      where
+        found : Option Template
+        found = option_and_then (slice_get s.templates.items) (number_along (spec_tree s) from path)
+
+        by : (o : Option Template) →
+            option_and_then (λ (u : Template). find (λ (v : VarTree). is_spelled (last_name path) v.name)
+            (map var_tree u.vars.items)) o
+            ≡ option_and_then (λ (u : Template). option_map var_tree
+            (find (λ v. is_spelled (last_name path) v.name) u.vars.items)) o
+        by None = refl
+        by (Some u) = find-map (λ (v : VarTree). is_spelled (last_name path) v.name) var_tree u.vars.items

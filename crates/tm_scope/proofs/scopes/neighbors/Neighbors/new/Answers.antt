@@ -1,0 +1,10 @@
+use Rattle.std.proofs.Common.{position, ap, ◌∙◌}
+use Rattle.tm_syntax.specs.Scopes.Names.{is_spelled}
+use Rattle.tm_scope.proofs.scopes.neighbors.Neighbors.new.Goals as goal
+
+pub invariant_of-result : goal.invariant_of-result
+invariant_of-result c = record {
+  instance = λ name. c.in_ok-instances.ensures name
+      ∙ ap (position (λ x. is_spelled name x.name)) c.as_slice.ensures.value;
+  port = λ name. c.in_ok-ports.ensures name ∙ ap (position (λ x. is_spelled name x.name)) c.as_slice-2.ensures.value;
+}

@@ -1,0 +1,10 @@
+pub mod CallOrder
+pub mod Calls
+pub mod Context
+pub mod Directory
+pub mod Inner
+pub mod Instances
+pub mod Marks
+pub mod Members
+pub mod Numbers
+pub mod Types

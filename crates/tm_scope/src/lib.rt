@@ -1,0 +1,28 @@
+//! Finds by tables what the names, types and calls of a specification mean, as its definitions say.
+#![tactic(auto)]
+
+mod calls;
+mod context;
+mod members;
+mod names;
+mod scopes;
+mod sites;
+#[cfg(test)]
+mod tests;
+mod types;
+mod variables;
+
+pub use calls::{
+    CallMarks, TaskSet, body_crosses, body_pauses, calls_in_order_settle, crossing_tasks,
+    pausing_tasks, row_crosses, row_pauses, stmt_crosses, stmt_pauses, tasks_tell_calls,
+};
+pub use context::BodyName;
+pub use members::{Member, SiteTask, SlotNumber};
+pub use names::Directory;
+pub use scopes::{
+    BodyScope, Scopes, numbers_lead_where_tasks_are, numbers_lead_where_templates_do,
+    numbers_lead_where_variables_are,
+};
+pub use sites::{Sites, sites_depend_on_instances_alone};
+pub use types::ExprType;
+pub use variables::Variables;
