@@ -1,0 +1,16 @@
+mod ExampleFacts
+mod Fixed
+mod Following
+mod Items
+mod Joins
+mod LevelCertificates
+mod Operators
+mod RankCertificates
+mod ReachSteps
+mod RoundSteps
+mod Sets
+mod Siding
+mod SolveSteps
+mod TurnSteps
+mod Views
+mod WaitSteps

@@ -1,0 +1,5 @@
+pub mod Example
+pub mod Goals
+pub mod Rounds
+pub mod Turns
+pub mod Waits

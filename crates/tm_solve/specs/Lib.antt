@@ -1,0 +1,12 @@
+pub mod Exact
+pub mod Fixpoints
+pub mod Game
+pub mod Ids
+pub mod Inner
+pub mod Iterates
+pub mod Levels
+pub mod Operator
+pub mod OperatorLaws
+pub mod Ranks
+pub mod Sets
+pub mod Sides

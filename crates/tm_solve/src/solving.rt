@@ -1,0 +1,50 @@
+//! The winning region: the greatest fixpoint over Z.
+ghost use Rattle.std.specs.Prelude.{IfOk};
+ghost use Rattle.tm_solve.specs.Fixpoints.{Holds, InRegion};
+ghost use Rattle.tm_solve.specs.Ids.{Follows};
+ghost use Rattle.tm_solve.specs.Iterates.{driver_sets, EndAt, KnowsAll, levels_of};
+ghost use Rattle.tm_solve.specs.Levels.{LevelsFit};
+ghost use Rattle.tm_solve.specs.Ranks.{RanksFit};
+
+use crate::ids::same;
+use crate::iterates::Iterates;
+use crate::pre::Pre;
+use crate::rounds::play_round;
+use std::alloc::{AllocError, Global};
+
+/// The winning region of a GR(1) game, nu Z . AND_j mu Y . OR_i nu X . part(Z, Y, X, j, i) (Piterman, Pnueli and Sa'ar
+/// 2006), with ranked sets that lead to each goal and levels that lead out of all states.
+///
+/// It asks the step operator with the same Z and Y as long as X changes. Want of memory is the only error; after it
+/// nothing has changed but that more ids may be known.
+pub fn solve<P: Pre>(alloc: Global, pre: &mut P) -> Result<Iterates, AllocError>
+    // The region is exactly the fixpoint, and every id is known.
+    ensures region { IfOk result (λ it.
+        Holds (P.game pre.old).states ((P.ids pre.new).means it.region) (InRegion (P.game pre.old))) }
+    ensures known { IfOk result (λ it. KnowsAll (P.ids pre.new) it) }
+
+    // The ranked sets of each goal lead to the region, and the last is the region by its id.
+    ensures ranks { IfOk result (λ it. RanksFit (P.game pre.old) (driver_sets (P.ids pre.new) it)) }
+    ensures last { IfOk result (λ it. EndAt it.region it.ranks.items) }
+
+    // The levels lead to all that is outside the region.
+    ensures levels { IfOk result (λ it.
+        LevelsFit (P.game pre.old) ((P.ids pre.new).means it.region) (levels_of (P.ids pre.new) it)) }
+
+    // The game stays, and every id that was known means what it meant.
+    ensures follows { Follows (P.game pre.old) (P.ids pre.old) (P.game pre.new) (P.ids pre.new) }
+{
+    let mut z = pre.whole();
+    let mut levels = Vec::new(alloc);
+    'rounds: loop {
+        let remaining = play_round(alloc, pre, z, &mut levels)?;
+        if same(remaining.region, z) {
+            return Ok(Iterates {
+                region: z,
+                ranks: remaining.ranks,
+                levels,
+            });
+        }
+        z = remaining.region;
+    }
+}
