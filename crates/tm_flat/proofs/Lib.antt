@@ -1,0 +1,17 @@
+pub mod Arguments
+pub mod BitSteps
+pub mod Crossings
+pub mod Finding
+pub mod Frames
+pub mod InOrder
+pub mod Indices
+pub mod Ranges
+pub mod Samples
+pub mod Seeing
+pub mod Telling
+pub mod Tiny
+pub mod ToBits
+pub mod ToList
+pub mod Widths
+pub mod Wiring
+pub mod Writing

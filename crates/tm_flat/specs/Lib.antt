@@ -1,0 +1,14 @@
+pub mod BitRun
+pub mod BitStep
+pub mod Fitting
+pub mod Flat
+pub mod Inputs
+pub mod IsFlat
+pub mod Kept
+pub mod Positions
+pub mod Sample
+pub mod Seeing
+pub mod Steps
+pub mod Tiny
+pub mod Wiring
+pub mod Writes
