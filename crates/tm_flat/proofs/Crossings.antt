@@ -10,7 +10,7 @@ use Rattle.tm_syntax.specs.Scopes.Crossing.{value_crosses, stmt_crosses, row_cro
 use Rattle.tm_syntax.specs.Design.{DesignTree, AreInstances}
 use Rattle.tm_syntax.specs.Design.Scope.{Scope, context}
 use Rattle.tm_syntax.specs.Design.Cells.{Called, called}
-use Rattle.tm_syntax.specs.Design.Work.{body_stmts}
+use Rattle.tm_syntax.specs.Scopes.Parts.{body_stmts}
 use Rattle.tm_flat.specs.Positions.{choice_bits, later, value_after, call_after, stmt_after, row_after, blocks_after, body_after}
 use Rattle.tm_flat.specs.Wiring.{AreWired}
 use Rattle.tm_flat.proofs.Wiring.{Reached, call_leads}

@@ -19,7 +19,8 @@ use Rattle.tm_syntax.specs.Design.{DesignTree}
 use Rattle.tm_syntax.specs.Design.Scope.{Scope, same_scope, type_in, joint_type, operand_type, index_type, length_in}
 use Rattle.tm_syntax.specs.Design.Cells.{Cell, in_state, in_step, cell, Called, called}
 use Rattle.tm_syntax.specs.Design.Sizes.{width, type_size}
-use Rattle.tm_syntax.specs.Design.Work.{WorkItem, perform, deliver, body_stmts, call_place}
+use Rattle.tm_syntax.specs.Design.Work.{WorkItem, perform, deliver, call_place}
+use Rattle.tm_syntax.specs.Scopes.Parts.{body_stmts}
 use Rattle.tm_sem.specs.Value.{Passing, Memory, read, put, binary_value, unary_value, value, holds_in, index_value, is_past_end, overruns}
 use Rattle.tm_sem.specs.Run.{Ending, finished, failed, blocked, asked_by, put_in, with_arguments, valued}
 use Rattle.tm_flat.specs.Positions.{target_bits, choice_bits, stmt_after, body_after, item_after}

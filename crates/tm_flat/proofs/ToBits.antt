@@ -8,7 +8,8 @@ use Rattle.tm_syntax.specs.Tree.{row_of}
 use Rattle.tm_syntax.specs.Scopes.Pauses.{call_depth}
 use Rattle.tm_syntax.specs.Design.{DesignTree}
 use Rattle.tm_syntax.specs.Design.Cells.{Called}
-use Rattle.tm_syntax.specs.Design.Work.{WorkItem, perform, deliver, body_items, body_stmts}
+use Rattle.tm_syntax.specs.Design.Work.{WorkItem, perform, deliver, body_items}
+use Rattle.tm_syntax.specs.Scopes.Parts.{body_stmts}
 use Rattle.tm_sem.specs.Value.{Memory, overruns}
 use Rattle.tm_sem.specs.Run.{Ending, finished, blocked, goes_on, acts, progress, Run, none_left, valued}
 use Rattle.tm_flat.specs.Positions.{stmt_after, body_after, item_after}

@@ -12,7 +12,8 @@ use Rattle.tm_syntax.specs.Design.{DesignTree}
 use Rattle.tm_syntax.specs.Design.Scope.{Scope}
 use Rattle.tm_syntax.specs.Design.Cells.{Cell, cell, Called, called}
 use Rattle.tm_syntax.specs.Design.Sizes.{type_size}
-use Rattle.tm_syntax.specs.Design.Work.{WorkItem, perform, deliver, body_stmts, call_place}
+use Rattle.tm_syntax.specs.Design.Work.{WorkItem, perform, deliver, call_place}
+use Rattle.tm_syntax.specs.Scopes.Parts.{body_stmts}
 use Rattle.tm_sem.specs.Value.{Memory, value, holds_in, index_value, overruns}
 use Rattle.tm_sem.specs.Run.{Ending, stopped, finished, failed, blocked, asked_by, put_in, with_arguments, valued}
 use Rattle.tm_flat.specs.Positions.{target_bits, choice_bits, stmt_after, body_after, item_after}

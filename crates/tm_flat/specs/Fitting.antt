@@ -9,7 +9,8 @@ use Rattle.tm_syntax.specs.Design.{DesignTree}
 use Rattle.tm_syntax.specs.Design.Scope.{Scope}
 use Rattle.tm_syntax.specs.Design.Cells.{Cell, Called, called, cell}
 use Rattle.tm_syntax.specs.Design.Sizes.{type_size, type_bits}
-use Rattle.tm_syntax.specs.Design.Work.{WorkItem, perform, deliver, body_stmts}
+use Rattle.tm_syntax.specs.Design.Work.{WorkItem, perform, deliver}
+use Rattle.tm_syntax.specs.Scopes.Parts.{body_stmts}
 use Rattle.tm_sem.specs.Run.{asked_by}
 use Rattle.tm_flat.specs.Positions.{target_bits, choice_bits, stmt_after, row_after, body_after, item_after}
 

@@ -11,7 +11,8 @@ use Rattle.tm_syntax.specs.Design.{DesignTree}
 use Rattle.tm_syntax.specs.Design.Scope.{Scope, type_in}
 use Rattle.tm_syntax.specs.Design.Cells.{Called, called}
 use Rattle.tm_syntax.specs.Design.Sizes.{bits_of_number, type_bits}
-use Rattle.tm_syntax.specs.Design.Work.{WorkItem, perform, deliver, body_stmts}
+use Rattle.tm_syntax.specs.Design.Work.{WorkItem, perform, deliver}
+use Rattle.tm_syntax.specs.Scopes.Parts.{body_stmts}
 
 -- the type of a target, or of the elements of its array
 abbrev pub target_type : DesignTree → Scope → List Ident → Ty

@@ -10,7 +10,8 @@ use Rattle.tm_syntax.specs.Scopes.Pauses.{call_depth}
 use Rattle.tm_syntax.specs.Design.{DesignTree}
 use Rattle.tm_syntax.specs.Design.Scope.{Scope, length_in}
 use Rattle.tm_syntax.specs.Design.Cells.{Cell, in_state, in_step, cell, Called, called}
-use Rattle.tm_syntax.specs.Design.Work.{WorkItem, perform, deliver, body_stmts}
+use Rattle.tm_syntax.specs.Design.Work.{WorkItem, perform, deliver}
+use Rattle.tm_syntax.specs.Scopes.Parts.{body_stmts}
 use Rattle.tm_flat.specs.Positions.{choice_bits, stmt_after, body_after, item_after}
 
 -- whether a cell is the state variable of this number

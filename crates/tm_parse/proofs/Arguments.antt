@@ -1,19 +1,19 @@
 -- Forms that may stand here, by their first tokens, and forms in parentheses.
-use Rattle.std.proofs.Common.{◌≡◌, ℕ, ◌+◌, ◌<◌, ◌≤◌, ◌⊎◌, inl, inr, Bool, true, false, IsTrue, Option, Some, None, List, [], ◌∷◌, ◌++◌, length, refl, sym, ap, ◌∙◌, subst, arith}
+use Rattle.std.proofs.Common.{◌≡◌, ℕ, ◌+◌, inl, inr, Bool, Option, Some, None, List, [], ◌∷◌, refl, sym, ◌∙◌, subst, arith}
 use Rattle.tm_base.specs.declared.place.Place.{Place}
 use Rattle.tm_syntax.specs.declared.token.Token.{Token}
 use Rattle.tm_syntax.specs.declared.token.TokenKind.{TokenKind}
 use Rattle.tm_syntax.specs.declared.token.TokenKind.TheVariants as token
 use Rattle.tm_syntax.specs.declared.token.Sign.TheVariants as sign
-use Rattle.tm_syntax.specs.Grammar.Parts.{Has, IsMark, IsOptional, optional_none, optional_some, AreParted, parted_one, AreEnclosed, enclosed, MayBeEnclosed, enclosed_none, enclosed_some, AreArguments, arguments_none, arguments_some}
+use Rattle.tm_syntax.specs.Grammar.Parts.{Has, IsMark, IsOptional, optional_none, optional_some, AreParted, parted_one, enclosed, enclosed_none, enclosed_some, arguments_none, arguments_some}
 use Rattle.tm_parse.specs.declared.stop.Stop.{Stop}
-use Rattle.tm_parse.specs.Reading.{Reach, IsBound, first_of, first_kind, IsBlocked, IsRefused, Takes, AnyOf, Nothing, TheMark, IsOpening, GoesOn, GoesBy}
+use Rattle.tm_parse.specs.Reading.{Reach, IsBound, first_of, first_kind, IsBlocked, IsRefused, Takes, AnyOf, Nothing, TheMark, IsOpening, GoesOn}
 use Rattle.tm_parse.specs.Commands.{GoesAt, InArguments}
 use Rattle.tm_parse.specs.Items.{InParentheses}
 use Rattle.tm_parse.proofs.Lists.{First, alone, before, first_view}
 use Rattle.tm_parse.proofs.Primaries.{looser, looser_blocked}
-use Rattle.tm_parse.proofs.Taking.{Both, Same, AnyWord, Parts, same_kind, takes_both, takes_then, takes_so, at_first, at_second, blocked_first, blocked_second, blocked_so, both_word, refused_so}
-use Rattle.tm_parse.proofs.Terminals.{mark_kind, mark_has, has_kind, has_mark, mark_word, without_place, token_of, token_kind}
+use Rattle.tm_parse.proofs.Taking.{Both, Same, AnyWord, same_kind, takes_both, takes_then, takes_so, at_first, at_second, blocked_first, blocked_second, blocked_so, both_word, refused_in}
+use Rattle.tm_parse.proofs.Terminals.{mark_has, has_kind, has_mark, mark_word, without_place, token_of, token_kind}
 
 -- what goes on with more is the same form
 pub wider : {X : Type 0} {Is : Reach → X → List Token → List Token → Type 0} {Goes Stops : Option TokenKind → Type 0}
@@ -217,7 +217,7 @@ pub no_arguments_opening : {X : Type 0} (Is : Reach → X → List Token → Lis
     (a : List Token) (e : Stop) → IsRefused (AnyOf (IsOpening (token.Sign sign.OpenParenthesis) depth)) Nothing a e →
     IsRefused (AnyOf (InArguments depth Is)) Nothing a e
 no_arguments_opening Is depth a e h =
-    refused_so (λ deep here blocked. blocked_so (arguments_is a) (at_first blocked (close_word Is))) e h
+    refused_in (arguments_is a) (λ deep here blocked. at_first blocked (close_word Is)) e h
 
 pub no_arguments_list : {X : Type 0} {Is : Reach → X → List Token → List Token → Type 0}
     {Goes : Option TokenKind → Type 0} {depth : ℕ} {p : Place} {a b : List Token} → Listed Is Goes →
@@ -226,8 +226,8 @@ pub no_arguments_list : {X : Type 0} {Is : Reach → X → List Token → List T
     IsRefused (AnyOf (λ reach. AreParted sign.Comma (Is reach))) (GoesOn sign.Comma Goes) b e →
     IsRefused (AnyOf (InArguments depth Is)) Nothing a e
 no_arguments_list {b} listed none o e h =
-    refused_so (λ deep here blocked. blocked_so (arguments_is _) (at_second o (blocked_so (filled_is b none)
-    (blocked_first blocked (mark_word (token.Sign sign.CloseParenthesis)) (close_parts listed))))) e h
+    refused_in (arguments_is _) (λ deep here blocked. at_second o (blocked_so (filled_is b none)
+    (blocked_first blocked (mark_word (token.Sign sign.CloseParenthesis)) (close_parts listed)))) e h
 
 pub no_arguments_closing : {X : Type 0} {Is : Reach → X → List Token → List Token → Type 0}
     {Goes : Option TokenKind → Type 0} {depth : ℕ} {p : Place} {xs : List X} {a b c : List Token} → Listed Is Goes →
@@ -237,8 +237,8 @@ pub no_arguments_closing : {X : Type 0} {Is : Reach → X → List Token → Lis
     IsRefused (AnyOf (TheMark (token.Sign sign.CloseParenthesis))) Nothing c e →
     IsRefused (AnyOf (InArguments depth Is)) Nothing a e
 no_arguments_closing {b} listed none o r e h =
-    refused_so (λ deep here blocked. blocked_so (arguments_is _) (at_second o (blocked_so (filled_is b none)
-    (blocked_second r (close_parts listed) blocked)))) e h
+    refused_in (arguments_is _) (λ deep here blocked. at_second o (blocked_so (filled_is b none)
+    (blocked_second r (close_parts listed) blocked))) e h
 
 pub arguments_word : {X Y : Type 0} (Is : Reach → X → List Token → List Token → Type 0) (depth : ℕ) →
     AnyWord {X = Y} (λ y. InArguments depth Is)
@@ -295,8 +295,8 @@ pub no_list_opening : {X : Type 0} {Is : Reach → X → List Token → List Tok
     IsRefused (AnyOf (IsOpening (token.Sign sign.OpenParenthesis) depth)) Nothing a e →
     IsRefused (AnyOf (InParentheses depth Is)) (GoesAt (token.Sign sign.OpenParenthesis)) a e
 no_list_opening depth a listed kind e h =
-    refused_so (λ deep here blocked. blocked_so (list_is a kind) (looser_blocked (at_first blocked
-    (both_word (parted_word listed) (mark_word (token.Sign sign.CloseParenthesis)))))) e h
+    refused_in (list_is a kind) (λ deep here blocked. looser_blocked (at_first blocked
+    (both_word (parted_word listed) (mark_word (token.Sign sign.CloseParenthesis))))) e h
 
 pub no_list_list : {X : Type 0} {Is : Reach → X → List Token → List Token → Type 0}
     {Goes : Option TokenKind → Type 0} {depth : ℕ} {p : Place} (a : List Token) {b : List Token} → Listed Is Goes →
@@ -305,8 +305,8 @@ pub no_list_list : {X : Type 0} {Is : Reach → X → List Token → List Token 
     IsRefused (AnyOf (λ reach. AreParted sign.Comma (Is reach))) (GoesOn sign.Comma Goes) b e →
     IsRefused (AnyOf (InParentheses depth Is)) (GoesAt (token.Sign sign.OpenParenthesis)) a e
 no_list_list a listed kind o e h =
-    refused_so (λ deep here blocked. blocked_so (list_is a kind) (looser_blocked (at_second o
-    (blocked_first blocked (mark_word (token.Sign sign.CloseParenthesis)) (close_parts listed))))) e h
+    refused_in (list_is a kind) (λ deep here blocked. looser_blocked (at_second o
+    (blocked_first blocked (mark_word (token.Sign sign.CloseParenthesis)) (close_parts listed)))) e h
 
 pub no_list_closing : {X : Type 0} {Is : Reach → X → List Token → List Token → Type 0}
     {Goes : Option TokenKind → Type 0} {depth : ℕ} {p : Place} {xs : List X} (a : List Token) {b c : List Token} →
@@ -316,8 +316,8 @@ pub no_list_closing : {X : Type 0} {Is : Reach → X → List Token → List Tok
     IsRefused (AnyOf (TheMark (token.Sign sign.CloseParenthesis))) Nothing c e →
     IsRefused (AnyOf (InParentheses depth Is)) (GoesAt (token.Sign sign.OpenParenthesis)) a e
 no_list_closing a listed kind o r e h =
-    refused_so (λ deep here blocked. blocked_so (list_is a kind) (looser_blocked (at_second o
-    (blocked_second r (close_parts listed) blocked)))) e h
+    refused_in (list_is a kind) (λ deep here blocked. looser_blocked (at_second o
+    (blocked_second r (close_parts listed) blocked))) e h
 
 -- no list stands here
 pub taken_no_list : {X : Type 0} {Is : Reach → X → List Token → List Token → Type 0} {depth : ℕ} (a : List Token) →

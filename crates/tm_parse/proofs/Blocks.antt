@@ -1,28 +1,24 @@
 -- Statements that hold others.
-use Rattle.std.proofs.Common.{◌≡◌, ◌≢◌, ℕ, ◌+◌, ◌<◌, ◌≤◌, ◌⊎◌, inl, inr, Bool, true, false, Option, Some, None, List, [], ◌∷◌, ◌++◌, length, refl, sym, ap, ◌∙◌, subst, arith}
+use Rattle.std.proofs.Common.{◌≡◌, ℕ, ◌+◌, inl, inr, Option, Some, None, List, [], ◌∷◌, ◌++◌, refl, sym, ap, ◌∙◌}
 use Rattle.tm_base.specs.declared.place.Place.{Place}
 use Rattle.tm_syntax.specs.declared.token.Token.{Token}
 use Rattle.tm_syntax.specs.declared.token.TokenKind.{TokenKind}
 use Rattle.tm_syntax.specs.declared.token.TokenKind.TheVariants as token
 use Rattle.tm_syntax.specs.declared.token.Word.TheVariants as word
 use Rattle.tm_syntax.specs.declared.token.Sign.TheVariants as sign
-use Rattle.tm_syntax.specs.declared.tree.Ident.{Ident}
-use Rattle.tm_syntax.specs.Tree.{ExprTree, ValueTree, StmtTree, assign, invoke, branch, repeat, forever, choose, assert, assume, pause, wait, magic, StmtRow, nothing, then, row_of, alternatives_of}
-use Rattle.tm_syntax.specs.Grammar.Parts.{Has, IsMark, IsPath, AreEach, each_none, each_more, IsOptional, optional_none, optional_some}
-use Rattle.tm_syntax.specs.Grammar.Statements.{IsPlace, place_path, place_element, IsStmt, stmt_assign, stmt_call, stmt_if, stmt_while, stmt_forever, stmt_choice, stmt_assert, stmt_assume, stmt_pause, stmt_wait, stmt_magic, IsIf, if_alone, if_else, if_else_if, IsBlock, block, AreStmts, stmts_none, stmts_more, AreAlternatives, alternatives_one, alternatives_more}
+use Rattle.tm_syntax.specs.Tree.{ExprTree, StmtTree, branch, repeat, forever, choose, StmtRow, nothing, then, row_of, alternatives_of}
+use Rattle.tm_syntax.specs.Grammar.Parts.{IsMark, AreEach, each_none, each_more}
+use Rattle.tm_syntax.specs.Grammar.Statements.{block, stmts_none}
 use Rattle.tm_parse.specs.declared.stop.Stop.{Stop}
-use Rattle.tm_parse.specs.declared.statements.StmtSort.{StmtSort}
 use Rattle.tm_parse.specs.declared.statements.StmtSort.TheVariants as sort
-use Rattle.tm_parse.specs.declared.statements.FlatSort.TheVariants as flat
-use Rattle.tm_parse.specs.Reading.{Reach, all_but, IsBound, first_of, first_kind, IsBlocked, IsRefused, Takes, AnyOf, Nothing, TheMark, IsOpening, GoesOn}
-use Rattle.tm_parse.specs.Operands.{IsEnclosed, encloses}
-use Rattle.tm_parse.specs.Commands.{GoesAt, ACondition, tests, shortly, IsStmtFrom, from_arguments, from_place, ABlock, IsIfFrom, from_test, IsElse, else_none, else_some, IsElseFrom, from_block, from_if, AnIfFrom, AnElse, AnElseFrom, IsOrBlock, or_block, IsChoice, choices, sort_of_kind, stmt_sort, IsSorted, is_path, is_if, is_while, is_forever, is_choice, is_assert, is_assume, is_pause, is_wait, is_magic, AStmtOf, GoesStmt, SomeStmts, GoesStmts}
+use Rattle.tm_parse.specs.Reading.{Reach, first_of, first_kind, IsRefused, Takes, AnyOf, Nothing, TheMark, IsOpening}
+use Rattle.tm_parse.specs.Commands.{GoesAt, ACondition, ABlock, from_test, else_none, else_some, from_block, from_if, AnIfFrom, AnElse, AnElseFrom, IsOrBlock, or_block, IsChoice, choices, stmt_sort, is_if, is_while, is_forever, is_choice, AStmtOf, GoesStmt, SomeStmts, GoesStmts}
 use Rattle.tm_parse.proofs.Arguments.{wider, wider_blocked, other_kind, opening_word, word_so}
 use Rattle.tm_parse.proofs.Commands.{condition_word}
-use Rattle.tm_parse.proofs.Primaries.{looser, looser_blocked, path_kind}
-use Rattle.tm_parse.proofs.Rows.{Each, none_here, one_here, each_view, each_cons, Grows, Leads, RowSoFar, Begun, row_begun, row_more, row_all, row_blocked, Apart, EndsBy}
-use Rattle.tm_parse.proofs.Taking.{Both, Same, AnyWord, Parts, same_kind, takes_both, takes_then, takes_so, at_first, at_second, blocked_first, blocked_second, blocked_so, both_word, refused_so}
-use Rattle.tm_parse.proofs.Terminals.{mark_kind, mark_has, has_kind, has_mark, at_word, mark_word, without_place, with_place}
+use Rattle.tm_parse.proofs.Primaries.{looser, looser_blocked}
+use Rattle.tm_parse.proofs.Rows.{Grows, RowSoFar, Begun, row_begun, row_more, row_all, row_blocked, Apart, EndsBy}
+use Rattle.tm_parse.proofs.Taking.{Both, Same, AnyWord, same_kind, takes_both, takes_then, takes_so, at_first, at_second, blocked_first, blocked_second, blocked_so, both_word, refused_so, refused_in}
+use Rattle.tm_parse.proofs.Terminals.{mark_kind, mark_has, has_kind, has_mark, mark_word, without_place, with_place}
 
 -- "{", statements, "}"
 abbrev BlockParts : List ℕ → ℕ → Reach → Place × (List StmtTree × Unit {0}) → List Token → List Token → Type 0
@@ -75,15 +71,15 @@ pub no_block_opening : (text : List ℕ) (depth : ℕ) (a : List Token) (e : Sto
     IsRefused (AnyOf (IsOpening (token.Sign sign.OpenBrace) depth)) Nothing a e →
     IsRefused (AnyOf (ABlock text depth)) Nothing a e
 no_block_opening text depth a e h =
-    refused_so (λ deep here blocked. blocked_so (block_is a) (at_first blocked
-    (both_word (stmts_word text (depth + 1)) (mark_word (token.Sign sign.CloseBrace))))) e h
+    refused_in (block_is a) (λ deep here blocked. at_first blocked
+    (both_word (stmts_word text (depth + 1)) (mark_word (token.Sign sign.CloseBrace)))) e h
 
 pub no_block_stmts : (text : List ℕ) {depth : ℕ} {p : Place} {a b : List Token} →
     Takes (IsOpening (token.Sign sign.OpenBrace) depth) Nothing p a b → (e : Stop) →
     IsRefused (AnyOf (SomeStmts text (depth + 1))) GoesStmts b e → IsRefused (AnyOf (ABlock text depth)) Nothing a e
 no_block_stmts text o e h =
-    refused_so (λ deep here blocked. blocked_so (block_is _) (at_second o
-    (blocked_first blocked (mark_word (token.Sign sign.CloseBrace)) brace_parts))) e h
+    refused_in (block_is _) (λ deep here blocked. at_second o
+    (blocked_first blocked (mark_word (token.Sign sign.CloseBrace)) brace_parts)) e h
 
 pub no_block_closing : {text : List ℕ} {depth : ℕ} {p : Place} {body : List StmtTree} {a b c : List Token} →
     Takes (IsOpening (token.Sign sign.OpenBrace) depth) Nothing p a b →
@@ -91,7 +87,7 @@ pub no_block_closing : {text : List ℕ} {depth : ℕ} {p : Place} {body : List 
     IsRefused (AnyOf (TheMark (token.Sign sign.CloseBrace))) Nothing c e →
     IsRefused (AnyOf (ABlock text depth)) Nothing a e
 no_block_closing o r e h =
-    refused_so (λ deep here blocked. blocked_so (block_is _) (at_second o (blocked_second r brace_parts blocked))) e h
+    refused_in (block_is _) (λ deep here blocked. at_second o (blocked_second r brace_parts blocked)) e h
 
 -- `or` and a block
 abbrev OrParts : List ℕ → ℕ → Reach → Unit {0} × List StmtTree → List Token → List Token → Type 0
@@ -116,13 +112,13 @@ taken_or m r = takes_so (or_is _) (takes_then (without_place m) r)
 pub no_or_word : (text : List ℕ) (depth : ℕ) (a : List Token) (e : Stop) →
     IsRefused (AnyOf (TheMark (token.Word word.Or))) Nothing a e → IsRefused (AnyOf (IsOrBlock text depth)) Nothing a e
 no_or_word text depth a e h =
-    refused_so (λ deep here blocked. blocked_so (or_is a) (at_first blocked (block_word text depth))) e h
+    refused_in (or_is a) (λ deep here blocked. at_first blocked (block_word text depth)) e h
 
 pub no_or_block : (text : List ℕ) (depth : ℕ) {p : Place} {a b : List Token} →
     Takes (λ _. IsMark (token.Word word.Or)) Nothing p a b → (e : Stop) →
     IsRefused (AnyOf (ABlock text depth)) Nothing b e → IsRefused (AnyOf (IsOrBlock text depth)) Nothing a e
 no_or_block text depth m e h =
-    refused_so (λ deep here blocked. blocked_so (or_is _) (at_second (without_place m) blocked)) e h
+    refused_in (or_is _) (λ deep here blocked. at_second (without_place m) blocked) e h
 
 -- the first two blocks of a choice
 abbrev pub TwoBlocks : List ℕ → ℕ → Reach → List StmtTree × StmtRow → List Token → List Token → Type 0
@@ -214,14 +210,14 @@ pub no_choice_first : (text : List ℕ) (depth : ℕ) (a : List Token) (e : Stop
     IsRefused (AnyOf (ABlock text depth)) Nothing a e →
     IsRefused (AnyOf (IsChoice text depth)) (GoesAt (token.Word word.Or)) a e
 no_choice_first text depth a e h =
-    refused_so (λ deep here blocked. blocked_so (choice_is a) (at_first blocked
-    (both_word (or_word text depth) (ors_word text depth)))) e h
+    refused_in (choice_is a) (λ deep here blocked. at_first blocked
+    (both_word (or_word text depth) (ors_word text depth))) e h
 
 pub no_choice_second : {text : List ℕ} {depth : ℕ} {body : List StmtTree} {a b : List Token} →
     Takes (ABlock text depth) Nothing body a b → (e : Stop) → IsRefused (AnyOf (IsOrBlock text depth)) Nothing b e →
     IsRefused (AnyOf (IsChoice text depth)) (GoesAt (token.Word word.Or)) a e
 no_choice_second {text} {depth} r e h =
-    refused_so (λ deep here blocked. blocked_so (choice_is _) (at_second r (at_first blocked (ors_word text depth))))
+    refused_in (choice_is _) (λ deep here blocked. at_second r (at_first blocked (ors_word text depth)))
     e h
 
 pub no_choice_next : {text : List ℕ} {depth : ℕ} {rows : List StmtRow} {a b : List Token} →
@@ -318,22 +314,21 @@ pub no_if_condition : (text : List ℕ) (depth : ℕ) (a : List Token) (e : Stop
     IsRefused (AnyOf (ACondition text depth)) Nothing a e →
     IsRefused (AnyOf (AnIfFrom text depth)) (GoesAt (token.Word word.Else)) a e
 no_if_condition text depth a e h =
-    refused_so (λ deep here blocked. blocked_so (if_from_is a) (at_first blocked
-    (both_word (block_word text depth) (else_word text depth)))) e h
+    refused_in (if_from_is a) (λ deep here blocked. at_first blocked
+    (both_word (block_word text depth) (else_word text depth))) e h
 
 pub no_if_block : {text : List ℕ} {depth : ℕ} {test : ExprTree} {a b : List Token} →
     Takes (ACondition text depth) Nothing test a b → (e : Stop) → IsRefused (AnyOf (ABlock text depth)) Nothing b e →
     IsRefused (AnyOf (AnIfFrom text depth)) (GoesAt (token.Word word.Else)) a e
 no_if_block {text} {depth} r e h =
-    refused_so (λ deep here blocked. blocked_so (if_from_is _)
-    (at_second r (at_first blocked (else_word text depth)))) e h
+    refused_in (if_from_is _) (λ deep here blocked. at_second r (at_first blocked (else_word text depth))) e h
 
 pub no_if_else : {text : List ℕ} {depth : ℕ} {test : ExprTree} {body : List StmtTree} {a b c : List Token} →
     Takes (ACondition text depth) Nothing test a b → Takes (ABlock text depth) Nothing body b c → (e : Stop) →
     IsRefused (AnyOf (AnElse text depth)) (GoesAt (token.Word word.Else)) c e →
     IsRefused (AnyOf (AnIfFrom text depth)) (GoesAt (token.Word word.Else)) a e
 no_if_else r s e h =
-    refused_so (λ deep here blocked. blocked_so (if_from_is _) (at_second r (at_second s blocked))) e h
+    refused_in (if_from_is _) (λ deep here blocked. at_second r (at_second s blocked)) e h
 
 -- no `else`
 pub taken_no_else : {text : List ℕ} {depth : ℕ} (a : List Token) → ¬ (first_kind a ≡ Some (token.Word word.Else)) →
@@ -378,7 +373,7 @@ pub no_else : (text : List ℕ) (depth : ℕ) {p : Place} {a b : List Token} →
     IsRefused (AnyOf (AnElseFrom text depth)) (GoesAt (token.Word word.Else)) b e →
     IsRefused (AnyOf (AnElse text depth)) (GoesAt (token.Word word.Else)) a e
 no_else text depth kind m e h =
-    refused_so (λ deep here blocked. blocked_so (else_is _ kind) (at_second (without_place m) blocked)) e h
+    refused_in (else_is _ kind) (λ deep here blocked. at_second (without_place m) blocked) e h
 
 block_kind : {text : List ℕ} {depth : ℕ} (reach : Reach) {body : List StmtTree} {a b : List Token} →
     ABlock text depth reach body a b → first_kind a ≡ Some (token.Sign sign.OpenBrace)
@@ -407,7 +402,7 @@ pub no_else_block : (text : List ℕ) (depth : ℕ) (a : List Token) → ¬ (fir
     (e : Stop) → IsRefused (AnyOf (ABlock text depth)) Nothing a e →
     IsRefused (AnyOf (AnElseFrom text depth)) (GoesAt (token.Word word.Else)) a e
 no_else_block text depth a none e h =
-    refused_so (λ deep here blocked. blocked_so (else_block_is a none) (looser_blocked blocked)) e h
+    refused_in (else_block_is a none) (λ deep here blocked. looser_blocked blocked) e h
 
 -- an `if` behind an `else`
 abbrev ElseIfParts : List ℕ → ℕ → Reach → Place × StmtTree → List Token → List Token → Type 0
@@ -436,15 +431,14 @@ pub no_else_if : (text : List ℕ) (depth : ℕ) (a : List Token) → first_kind
     IsRefused (AnyOf (IsOpening (token.Word word.If) depth)) Nothing a e →
     IsRefused (AnyOf (AnElseFrom text depth)) (GoesAt (token.Word word.Else)) a e
 no_else_if text depth a kind e h =
-    refused_so (λ deep here blocked. blocked_so (else_if_is a kind)
-    (at_first blocked (if_from_word text (depth + 1)))) e h
+    refused_in (else_if_is a kind) (λ deep here blocked. at_first blocked (if_from_word text (depth + 1))) e h
 
 pub no_else_if_from : (text : List ℕ) {depth : ℕ} {p : Place} {a b : List Token} →
     first_kind a ≡ Some (token.Word word.If) → Takes (IsOpening (token.Word word.If) depth) Nothing p a b → (e : Stop) →
     IsRefused (AnyOf (AnIfFrom text (depth + 1))) (GoesAt (token.Word word.Else)) b e →
     IsRefused (AnyOf (AnElseFrom text depth)) (GoesAt (token.Word word.Else)) a e
 no_else_if_from text kind o e h =
-    refused_so (λ deep here blocked. blocked_so (else_if_is _ kind) (at_second o blocked)) e h
+    refused_in (else_if_is _ kind) (λ deep here blocked. at_second o blocked) e h
 
 -- "while", a condition, a block
 abbrev WhileParts : List ℕ → ℕ → Reach → Place × (ExprTree × List StmtTree) → List Token → List Token → Type 0

@@ -1,28 +1,23 @@
 -- What a procedure returns, and bodies in braces.
-use Rattle.std.proofs.Common.{◌≡◌, ◌≢◌, ℕ, ◌+◌, ◌<◌, ◌≤◌, ◌⊎◌, inl, inr, Bool, true, false, Option, Some, None, List, [], ◌∷◌, ◌++◌, length, refl, sym, ap, ◌∙◌, subst, arith}
+use Rattle.std.proofs.Common.{◌≡◌, ℕ, ◌+◌, inl, inr, Option, Some, None, List, [], refl, sym, ap, ◌∙◌, subst}
 use Rattle.tm_base.specs.declared.place.Place.{Place}
 use Rattle.tm_syntax.specs.declared.token.Token.{Token}
 use Rattle.tm_syntax.specs.declared.token.TokenKind.{TokenKind}
 use Rattle.tm_syntax.specs.declared.token.TokenKind.TheVariants as token
 use Rattle.tm_syntax.specs.declared.token.Word.TheVariants as word
 use Rattle.tm_syntax.specs.declared.token.Sign.TheVariants as sign
-use Rattle.tm_syntax.specs.declared.tree.Ident.{Ident}
-use Rattle.tm_syntax.specs.declared.tree.Num.{Num}
-use Rattle.tm_syntax.specs.declared.tree.TypeName.{TypeName}
-use Rattle.tm_syntax.specs.declared.tree.TypeName.TheVariants as written
 use Rattle.tm_parse.specs.declared.stop.Stop.{Stop}
-use Rattle.tm_parse.proofs.Arguments.{other_kind, opening_word, word_so, BeginsAt, taken_absent, present_is}
+use Rattle.tm_parse.proofs.Arguments.{other_kind, BeginsAt, taken_absent, present_is}
 use Rattle.tm_parse.proofs.Primaries.{looser, looser_blocked}
-use Rattle.tm_parse.proofs.Taking.{Both, Same, AnyWord, same_kind, takes_both, takes_then, takes_so, at_first, at_second, blocked_first, blocked_second, blocked_so, both_word, refused_so}
-use Rattle.tm_parse.proofs.Terminals.{mark_kind, mark_has, has_kind, has_mark, at_word, mark_word, without_place, with_place}
+use Rattle.tm_parse.proofs.Taking.{Both, Same, AnyWord, takes_both, takes_then, takes_so, at_first, at_second, blocked_first, blocked_second, both_word, refused_in}
+use Rattle.tm_parse.proofs.Terminals.{mark_has, has_kind, has_mark, mark_word, without_place}
 use Rattle.tm_syntax.specs.Tree.{ExprTree, StmtTree, LocalTree, BodyTree}
-use Rattle.tm_syntax.specs.Grammar.Parts.{Has, IsMark, IsOptional, optional_none, optional_some, each_none}
-use Rattle.tm_syntax.specs.Grammar.Statements.{stmts_none, IsBody, body, IsReturn, return, IsBraced, braced, IsAnswering, answering}
-use Rattle.tm_parse.specs.Reading.{Reach, IsBound, first_of, first_kind, IsRefused, Takes, AnyOf, Nothing, TheMark, IsOpening}
+use Rattle.tm_syntax.specs.Grammar.Parts.{Has, IsMark, optional_none, optional_some, each_none}
+use Rattle.tm_syntax.specs.Grammar.Statements.{stmts_none, body, IsReturn, return, braced, answering}
+use Rattle.tm_parse.specs.Reading.{Reach, IsBound, first_kind, IsRefused, Takes, AnyOf, Nothing, TheMark, IsOpening}
 use Rattle.tm_parse.specs.Operands.{AnExpr, GoesExpr}
 use Rattle.tm_parse.specs.Commands.{GoesAt, stmt_sort, GoesBody, AreBody, AnAnswer, ABraced, AnAnswering}
 use Rattle.tm_parse.proofs.Blocks.{brace_parts}
-use Rattle.tm_parse.proofs.Enclosed.{expr_word, mark_parts}
 use Rattle.tm_parse.proofs.Goes.{no_goes}
 
 -- ";" goes on with no expression
@@ -38,16 +33,16 @@ AReturn text depth reach e a b = IsReturn text (IsBound reach) depth e a b
 abbrev ReturnParts : List ℕ → ℕ → Reach → Unit {0} × (ExprTree × Unit {0}) → List Token → List Token → Type 0
 ReturnParts text depth =
     Both (TheMark (token.Word word.Return)) (λ _. Both (AnExpr text 0 depth)
-    (λ _. (TheMark (token.Sign sign.Semicolon))))
+    (λ _. TheMark (token.Sign sign.Semicolon)))
 
 return_is : {text : List ℕ} {depth : ℕ} (a : List Token) →
     Same (ReturnParts text depth) (AReturn text depth) Nothing (λ t. t.1.0) a
 return_is {text} {depth} a = record {
-  to = λ reach t b c h. return (h.first) (h.second.first) (h.second.second);
+  to = λ reach t b c h. return h.first h.second.first h.second.second;
   from = λ reach y b c same stop h. from reach y b c h;
 }
   where
-    from : (reach : Reach) (y : ExprTree) (b c : List Token) → (AReturn text depth) reach y b c →
+    from : (reach : Reach) (y : ExprTree) (b c : List Token) → AReturn text depth reach y b c →
         (t : Unit {0} × (ExprTree × Unit {0})) × ReturnParts text depth reach t b c × (y ≡ t.1.0)
     from reach y b c (return m is n) = (
       (tt, (_, tt)),
@@ -55,45 +50,28 @@ return_is {text} {depth} a = record {
       refl,
     )
 
-pub taken_return : {text : List ℕ} {depth : ℕ} {x0 : Place} {x1 : ExprTree} {x2 : Place}
-    {a b c d : List Token} →
-    Takes (λ _. IsMark (token.Word word.Return)) Nothing x0 a b →
-    Takes (AnExpr text 0 depth) (GoesExpr 0) x1 b c →
-    Takes (λ _. IsMark (token.Sign sign.Semicolon)) Nothing x2 c d →
-    Takes (AReturn text depth) Nothing (x1) a d
-taken_return r0 r1 r2 =
-    takes_so (return_is _) (takes_then (without_place r0) (takes_both r1 semicolon_expr (without_place r2)))
+taken_return : {text : List ℕ} {depth : ℕ} {p q : Place} {e : ExprTree} {a b c d : List Token} →
+    Takes (λ _. IsMark (token.Word word.Return)) Nothing p a b →
+    Takes (AnExpr text 0 depth) (GoesExpr 0) e b c →
+    Takes (λ _. IsMark (token.Sign sign.Semicolon)) Nothing q c d →
+    Takes (AReturn text depth) Nothing e a d
+taken_return begins answer ends =
+    takes_so (return_is _) (takes_then (without_place begins) (takes_both answer semicolon_expr (without_place ends)))
 
-pub no_return_0 : (text : List ℕ) (depth : ℕ) (a : List Token)
-    → (e : Stop) → IsRefused (AnyOf (TheMark (token.Word word.Return))) Nothing a e →
-    IsRefused (AnyOf (AReturn text depth)) Nothing a e
-no_return_0 text depth a e h =
-    refused_so (λ deep here blocked. blocked_so (return_is a)
-    (at_first blocked (both_word (expr_word text 0 depth) (mark_word (token.Sign sign.Semicolon))))) e h
+no_return_expr : (text : List ℕ) (depth : ℕ) {p : Place} {a b : List Token} →
+    Takes (λ _. IsMark (token.Word word.Return)) Nothing p a b → (e : Stop) →
+    IsRefused (AnyOf (AnExpr text 0 depth)) (GoesExpr 0) b e → IsRefused (AnyOf (AReturn text depth)) Nothing a e
+no_return_expr text depth begins e h =
+    refused_in (return_is _) (λ deep here blocked. at_second (without_place begins)
+    (blocked_first blocked (mark_word (token.Sign sign.Semicolon)) semicolon_expr)) e h
 
-pub no_return_1 : (text : List ℕ) (depth : ℕ) {x0 : Place} {a b : List Token}
-    → Takes (λ _. IsMark (token.Word word.Return)) Nothing x0 a b →
-    (e : Stop) → IsRefused (AnyOf (AnExpr text 0 depth)) (GoesExpr 0) b e →
-    IsRefused (AnyOf (AReturn text depth)) Nothing a e
-no_return_1 text depth r0 e h =
-    refused_so (λ deep here blocked. blocked_so (return_is _)
-    (at_second (without_place r0) (blocked_first blocked ((mark_word (token.Sign sign.Semicolon)))
-    semicolon_expr))) e h
-
-pub no_return_2 : (text : List ℕ) (depth : ℕ) {x0 : Place} {x1 : ExprTree} {a b c : List Token}
-    → Takes (λ _. IsMark (token.Word word.Return)) Nothing x0 a b →
-    Takes (AnExpr text 0 depth) (GoesExpr 0) x1 b c →
+no_return_end : (text : List ℕ) (depth : ℕ) {p : Place} {x : ExprTree} {a b c : List Token} →
+    Takes (λ _. IsMark (token.Word word.Return)) Nothing p a b → Takes (AnExpr text 0 depth) (GoesExpr 0) x b c →
     (e : Stop) → IsRefused (AnyOf (TheMark (token.Sign sign.Semicolon))) Nothing c e →
     IsRefused (AnyOf (AReturn text depth)) Nothing a e
-no_return_2 text depth r0 r1 e h =
-    refused_so (λ deep here blocked. blocked_so (return_is _)
-    (at_second (without_place r0) (blocked_second r1 semicolon_expr blocked))) e h
-
-pub return_word : {X : Type 0} (text : List ℕ) (depth : ℕ) → AnyWord {X = X} (λ x. (AReturn text depth))
-return_word text depth =
-    word_so (λ w t. t.1.0) (λ w reach t a b h. (return_is a).to reach t a b h)
-    (both_word (mark_word (token.Word word.Return)) (both_word (expr_word text 0 depth)
-    (mark_word (token.Sign sign.Semicolon))))
+no_return_end text depth begins answer e h =
+    refused_in (return_is _) (λ deep here blocked. at_second (without_place begins)
+    (blocked_second answer semicolon_expr blocked)) e h
 
 return_begins : (text : List ℕ) (depth : ℕ) → BeginsAt (AReturn text depth) (token.Word word.Return)
 return_begins text depth = record { kind = λ reach e a b h. kind reach e a b h }
@@ -117,8 +95,8 @@ pub no_answer_expr : (text : List ℕ) (depth : ℕ) {p : Place} {a b : List Tok
     (e : Stop) → IsRefused (AnyOf (AnExpr text 0 depth)) (GoesExpr 0) b e →
     IsRefused (AnyOf (AnAnswer text depth)) (GoesAt (token.Word word.Return)) a e
 no_answer_expr text depth kind m e h =
-    refused_so (λ deep here blocked. blocked_so (present_is _ kind) (looser_blocked blocked)) e
-    (no_return_1 text depth m e h)
+    refused_in (present_is _ kind) (λ deep here blocked. looser_blocked blocked) e
+    (no_return_expr text depth m e h)
 
 pub no_answer_end : (text : List ℕ) (depth : ℕ) {p : Place} {x : ExprTree} {a b c : List Token} →
     first_kind a ≡ Some (token.Word word.Return) → Takes (λ _. IsMark (token.Word word.Return)) Nothing p a b →
@@ -126,8 +104,8 @@ pub no_answer_end : (text : List ℕ) (depth : ℕ) {p : Place} {x : ExprTree} {
     IsRefused (AnyOf (TheMark (token.Sign sign.Semicolon))) Nothing c e →
     IsRefused (AnyOf (AnAnswer text depth)) (GoesAt (token.Word word.Return)) a e
 no_answer_end text depth kind m r e h =
-    refused_so (λ deep here blocked. blocked_so (present_is _ kind) (looser_blocked blocked)) e
-    (no_return_2 text depth m r e h)
+    refused_in (present_is _ kind) (λ deep here blocked. looser_blocked blocked) e
+    (no_return_end text depth m r e h)
 
 -- what closes a body goes on with none
 pub close_body : {X : Type 0} (reach : Reach) (x : X) (y : Unit {0}) (a b : List Token) →
@@ -173,159 +151,135 @@ abbrev BracedParts : List ℕ → ℕ → Reach → Place × ((List LocalTree ×
     List Token → Type 0
 BracedParts text depth =
     Both (IsOpening (token.Sign sign.OpenBrace) depth) (λ _. Both (AreBody text (depth + 1))
-    (λ _. (TheMark (token.Sign sign.CloseBrace))))
+    (λ _. TheMark (token.Sign sign.CloseBrace)))
 
 braced_is : {text : List ℕ} {depth : ℕ} (a : List Token) →
     Same (BracedParts text depth) (ABraced text depth) Nothing
     (λ t. record { locals = t.1.0.0; stmts = t.1.0.1; answer = None }) a
 braced_is {text} {depth} a = record {
-  to = λ reach t b c h. braced (mark_has (h.first).mark) (h.first).within
-      (body (h.second.first).locals (h.second.first).stmts) (h.second.second);
+  to = λ reach t b c h. braced (mark_has h.first.mark) h.first.within
+      (body h.second.first.locals h.second.first.stmts) h.second.second;
   from = λ reach y b c same stop h. from reach y b c h;
 }
   where
-    from : (reach : Reach) (y : BodyTree) (b c : List Token) → (ABraced text depth) reach y b c →
+    from : (reach : Reach) (y : BodyTree) (b c : List Token) → ABraced text depth reach y b c →
         (t : Place × ((List LocalTree × List StmtTree) × Unit {0})) × BracedParts text depth reach t b c ×
         (y ≡ record { locals = t.1.0.0; stmts = t.1.0.1; answer = None })
     from reach y b c (braced {locals} {stmts} o w (body ls ss) m) = (
       (_, ((locals, stmts), tt)),
       record {
         between = _;
-        first = (record { mark = (has_mark o).1; within = w });
-        second = record { between = _; first = (record { between = _; locals = ls; stmts = ss }); second = m };
+        first = record { mark = (has_mark o).1; within = w };
+        second = record { between = _; first = record { between = _; locals = ls; stmts = ss }; second = m };
       },
       refl,
     )
 
-pub taken_braced : {text : List ℕ} {depth : ℕ} {x0 : Place} {x1 : (List LocalTree × List StmtTree)} {x2 : Place}
+pub taken_braced : {text : List ℕ} {depth : ℕ} {p q : Place} {inner : List LocalTree × List StmtTree}
     {a b c d : List Token} →
-    Takes (IsOpening (token.Sign sign.OpenBrace) depth) Nothing x0 a b →
-    Takes (AreBody text (depth + 1)) GoesBody x1 b c →
-    Takes (λ _. IsMark (token.Sign sign.CloseBrace)) Nothing x2 c d →
-    Takes (ABraced text depth) Nothing (record { locals = x1.0; stmts = x1.1; answer = None }) a d
-taken_braced r0 r1 r2 =
-    takes_so (braced_is _) (takes_then r0 (takes_both r1 close_body (without_place r2)))
+    Takes (IsOpening (token.Sign sign.OpenBrace) depth) Nothing p a b →
+    Takes (AreBody text (depth + 1)) GoesBody inner b c →
+    Takes (λ _. IsMark (token.Sign sign.CloseBrace)) Nothing q c d →
+    Takes (ABraced text depth) Nothing (record { locals = inner.0; stmts = inner.1; answer = None }) a d
+taken_braced opens read closes =
+    takes_so (braced_is _) (takes_then opens (takes_both read close_body (without_place closes)))
 
-pub no_braced_0 : (text : List ℕ) (depth : ℕ) (a : List Token)
-    → (e : Stop) → IsRefused (AnyOf (IsOpening (token.Sign sign.OpenBrace) depth)) Nothing a e →
+pub no_braced_opening : (text : List ℕ) (depth : ℕ) (a : List Token) (e : Stop) →
+    IsRefused (AnyOf (IsOpening (token.Sign sign.OpenBrace) depth)) Nothing a e →
     IsRefused (AnyOf (ABraced text depth)) Nothing a e
-no_braced_0 text depth a e h =
-    refused_so (λ deep here blocked. blocked_so (braced_is a)
-    (at_first blocked (both_word (body_word text (depth + 1)) (mark_word (token.Sign sign.CloseBrace))))) e h
+no_braced_opening text depth a e h =
+    refused_in (braced_is a) (λ deep here blocked. at_first blocked
+    (both_word (body_word text (depth + 1)) (mark_word (token.Sign sign.CloseBrace)))) e h
 
-pub no_braced_1 : (text : List ℕ) (depth : ℕ) {x0 : Place} {a b : List Token}
-    → Takes (IsOpening (token.Sign sign.OpenBrace) depth) Nothing x0 a b →
-    (e : Stop) → IsRefused (AnyOf (AreBody text (depth + 1))) GoesBody b e →
+pub no_braced_body : (text : List ℕ) (depth : ℕ) {p : Place} {a b : List Token} →
+    Takes (IsOpening (token.Sign sign.OpenBrace) depth) Nothing p a b → (e : Stop) →
+    IsRefused (AnyOf (AreBody text (depth + 1))) GoesBody b e → IsRefused (AnyOf (ABraced text depth)) Nothing a e
+no_braced_body text depth opens e h =
+    refused_in (braced_is _) (λ deep here blocked. at_second opens
+    (blocked_first blocked (mark_word (token.Sign sign.CloseBrace)) close_body)) e h
+
+pub no_braced_closing : (text : List ℕ) (depth : ℕ) {p : Place} {inner : List LocalTree × List StmtTree}
+    {a b c : List Token} → Takes (IsOpening (token.Sign sign.OpenBrace) depth) Nothing p a b →
+    Takes (AreBody text (depth + 1)) GoesBody inner b c → (e : Stop) →
+    IsRefused (AnyOf (TheMark (token.Sign sign.CloseBrace))) Nothing c e →
     IsRefused (AnyOf (ABraced text depth)) Nothing a e
-no_braced_1 text depth r0 e h =
-    refused_so (λ deep here blocked. blocked_so (braced_is _)
-    (at_second r0 (blocked_first blocked ((mark_word (token.Sign sign.CloseBrace))) close_body))) e h
-
-pub no_braced_2 : (text : List ℕ) (depth : ℕ) {x0 : Place} {x1 : (List LocalTree × List StmtTree)} {a b c : List Token}
-    → Takes (IsOpening (token.Sign sign.OpenBrace) depth) Nothing x0 a b →
-    Takes (AreBody text (depth + 1)) GoesBody x1 b c →
-    (e : Stop) → IsRefused (AnyOf (TheMark (token.Sign sign.CloseBrace))) Nothing c e →
-    IsRefused (AnyOf (ABraced text depth)) Nothing a e
-no_braced_2 text depth r0 r1 e h =
-    refused_so (λ deep here blocked. blocked_so (braced_is _) (at_second r0 (blocked_second r1 close_body blocked))) e h
-
-pub braced_word : {X : Type 0} (text : List ℕ) (depth : ℕ) → AnyWord {X = X} (λ x. (ABraced text depth))
-braced_word text depth =
-    word_so (λ w t. record { locals = t.1.0.0; stmts = t.1.0.1; answer = None })
-    (λ w reach t a b h. (braced_is a).to reach t a b h)
-    (both_word (opening_word (token.Sign sign.OpenBrace) depth)
-    (both_word (body_word text (depth + 1)) (mark_word (token.Sign sign.CloseBrace))))
+no_braced_closing text depth opens read e h =
+    refused_in (braced_is _) (λ deep here blocked. at_second opens (blocked_second read close_body blocked)) e h
 
 -- "{", declarations and statements, what is returned, "}"
 abbrev AnsweringParts : List ℕ → ℕ → Reach → Place × ((List LocalTree × List StmtTree) ×
     (Option ExprTree × Unit {0})) → List Token → List Token → Type 0
 AnsweringParts text depth =
     Both (IsOpening (token.Sign sign.OpenBrace) depth) (λ _. Both (AreBody text (depth + 1))
-    (λ _. Both (AnAnswer text (depth + 1)) (λ _. (TheMark (token.Sign sign.CloseBrace)))))
+    (λ _. Both (AnAnswer text (depth + 1)) (λ _. TheMark (token.Sign sign.CloseBrace))))
 
 answering_is : {text : List ℕ} {depth : ℕ} (a : List Token) →
     Same (AnsweringParts text depth) (AnAnswering text depth) Nothing
     (λ t. record { locals = t.1.0.0; stmts = t.1.0.1; answer = t.1.1.0 }) a
 answering_is {text} {depth} a = record {
-  to = λ reach t b c h. answering (mark_has (h.first).mark) (h.first).within
-      (body (h.second.first).locals (h.second.first).stmts) (h.second.second.first) (h.second.second.second);
+  to = λ reach t b c h. answering (mark_has h.first.mark) h.first.within
+      (body h.second.first.locals h.second.first.stmts) h.second.second.first h.second.second.second;
   from = λ reach y b c same stop h. from reach y b c h;
 }
   where
-    from : (reach : Reach) (y : BodyTree) (b c : List Token) → (AnAnswering text depth) reach y b c →
+    from : (reach : Reach) (y : BodyTree) (b c : List Token) → AnAnswering text depth reach y b c →
         (t : Place × ((List LocalTree × List StmtTree) × (Option ExprTree × Unit {0}))) × AnsweringParts text depth
         reach t b c × (y ≡ record { locals = t.1.0.0; stmts = t.1.0.1; answer = t.1.1.0 })
     from reach y b c (answering {locals} {stmts} {answer} o w (body ls ss) r m) = (
       (_, ((locals, stmts), (answer, tt))),
       record {
         between = _;
-        first =
-            (record { mark = (has_mark o).1; within = w });
+        first = record { mark = (has_mark o).1; within = w };
         second = record {
           between = _;
-          first = (record { between = _; locals = ls; stmts = ss });
-          second = record
-              { between = _; first = r; second = m };
+          first = record { between = _; locals = ls; stmts = ss };
+          second = record { between = _; first = r; second = m };
         };
       },
       refl,
     )
 
-pub taken_answering : {text : List ℕ} {depth : ℕ} {x0 : Place} {x1 : (List LocalTree × List StmtTree)}
-    {x2 : Option ExprTree} {x3 : Place}
-    {a b c d f : List Token} →
-    Takes (IsOpening (token.Sign sign.OpenBrace) depth) Nothing x0 a b →
-    Takes (AreBody text (depth + 1)) GoesBody x1 b c →
-    Takes (AnAnswer text (depth + 1)) (GoesAt (token.Word word.Return)) x2 c d →
-    Takes (λ _. IsMark (token.Sign sign.CloseBrace)) Nothing x3 d f →
-    Takes (AnAnswering text depth) Nothing (record { locals = x1.0; stmts = x1.1; answer = x2 }) a f
-taken_answering r0 r1 r2 r3 =
-    takes_so (answering_is _) (takes_then r0 (takes_both r1 answer_body
-    (takes_both r2 close_answer (without_place r3))))
+pub taken_answering : {text : List ℕ} {depth : ℕ} {p q : Place} {inner : List LocalTree × List StmtTree}
+    {answer : Option ExprTree} {a b c d f : List Token} →
+    Takes (IsOpening (token.Sign sign.OpenBrace) depth) Nothing p a b →
+    Takes (AreBody text (depth + 1)) GoesBody inner b c →
+    Takes (AnAnswer text (depth + 1)) (GoesAt (token.Word word.Return)) answer c d →
+    Takes (λ _. IsMark (token.Sign sign.CloseBrace)) Nothing q d f →
+    Takes (AnAnswering text depth) Nothing (record { locals = inner.0; stmts = inner.1; answer = answer }) a f
+taken_answering opens read returns closes =
+    takes_so (answering_is _) (takes_then opens (takes_both read answer_body
+    (takes_both returns close_answer (without_place closes))))
 
-pub no_answering_0 : (text : List ℕ) (depth : ℕ) (a : List Token)
-    → (e : Stop) → IsRefused (AnyOf (IsOpening (token.Sign sign.OpenBrace) depth)) Nothing a e →
+pub no_answering_opening : (text : List ℕ) (depth : ℕ) (a : List Token) (e : Stop) →
+    IsRefused (AnyOf (IsOpening (token.Sign sign.OpenBrace) depth)) Nothing a e →
     IsRefused (AnyOf (AnAnswering text depth)) Nothing a e
-no_answering_0 text depth a e h =
-    refused_so (λ deep here blocked. blocked_so (answering_is a)
-    (at_first blocked (both_word (body_word text (depth + 1))
-    (both_word (answer_word text (depth + 1)) (mark_word (token.Sign sign.CloseBrace)))))) e h
+no_answering_opening text depth a e h =
+    refused_in (answering_is a) (λ deep here blocked. at_first blocked (both_word (body_word text (depth + 1))
+    (both_word (answer_word text (depth + 1)) (mark_word (token.Sign sign.CloseBrace))))) e h
 
-pub no_answering_1 : (text : List ℕ) (depth : ℕ) {x0 : Place} {a b : List Token}
-    → Takes (IsOpening (token.Sign sign.OpenBrace) depth) Nothing x0 a b →
-    (e : Stop) → IsRefused (AnyOf (AreBody text (depth + 1))) GoesBody b e →
+pub no_answering_body : (text : List ℕ) (depth : ℕ) {p : Place} {a b : List Token} →
+    Takes (IsOpening (token.Sign sign.OpenBrace) depth) Nothing p a b → (e : Stop) →
+    IsRefused (AnyOf (AreBody text (depth + 1))) GoesBody b e → IsRefused (AnyOf (AnAnswering text depth)) Nothing a e
+no_answering_body text depth opens e h =
+    refused_in (answering_is _) (λ deep here blocked. at_second opens (blocked_first blocked
+    (both_word (answer_word text (depth + 1)) (mark_word (token.Sign sign.CloseBrace))) answer_body)) e h
+
+pub no_answering_answer : (text : List ℕ) (depth : ℕ) {p : Place} {inner : List LocalTree × List StmtTree}
+    {a b c : List Token} → Takes (IsOpening (token.Sign sign.OpenBrace) depth) Nothing p a b →
+    Takes (AreBody text (depth + 1)) GoesBody inner b c → (e : Stop) →
+    IsRefused (AnyOf (AnAnswer text (depth + 1))) (GoesAt (token.Word word.Return)) c e →
     IsRefused (AnyOf (AnAnswering text depth)) Nothing a e
-no_answering_1 text depth r0 e h =
-    refused_so (λ deep here blocked. blocked_so (answering_is _)
-    (at_second r0 (blocked_first blocked (both_word (answer_word text (depth + 1))
-    (mark_word (token.Sign sign.CloseBrace))) answer_body))) e h
+no_answering_answer text depth opens read e h =
+    refused_in (answering_is _) (λ deep here blocked. at_second opens (blocked_second read answer_body
+    (blocked_first blocked (mark_word (token.Sign sign.CloseBrace)) close_answer))) e h
 
-pub no_answering_2 : (text : List ℕ) (depth : ℕ) {x0 : Place} {x1 : (List LocalTree × List StmtTree)}
-    {a b c : List Token}
-    → Takes (IsOpening (token.Sign sign.OpenBrace) depth) Nothing x0 a b →
-    Takes (AreBody text (depth + 1)) GoesBody x1 b c →
-    (e : Stop) → IsRefused (AnyOf (AnAnswer text (depth + 1))) (GoesAt (token.Word word.Return)) c e →
+pub no_answering_closing : (text : List ℕ) (depth : ℕ) {p : Place} {inner : List LocalTree × List StmtTree}
+    {answer : Option ExprTree} {a b c d : List Token} →
+    Takes (IsOpening (token.Sign sign.OpenBrace) depth) Nothing p a b →
+    Takes (AreBody text (depth + 1)) GoesBody inner b c →
+    Takes (AnAnswer text (depth + 1)) (GoesAt (token.Word word.Return)) answer c d → (e : Stop) →
+    IsRefused (AnyOf (TheMark (token.Sign sign.CloseBrace))) Nothing d e →
     IsRefused (AnyOf (AnAnswering text depth)) Nothing a e
-no_answering_2 text depth r0 r1 e h =
-    refused_so (λ deep here blocked. blocked_so (answering_is _)
-    (at_second r0 (blocked_second r1 answer_body (blocked_first blocked
-    ((mark_word (token.Sign sign.CloseBrace))) close_answer)))) e h
-
-pub no_answering_3 : (text : List ℕ) (depth : ℕ) {x0 : Place} {x1 : (List LocalTree × List StmtTree)}
-    {x2 : Option ExprTree} {a b c d : List Token}
-    → Takes (IsOpening (token.Sign sign.OpenBrace) depth) Nothing x0 a b →
-    Takes (AreBody text (depth + 1)) GoesBody x1 b c →
-    Takes (AnAnswer text (depth + 1)) (GoesAt (token.Word word.Return)) x2 c d →
-    (e : Stop) → IsRefused (AnyOf (TheMark (token.Sign sign.CloseBrace))) Nothing d e →
-    IsRefused (AnyOf (AnAnswering text depth)) Nothing a e
-no_answering_3 text depth r0 r1 r2 e h =
-    refused_so (λ deep here blocked. blocked_so (answering_is _)
-    (at_second r0 (blocked_second r1 answer_body (blocked_second r2 close_answer blocked)))) e h
-
-pub answering_word : {X : Type 0} (text : List ℕ) (depth : ℕ) → AnyWord {X = X} (λ x. (AnAnswering text depth))
-answering_word text depth =
-    word_so (λ w t. record { locals = t.1.0.0; stmts = t.1.0.1; answer = t.1.1.0 })
-    (λ w reach t a b h. (answering_is a).to reach t a b h)
-    (both_word (opening_word (token.Sign sign.OpenBrace) depth)
-    (both_word (body_word text (depth + 1)) (both_word (answer_word text (depth + 1))
-    (mark_word (token.Sign sign.CloseBrace)))))
+no_answering_closing text depth opens read returns e h =
+    refused_in (answering_is _) (λ deep here blocked. at_second opens (blocked_second read answer_body
+    (blocked_second returns close_answer blocked))) e h

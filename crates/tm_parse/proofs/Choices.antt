@@ -1,5 +1,5 @@
 -- Conditional expressions, and whole expressions.
-use Rattle.std.proofs.Common.{◌≡◌, ℕ, ◌+◌, ◌<◌, ◌≤◌, Bool, false, true, Option, Some, None, List, [], ◌∷◌, ◌++◌, length, refl, sym, ap, ◌∙◌, subst, arith}
+use Rattle.std.proofs.Common.{◌≡◌, ℕ, ◌+◌, ◌≤◌, Some, List, [], refl, sym, ◌∙◌, subst, arith}
 use Rattle.tm_base.specs.declared.place.Place.{Place}
 use Rattle.tm_syntax.specs.declared.token.Token.{Token}
 use Rattle.tm_syntax.specs.declared.token.TokenKind.TheVariants as token
@@ -8,16 +8,16 @@ use Rattle.tm_syntax.specs.declared.tree.BinaryOperator.{BinaryOperator}
 use Rattle.tm_bits.specs.declared.shift_operator.ShiftOperator.{ShiftOperator}
 use Rattle.tm_syntax.specs.declared.tree.Num.{Num}
 use Rattle.tm_syntax.specs.Tree.{ExprTree, binary, shift, conditional}
-use Rattle.tm_syntax.specs.Grammar.Parts.{Has, IsMark, IsNumber}
+use Rattle.tm_syntax.specs.Grammar.Parts.{IsMark, IsNumber}
 use Rattle.tm_syntax.specs.Grammar.Expressions.{strength, expr_conditional, expr_binary, expr_shift, expr_unary, expr_number, expr_true, expr_false, expr_path, expr_element, expr_group, expr_cast}
 use Rattle.tm_parse.specs.declared.operators.Infix.TheVariants as joining
 use Rattle.tm_parse.specs.declared.stop.Stop.{Stop}
-use Rattle.tm_parse.specs.Reading.{Reach, first_of, first_kind, IsBlocked, IsRefused, Takes, AnyOf, Nothing, TheMark, IsOpening}
-use Rattle.tm_parse.specs.Operands.{AnExpr, GoesExpr, goes_question, IsJoined, joins_expr, joins_number, IsTail, tail_end, tail_more, ATail, IsChoiceFrom, choice_none, choice_some, IsExprFrom, from_tail}
+use Rattle.tm_parse.specs.Reading.{Reach, first_of, first_kind, IsRefused, Takes, AnyOf, Nothing, TheMark, IsOpening}
+use Rattle.tm_parse.specs.Operands.{AnExpr, GoesExpr, goes_question, IsJoined, joins_expr, joins_number, tail_end, tail_more, ATail, IsChoiceFrom, choice_none, choice_some, IsExprFrom, from_tail}
 use Rattle.tm_parse.proofs.Enclosed.{expr_word}
 use Rattle.tm_parse.proofs.Goes.{no_goes_colon, no_goes_question, no_goes_infix, goes_weaker}
 use Rattle.tm_parse.proofs.Spine.{Spine, spine, tail_expr, weaker, strength_positive, infix_most}
-use Rattle.tm_parse.proofs.Taking.{Both, Same, AnyWord, Parts, same_kind, same_behind, takes_both, takes_then, takes_so, at_first, at_second, blocked_first, blocked_second, blocked_so, both_word, refused_so}
+use Rattle.tm_parse.proofs.Taking.{Both, Same, AnyWord, same_kind, takes_both, takes_then, takes_so, at_first, at_second, blocked_first, blocked_second, both_word, refused_in}
 use Rattle.tm_parse.proofs.Terminals.{mark_kind, has_kind, mark_word, without_place}
 
 -- "?", an expression, ":", an expression
@@ -75,17 +75,17 @@ pub no_choice_opening : (text : List ℕ) (depth : ℕ) (test : ExprTree) (a : L
     IsRefused (AnyOf (IsOpening (token.Sign sign.Question) depth)) Nothing a e →
     IsRefused (AnyOf (IsChoiceFrom text depth test)) (GoesExpr 0) a e
 no_choice_opening text depth test a kind e h =
-    refused_so (λ deep here blocked. blocked_so (choice_is test a kind) (at_first blocked
+    refused_in (choice_is test a kind) (λ deep here blocked. at_first blocked
     (both_word (expr_word text 0 (depth + 1))
-    (both_word (mark_word (token.Sign sign.Colon)) (expr_word text 0 (depth + 1)))))) e h
+    (both_word (mark_word (token.Sign sign.Colon)) (expr_word text 0 (depth + 1))))) e h
 
 pub no_choice_yes : (text : List ℕ) {depth : ℕ} {p : Place} (test : ExprTree) (a : List Token) {b : List Token} →
     first_kind a ≡ Some (token.Sign sign.Question) → Takes (IsOpening (token.Sign sign.Question) depth) Nothing p a b →
     (e : Stop) → IsRefused (AnyOf (AnExpr text 0 (depth + 1))) (GoesExpr 0) b e →
     IsRefused (AnyOf (IsChoiceFrom text depth test)) (GoesExpr 0) a e
 no_choice_yes text {depth} test a kind o e h =
-    refused_so (λ deep here blocked. blocked_so (choice_is test a kind) (at_second o
-    (blocked_first blocked (both_word (mark_word (token.Sign sign.Colon)) (expr_word text 0 (depth + 1))) colon_parts)))
+    refused_in (choice_is test a kind) (λ deep here blocked. at_second o
+    (blocked_first blocked (both_word (mark_word (token.Sign sign.Colon)) (expr_word text 0 (depth + 1))) colon_parts))
     e h
 
 pub no_choice_colon : {text : List ℕ} {depth : ℕ} {p : Place} {yes_tree : ExprTree} (test : ExprTree) (a : List Token)
@@ -95,8 +95,8 @@ pub no_choice_colon : {text : List ℕ} {depth : ℕ} {p : Place} {yes_tree : Ex
     IsRefused (AnyOf (TheMark (token.Sign sign.Colon))) Nothing c e →
     IsRefused (AnyOf (IsChoiceFrom text depth test)) (GoesExpr 0) a e
 no_choice_colon {text} {depth} test a kind o r e h =
-    refused_so (λ deep here blocked. blocked_so (choice_is test a kind) (at_second o
-    (blocked_second r colon_parts (at_first blocked (expr_word text 0 (depth + 1)))))) e h
+    refused_in (choice_is test a kind) (λ deep here blocked. at_second o
+    (blocked_second r colon_parts (at_first blocked (expr_word text 0 (depth + 1))))) e h
 
 pub no_choice_no : {text : List ℕ} {depth : ℕ} {p q : Place} {yes_tree : ExprTree} (test : ExprTree) (a : List Token)
     {b c d : List Token} → first_kind a ≡ Some (token.Sign sign.Question) →
@@ -106,8 +106,8 @@ pub no_choice_no : {text : List ℕ} {depth : ℕ} {p q : Place} {yes_tree : Exp
     IsRefused (AnyOf (AnExpr text 0 (depth + 1))) (GoesExpr 0) d e →
     IsRefused (AnyOf (IsChoiceFrom text depth test)) (GoesExpr 0) a e
 no_choice_no test a kind o r m e h =
-    refused_so (λ deep here blocked. blocked_so (choice_is test a kind) (at_second o
-    (blocked_second r colon_parts (at_second (without_place m) blocked)))) e h
+    refused_in (choice_is test a kind) (λ deep here blocked. at_second o
+    (blocked_second r colon_parts (at_second (without_place m) blocked))) e h
 
 pub taken_choice : {text : List ℕ} {depth : ℕ} {p q : Place} {yes_tree no_tree : ExprTree} (test : ExprTree)
     (a : List Token) {b c d e : List Token} → first_kind a ≡ Some (token.Sign sign.Question) →
@@ -153,15 +153,14 @@ pub no_from_tail : (text : List ℕ) (depth : ℕ) (left : ExprTree) (a : List T
     IsRefused (AnyOf (ATail text 1 depth left)) (GoesExpr 1) a e →
     IsRefused (AnyOf (IsExprFrom text depth left)) (GoesExpr 0) a e
 no_from_tail text depth left a e h =
-    refused_so (λ deep here blocked.
-    blocked_so (from_is a) (blocked_first blocked (choice_word text depth) choice_parts)) e h
+    refused_in (from_is a) (λ deep here blocked. blocked_first blocked (choice_word text depth) choice_parts) e h
 
 pub no_from_choice : {text : List ℕ} {depth : ℕ} {left test : ExprTree} {a b : List Token} →
     Takes (ATail text 1 depth left) (GoesExpr 1) test a b → (e : Stop) →
     IsRefused (AnyOf (IsChoiceFrom text depth test)) (GoesExpr 0) b e →
     IsRefused (AnyOf (IsExprFrom text depth left)) (GoesExpr 0) a e
 no_from_choice r e h =
-    refused_so (λ deep here blocked. blocked_so (from_is _) (blocked_second r choice_parts blocked)) e h
+    refused_in (from_is _) (λ deep here blocked. blocked_second r choice_parts blocked) e h
 
 -- an operand, and what makes it a whole expression
 abbrev pub WholeParts : List ℕ → ℕ → Reach → ExprTree × ExprTree → List Token → List Token → Type 0
@@ -232,7 +231,7 @@ pub no_whole_operand : (text : List ℕ) (depth : ℕ) (a : List Token) (e : Sto
     IsRefused (AnyOf (AnExpr text 10 depth)) (GoesExpr 10) a e →
     IsRefused (AnyOf (AnExpr text 0 depth)) (GoesExpr 0) a e
 no_whole_operand text depth a e h =
-    refused_so (λ deep here blocked. blocked_so (whole_is a) (blocked_first blocked (from_word text depth) from_parts))
+    refused_in (whole_is a) (λ deep here blocked. blocked_first blocked (from_word text depth) from_parts)
     e h
 
 pub no_whole_from : {text : List ℕ} {depth : ℕ} {x : ExprTree} {a b : List Token} →
@@ -240,7 +239,7 @@ pub no_whole_from : {text : List ℕ} {depth : ℕ} {x : ExprTree} {a b : List T
     IsRefused (AnyOf (IsExprFrom text depth x)) (GoesExpr 0) b e →
     IsRefused (AnyOf (AnExpr text 0 depth)) (GoesExpr 0) a e
 no_whole_from r e h =
-    refused_so (λ deep here blocked. blocked_so (whole_is _) (blocked_second r from_parts blocked)) e h
+    refused_in (whole_is _) (λ deep here blocked. blocked_second r from_parts blocked) e h
 
 -- the right operand of an operator: an operand, and what stronger operators join to it
 abbrev RightParts : List ℕ → ℕ → ℕ → Reach → ExprTree × ExprTree → List Token → List Token → Type 0
@@ -276,15 +275,15 @@ pub no_right_operand : (text : List ℕ) (depth : ℕ) (left : ExprTree) (at : P
     (a : List Token) → strength op + 1 ≤ 10 → (e : Stop) → IsRefused (AnyOf (AnExpr text 10 depth)) (GoesExpr 10) a e →
     IsRefused (AnyOf (λ reach. IsJoined text depth reach left at (joining.Binary op))) (GoesExpr (strength op + 1)) a e
 no_right_operand text depth left at op a below e h =
-    refused_so (λ deep here blocked. blocked_so (right_is op a below)
-    (blocked_first blocked (tail_word text (strength op + 1) depth) (tail_parts below))) e h
+    refused_in (right_is op a below) (λ deep here blocked.
+    blocked_first blocked (tail_word text (strength op + 1) depth) (tail_parts below)) e h
 
 pub no_right_tail : {text : List ℕ} {depth : ℕ} {x : ExprTree} (left : ExprTree) (at : Place) (op : BinaryOperator)
     {a b : List Token} → strength op + 1 ≤ 10 → Takes (AnExpr text 10 depth) (GoesExpr 10) x a b → (e : Stop) →
     IsRefused (AnyOf (ATail text (strength op + 1) depth x)) (GoesExpr (strength op + 1)) b e →
     IsRefused (AnyOf (λ reach. IsJoined text depth reach left at (joining.Binary op))) (GoesExpr (strength op + 1)) a e
 no_right_tail left at op below r e h =
-    refused_so (λ deep here blocked. blocked_so (right_is op _ below) (blocked_second r (tail_parts below) blocked)) e h
+    refused_in (right_is op _ below) (λ deep here blocked. blocked_second r (tail_parts below) blocked) e h
 
 -- a shift by a number
 shift_is : {text : List ℕ} {depth : ℕ} {left : ExprTree} {at : Place} (op : ShiftOperator) (a : List Token) →
@@ -308,4 +307,4 @@ taken_shift op r = takes_so (shift_is op _) r
 pub no_shift : (text : List ℕ) (depth : ℕ) (left : ExprTree) (at : Place) (op : ShiftOperator) (a : List Token)
     (e : Stop) → IsRefused (AnyOf (λ _. IsNumber text)) Nothing a e →
     IsRefused (AnyOf (λ reach. IsJoined text depth reach left at (joining.Shift op))) Nothing a e
-no_shift text depth left at op a e h = refused_so (λ deep here blocked. blocked_so (shift_is op a) blocked) e h
+no_shift text depth left at op a e h = refused_in (shift_is op a) (λ deep here blocked. blocked) e h

@@ -1,5 +1,5 @@
 -- Statements: what stands behind a path, and statements that hold no others.
-use Rattle.std.proofs.Common.{◌≡◌, ◌≢◌, ℕ, ◌+◌, ◌<◌, ◌≤◌, ◌⊎◌, inl, inr, Bool, true, false, Option, Some, None, List, [], ◌∷◌, ◌++◌, length, refl, sym, ap, ◌∙◌, subst, arith}
+use Rattle.std.proofs.Common.{◌≡◌, ◌≢◌, ℕ, inl, inr, Option, Some, None, List, refl, sym, ◌∙◌, subst}
 use Rattle.tm_base.specs.declared.place.Place.{Place}
 use Rattle.tm_syntax.specs.declared.token.Token.{Token}
 use Rattle.tm_syntax.specs.declared.token.TokenKind.{TokenKind}
@@ -9,20 +9,20 @@ use Rattle.tm_syntax.specs.declared.token.Word.TheVariants as word
 use Rattle.tm_syntax.specs.declared.token.Sign.TheVariants as sign
 use Rattle.tm_syntax.specs.declared.tree.Ident.{Ident}
 use Rattle.tm_syntax.specs.Tree.{ExprTree, ValueTree, StmtTree, assign, invoke, assert, assume, pause, wait, magic}
-use Rattle.tm_syntax.specs.Grammar.Parts.{Has, IsMark, IsPath, IsOptional, optional_none, optional_some}
-use Rattle.tm_syntax.specs.Grammar.Statements.{IsCondition, condition}
+use Rattle.tm_syntax.specs.Grammar.Parts.{Has, IsMark, IsPath, optional_none, optional_some}
+use Rattle.tm_syntax.specs.Grammar.Statements.{condition}
 use Rattle.tm_parse.specs.declared.stop.Stop.{Stop}
 use Rattle.tm_parse.specs.declared.statements.StmtSort.TheVariants as sort
 use Rattle.tm_parse.specs.declared.statements.FlatSort.{FlatSort}
 use Rattle.tm_parse.specs.declared.statements.FlatSort.TheVariants as flat
-use Rattle.tm_parse.specs.Reading.{Reach, IsBound, first_of, first_kind, IsBlocked, IsRefused, Takes, AnyOf, Nothing, TheMark, IsOpening, GoesOn}
-use Rattle.tm_parse.specs.Operands.{AnExpr, GoesExpr, IsEnclosed, encloses}
-use Rattle.tm_parse.specs.Commands.{GoesAt, AreArgs, AValue, GoesValue, ACondition, IsTest, tests, IsShort, shortly, AnIndex, IsStmtFrom, from_arguments, from_place, IsSorted, is_path, is_assert, is_assume, is_pause, is_wait, is_magic, AStmtOf, GoesStmt}
-use Rattle.tm_parse.proofs.Arguments.{wider, wider_blocked, other_kind, BeginsAt, taken_absent, present_is, word_so}
+use Rattle.tm_parse.specs.Reading.{Reach, first_of, first_kind, IsRefused, Takes, AnyOf, Nothing, TheMark, GoesOn}
+use Rattle.tm_parse.specs.Operands.{GoesExpr, IsEnclosed, encloses}
+use Rattle.tm_parse.specs.Commands.{GoesAt, AreArgs, AValue, GoesValue, ACondition, IsTest, tests, IsShort, shortly, AnIndex, IsStmtFrom, from_arguments, from_place, is_path, is_assert, is_assume, is_pause, is_wait, is_magic, AStmtOf, GoesStmt}
+use Rattle.tm_parse.proofs.Arguments.{other_kind, BeginsAt, taken_absent, present_is, word_so}
 use Rattle.tm_parse.proofs.Goes.{no_goes}
 use Rattle.tm_parse.proofs.Primaries.{looser, looser_blocked, enclosed_word}
-use Rattle.tm_parse.proofs.Taking.{Both, Same, AnyWord, Parts, same_kind, takes_both, takes_then, takes_so, at_first, at_second, blocked_first, blocked_second, blocked_so, both_word, refused_so}
-use Rattle.tm_parse.proofs.Terminals.{mark_kind, mark_has, has_kind, has_mark, at_word, mark_word, without_place, with_place}
+use Rattle.tm_parse.proofs.Taking.{Both, Same, AnyWord, same_kind, takes_both, takes_then, takes_so, at_first, at_second, blocked_first, blocked_second, blocked_so, both_word, refused_so, refused_in}
+use Rattle.tm_parse.proofs.Terminals.{mark_kind, mark_has, has_kind, has_mark, mark_word, without_place, with_place}
 use Rattle.tm_parse.proofs.Values.{args_kind, args_word, value_word}
 
 -- a token and ";"
@@ -46,12 +46,12 @@ taken_short m n = takes_so (short_is _) (takes_then m (without_place n))
 pub no_short_mark : (k : TokenKind) (a : List Token) (e : Stop) → IsRefused (AnyOf (TheMark k)) Nothing a e →
     IsRefused (AnyOf (IsShort k)) Nothing a e
 no_short_mark k a e h =
-    refused_so (λ deep here blocked. blocked_so (short_is a)
-    (at_first (with_place blocked) (mark_word (token.Sign sign.Semicolon)))) e h
+    refused_in (short_is a) (λ deep here blocked.
+    at_first (with_place blocked) (mark_word (token.Sign sign.Semicolon))) e h
 
 pub no_short_end : {k : TokenKind} {p : Place} {a b : List Token} → Takes (λ _. IsMark k) Nothing p a b → (e : Stop) →
     IsRefused (AnyOf (TheMark (token.Sign sign.Semicolon))) Nothing b e → IsRefused (AnyOf (IsShort k)) Nothing a e
-no_short_end m e h = refused_so (λ deep here blocked. blocked_so (short_is _) (at_second m blocked)) e h
+no_short_end m e h = refused_in (short_is _) (λ deep here blocked. at_second m blocked) e h
 
 -- a condition is an expression in parentheses
 condition_is : {text : List ℕ} {depth : ℕ} (a : List Token) →
@@ -78,7 +78,7 @@ taken_condition r = takes_so (condition_is _) r
 pub no_condition : (text : List ℕ) (depth : ℕ) (a : List Token) (e : Stop) →
     IsRefused (AnyOf (IsEnclosed text sign.OpenParenthesis sign.CloseParenthesis depth)) Nothing a e →
     IsRefused (AnyOf (ACondition text depth)) Nothing a e
-no_condition text depth a e h = refused_so (λ deep here blocked. blocked_so (condition_is a) blocked) e h
+no_condition text depth a e h = refused_in (condition_is a) (λ deep here blocked. blocked) e h
 
 pub condition_word : {X : Type 0} (text : List ℕ) (depth : ℕ) → AnyWord {X = X} (λ x. ACondition text depth)
 condition_word text depth =
@@ -110,22 +110,22 @@ taken_test m r n = takes_so (test_is _) (takes_then m (takes_then r (without_pla
 pub no_test_word : (text : List ℕ) (w : Word) (depth : ℕ) (a : List Token) (e : Stop) →
     IsRefused (AnyOf (TheMark (token.Word w))) Nothing a e → IsRefused (AnyOf (IsTest text w depth)) Nothing a e
 no_test_word text w depth a e h =
-    refused_so (λ deep here blocked. blocked_so (test_is a) (at_first (with_place blocked)
-    (both_word (condition_word text depth) (mark_word (token.Sign sign.Semicolon))))) e h
+    refused_in (test_is a) (λ deep here blocked. at_first (with_place blocked)
+    (both_word (condition_word text depth) (mark_word (token.Sign sign.Semicolon)))) e h
 
 pub no_test_condition : (text : List ℕ) (w : Word) (depth : ℕ) {p : Place} {a b : List Token} →
     Takes (λ _. IsMark (token.Word w)) Nothing p a b → (e : Stop) →
     IsRefused (AnyOf (ACondition text depth)) Nothing b e → IsRefused (AnyOf (IsTest text w depth)) Nothing a e
 no_test_condition text w depth m e h =
-    refused_so (λ deep here blocked. blocked_so (test_is _) (at_second m
-    (at_first blocked (mark_word (token.Sign sign.Semicolon))))) e h
+    refused_in (test_is _) (λ deep here blocked. at_second m
+    (at_first blocked (mark_word (token.Sign sign.Semicolon)))) e h
 
 pub no_test_end : {text : List ℕ} {w : Word} {depth : ℕ} {p : Place} {x : ExprTree} {a b c : List Token} →
     Takes (λ _. IsMark (token.Word w)) Nothing p a b → Takes (ACondition text depth) Nothing x b c → (e : Stop) →
     IsRefused (AnyOf (TheMark (token.Sign sign.Semicolon))) Nothing c e →
     IsRefused (AnyOf (IsTest text w depth)) Nothing a e
 no_test_end m r e h =
-    refused_so (λ deep here blocked. blocked_so (test_is _) (at_second m (at_second r blocked))) e h
+    refused_in (test_is _) (λ deep here blocked. at_second m (at_second r blocked)) e h
 
 -- an index begins with a bracket
 pub index_begins : (text : List ℕ) (depth : ℕ) →
@@ -152,7 +152,7 @@ pub no_index : (text : List ℕ) (depth : ℕ) (a : List Token) → first_kind a
     (e : Stop) → IsRefused (AnyOf (IsEnclosed text sign.OpenBracket sign.CloseBracket depth)) Nothing a e →
     IsRefused (AnyOf (AnIndex text depth)) (GoesAt (token.Sign sign.OpenBracket)) a e
 no_index text depth a kind e h =
-    refused_so (λ deep here blocked. blocked_so (present_is a kind) (looser_blocked blocked)) e h
+    refused_in (present_is a kind) (λ deep here blocked. looser_blocked blocked) e h
 
 -- the index, if there is one, and "="
 pub index_opens : {text : List ℕ} {depth : ℕ} {reach : Reach} {index : Option ExprTree} {a b c : List Token}
@@ -194,15 +194,15 @@ pub no_call_stmt : (text : List ℕ) (depth : ℕ) (names : List Ident) (a : Lis
     first_kind a ≡ Some (token.Sign sign.OpenParenthesis) → (e : Stop) →
     IsRefused (AnyOf (AreArgs text depth)) Nothing a e → IsRefused (AnyOf (IsStmtFrom text depth names)) Nothing a e
 no_call_stmt text depth names a kind e h =
-    refused_so (λ deep here blocked. blocked_so (call_stmt_is names a kind)
-    (at_first blocked (mark_word (token.Sign sign.Semicolon)))) e h
+    refused_in (call_stmt_is names a kind) (λ deep here blocked.
+    at_first blocked (mark_word (token.Sign sign.Semicolon))) e h
 
 pub no_call_stmt_end : {text : List ℕ} {depth : ℕ} {es : List ExprTree} (names : List Ident) {a b : List Token} →
     first_kind a ≡ Some (token.Sign sign.OpenParenthesis) → Takes (AreArgs text depth) Nothing es a b → (e : Stop) →
     IsRefused (AnyOf (TheMark (token.Sign sign.Semicolon))) Nothing b e →
     IsRefused (AnyOf (IsStmtFrom text depth names)) Nothing a e
 no_call_stmt_end names kind r e h =
-    refused_so (λ deep here blocked. blocked_so (call_stmt_is names _ kind) (at_second r blocked)) e h
+    refused_in (call_stmt_is names _ kind) (λ deep here blocked. at_second r blocked) e h
 
 -- an index, "=", a value, ";"
 abbrev ValueEnd : List ℕ → ℕ → Reach → ValueTree × Unit {0} → List Token → List Token → Type 0
@@ -272,8 +272,8 @@ pub no_place_index : (text : List ℕ) (depth : ℕ) (names : List Ident) (a : L
     IsRefused (AnyOf (AnIndex text depth)) (GoesAt (token.Sign sign.OpenBracket)) a e →
     IsRefused (AnyOf (IsStmtFrom text depth names)) Nothing a e
 no_place_index text depth names a none e h =
-    refused_so (λ deep here blocked. blocked_so (place_stmt_is names a none)
-    (blocked_first blocked (assigned_word text depth) assign_parts)) e h
+    refused_in (place_stmt_is names a none) (λ deep here blocked.
+    blocked_first blocked (assigned_word text depth) assign_parts) e h
 
 pub no_place_assign : (text : List ℕ) (depth : ℕ) {index : Option ExprTree} (names : List Ident) (a : List Token)
     {b : List Token} → ¬ (first_kind a ≡ Some (token.Sign sign.OpenParenthesis)) →
@@ -281,8 +281,8 @@ pub no_place_assign : (text : List ℕ) (depth : ℕ) {index : Option ExprTree} 
     IsRefused (AnyOf (TheMark (token.Sign sign.Assign))) Nothing b e →
     IsRefused (AnyOf (IsStmtFrom text depth names)) Nothing a e
 no_place_assign text depth names a none i e h =
-    refused_so (λ deep here blocked. blocked_so (place_stmt_is names a none)
-    (blocked_second i assign_parts (at_first blocked (value_end_word text depth)))) e h
+    refused_in (place_stmt_is names a none) (λ deep here blocked.
+    blocked_second i assign_parts (at_first blocked (value_end_word text depth))) e h
 
 pub no_place_value : {text : List ℕ} {depth : ℕ} {index : Option ExprTree} {p : Place} (names : List Ident)
     (a : List Token) {b c : List Token} → ¬ (first_kind a ≡ Some (token.Sign sign.OpenParenthesis)) →
@@ -290,9 +290,9 @@ pub no_place_value : {text : List ℕ} {depth : ℕ} {index : Option ExprTree} {
     Takes (λ _. IsMark (token.Sign sign.Assign)) Nothing p b c → (e : Stop) →
     IsRefused (AnyOf (AValue text depth)) GoesValue c e → IsRefused (AnyOf (IsStmtFrom text depth names)) Nothing a e
 no_place_value names a none i m e h =
-    refused_so (λ deep here blocked. blocked_so (place_stmt_is names a none)
-    (blocked_second i assign_parts (at_second (without_place m)
-    (blocked_first blocked (mark_word (token.Sign sign.Semicolon)) semicolon_parts)))) e h
+    refused_in (place_stmt_is names a none) (λ deep here blocked.
+    blocked_second i assign_parts (at_second (without_place m)
+    (blocked_first blocked (mark_word (token.Sign sign.Semicolon)) semicolon_parts))) e h
 
 pub no_place_end : {text : List ℕ} {depth : ℕ} {index : Option ExprTree} {p : Place} {v : ValueTree}
     (names : List Ident) (a : List Token) {b c d : List Token} →
@@ -303,8 +303,8 @@ pub no_place_end : {text : List ℕ} {depth : ℕ} {index : Option ExprTree} {p 
     IsRefused (AnyOf (TheMark (token.Sign sign.Semicolon))) Nothing d e →
     IsRefused (AnyOf (IsStmtFrom text depth names)) Nothing a e
 no_place_end names a none i m r e h =
-    refused_so (λ deep here blocked. blocked_so (place_stmt_is names a none)
-    (blocked_second i assign_parts (at_second (without_place m) (blocked_second r semicolon_parts blocked)))) e h
+    refused_in (place_stmt_is names a none) (λ deep here blocked.
+    blocked_second i assign_parts (at_second (without_place m) (blocked_second r semicolon_parts blocked))) e h
 
 -- a path, and what stands behind it
 abbrev PathStmtParts : List ℕ → ℕ → Reach → List Ident × StmtTree → List Token → List Token → Type 0

@@ -1,6 +1,5 @@
 -- A text has one tree or one fault: none has both, and none has two.
-use Rattle.std.proofs.Common.{◌≡◌, ℕ, suc, ◌+◌, ◌<◌, ◌≤◌, ◌⊎◌, inl, inr, Bool, true, false, Option, Some, None, List, [], ◌∷◌, ◌++◌, length, refl, sym, ap, ◌∙◌, subst, arith, append_assoc, Result, Ok, Err}
-use Rattle.std.proofs.lemmas.List.{append-nil}
+use Rattle.std.proofs.Common.{◌≡◌, ℕ, ◌≤◌, ◌⊎◌, inl, inr, true, false, List, [], ◌∷◌, ◌++◌, length, refl, sym, ap, ◌∙◌, subst, arith, append_assoc, Result, Ok, Err}
 use Rattle.std.specs.Result.{IfOk, IfErr, MatchResult}
 use Rattle.tm_base.specs.declared.place.Place.{Place}
 use Rattle.tm_syntax.specs.declared.token.Token.{Token}

@@ -1,12 +1,12 @@
 -- Declarations by their first tokens.
-use Rattle.std.proofs.Common.{◌≡◌, ◌≢◌, ℕ, ◌+◌, ◌≤◌, ◌⊎◌, Bool, Option, Some, None, List, [], ◌∷◌, ◌++◌, length, refl, sym, ap, ◌∙◌, subst}
+use Rattle.std.proofs.Common.{◌≡◌, ℕ, Some, List, refl, sym, ap, ◌∙◌, subst}
 use Rattle.tm_base.specs.declared.place.Place.{Place}
 use Rattle.tm_syntax.specs.declared.token.Token.{Token}
 use Rattle.tm_syntax.specs.declared.token.TokenKind.TheVariants as token
 use Rattle.tm_syntax.specs.declared.token.Word.TheVariants as word
 use Rattle.tm_syntax.specs.declared.tree.TypeName.{TypeName}
 use Rattle.tm_syntax.specs.Tree.{InstanceTree, VarTree, NamedTree, ProcessTree, TaskTree}
-use Rattle.tm_syntax.specs.Grammar.Parts.{Has, IsMark, AreEach, each_none, each_more}
+use Rattle.tm_syntax.specs.Grammar.Parts.{IsMark, AreEach, each_none, each_more}
 use Rattle.tm_syntax.specs.Grammar.Statements.{IsType, type_bool, type_uint, type_name}
 use Rattle.tm_syntax.specs.Grammar.Declarations as plain
 use Rattle.tm_syntax.specs.Grammar.Specification.{DeclTree, an_instance, a_variable, a_goal, a_fairness, a_process, a_task, IsDecl, decl_instance, decl_variable, decl_goal, decl_fair, decl_process, decl_task}
@@ -14,11 +14,11 @@ use Rattle.tm_parse.specs.declared.specification.DeclSort.{DeclSort}
 use Rattle.tm_parse.specs.declared.specification.DeclSort.TheVariants as sort
 use Rattle.tm_parse.specs.declared.stop.Stop.{Stop}
 use Rattle.tm_parse.specs.Reading.{Reach, IsBound, first_of, first_kind, IsRefused, Takes, AnyOf, Nothing, TheMark}
-use Rattle.tm_parse.specs.Items.{ANamed, AnInstance, AProcess, IsTaskKind, controllable, uncontrollable, IsResult, result_void, result_type, IsProcedureKind, procedure_kind, IsControlled, controlled, IsProcedure, procedure, IsDeclared, is_instance, is_variable, is_goal, is_fairness, is_process, is_task, is_procedure, ADeclOf, ADecl, decl_sort, GoesDecls}
+use Rattle.tm_parse.specs.Items.{ANamed, AnInstance, AProcess, controllable, uncontrollable, result_void, result_type, procedure_kind, IsControlled, controlled, IsProcedure, procedure, IsDeclared, is_instance, is_variable, is_goal, is_fairness, is_process, is_task, is_procedure, ADeclOf, ADecl, decl_sort, GoesDecls}
 use Rattle.tm_parse.proofs.Instances.{named_word}
 use Rattle.tm_parse.proofs.Names.{name_has}
 use Rattle.tm_parse.proofs.Rows.{EndsBy, Apart}
-use Rattle.tm_parse.proofs.Taking.{Both, Same, AnyWord, same_kind, takes_then, takes_so, at_first, at_second, blocked_so, refused_so}
+use Rattle.tm_parse.proofs.Taking.{Both, Same, same_kind, takes_then, takes_so, at_first, at_second, refused_in}
 use Rattle.tm_parse.proofs.Terminals.{mark_kind, has_kind, without_place}
 
 -- the declaration that begins with the first token of a declaration
@@ -180,7 +180,7 @@ taken_instance_decl same r = as_sort same (takes_so (instance_is _) r)
 pub no_instance_decl : (text : List ℕ) {k : DeclSort} (a : List Token) → k ≡ sort.Instance → (e : Stop) →
     IsRefused (AnyOf (AnInstance text 0)) Nothing a e → IsRefused (AnyOf (ADeclOf text k)) Nothing a e
 no_instance_decl text a same e h =
-    no_sort text a same e (refused_so (λ deep here blocked. blocked_so (instance_is a) blocked) e h)
+    no_sort text a same e (refused_in (instance_is a) (λ deep here blocked. blocked) e h)
 
 variable_is : {text : List ℕ} (a : List Token) →
     Same (λ _. plain.IsVar text) (ADeclOf text sort.Variable) Nothing a_variable a
@@ -200,7 +200,7 @@ taken_variable_decl same r = as_sort same (takes_so (variable_is _) r)
 pub no_variable_decl : (text : List ℕ) {k : DeclSort} (a : List Token) → k ≡ sort.Variable → (e : Stop) →
     IsRefused (AnyOf (λ _. plain.IsVar text)) Nothing a e → IsRefused (AnyOf (ADeclOf text k)) Nothing a e
 no_variable_decl text a same e h =
-    no_sort text a same e (refused_so (λ deep here blocked. blocked_so (variable_is a) blocked) e h)
+    no_sort text a same e (refused_in (variable_is a) (λ deep here blocked. blocked) e h)
 
 process_is : {text : List ℕ} (a : List Token) →
     Same (AProcess text 0) (ADeclOf text sort.Process) Nothing a_process a
@@ -220,7 +220,7 @@ taken_process_decl same r = as_sort same (takes_so (process_is _) r)
 pub no_process_decl : (text : List ℕ) {k : DeclSort} (a : List Token) → k ≡ sort.Process → (e : Stop) →
     IsRefused (AnyOf (AProcess text 0)) Nothing a e → IsRefused (AnyOf (ADeclOf text k)) Nothing a e
 no_process_decl text a same e h =
-    no_sort text a same e (refused_so (λ deep here blocked. blocked_so (process_is a) blocked) e h)
+    no_sort text a same e (refused_in (process_is a) (λ deep here blocked. blocked) e h)
 
 task_is : {text : List ℕ} (a : List Token) →
     Same (IsControlled text 0) (ADeclOf text sort.Task) Nothing a_task a
@@ -240,7 +240,7 @@ taken_task_decl same r = as_sort same (takes_so (task_is _) r)
 pub no_task_decl : (text : List ℕ) {k : DeclSort} (a : List Token) → k ≡ sort.Task → (e : Stop) →
     IsRefused (AnyOf (IsControlled text 0)) Nothing a e → IsRefused (AnyOf (ADeclOf text k)) Nothing a e
 no_task_decl text a same e h =
-    no_sort text a same e (refused_so (λ deep here blocked. blocked_so (task_is a) blocked) e h)
+    no_sort text a same e (refused_in (task_is a) (λ deep here blocked. blocked) e h)
 
 procedure_is : {text : List ℕ} (a : List Token) →
     Same (IsProcedure text 0) (ADeclOf text sort.Procedure) Nothing a_task a
@@ -260,7 +260,7 @@ taken_procedure_decl same r = as_sort same (takes_so (procedure_is _) r)
 pub no_procedure_decl : (text : List ℕ) {k : DeclSort} (a : List Token) → k ≡ sort.Procedure → (e : Stop) →
     IsRefused (AnyOf (IsProcedure text 0)) Nothing a e → IsRefused (AnyOf (ADeclOf text k)) Nothing a e
 no_procedure_decl text a same e h =
-    no_sort text a same e (refused_so (λ deep here blocked. blocked_so (procedure_is a) blocked) e h)
+    no_sort text a same e (refused_in (procedure_is a) (λ deep here blocked. blocked) e h)
 
 abbrev GoalParts : List ℕ → Reach → Unit {0} × NamedTree → List Token → List Token → Type 0
 GoalParts text = Both (TheMark (token.Word word.Goal)) (λ _. ANamed text 0)
@@ -284,15 +284,13 @@ taken_goal_decl same m r = as_sort same (takes_so (goal_is _) (takes_then (witho
 pub no_goal_word : (text : List ℕ) {k : DeclSort} (a : List Token) → k ≡ sort.Goal → (e : Stop) →
     IsRefused (AnyOf (TheMark (token.Word word.Goal))) Nothing a e → IsRefused (AnyOf (ADeclOf text k)) Nothing a e
 no_goal_word text a same e h =
-    no_sort text a same e (refused_so (λ deep here blocked. blocked_so (goal_is a)
-    (at_first blocked (named_word text 0))) e h)
+    no_sort text a same e (refused_in (goal_is a) (λ deep here blocked. at_first blocked (named_word text 0)) e h)
 
 pub no_goal_decl : (text : List ℕ) {k : DeclSort} {p : Place} {a b : List Token} → k ≡ sort.Goal →
     Takes (λ _. IsMark (token.Word word.Goal)) Nothing p a b → (e : Stop) →
     IsRefused (AnyOf (ANamed text 0)) Nothing b e → IsRefused (AnyOf (ADeclOf text k)) Nothing a e
 no_goal_decl text same m e h =
-    no_sort text _ same e (refused_so (λ deep here blocked. blocked_so (goal_is _)
-    (at_second (without_place m) blocked)) e h)
+    no_sort text _ same e (refused_in (goal_is _) (λ deep here blocked. at_second (without_place m) blocked) e h)
 
 abbrev FairnessParts : List ℕ → Reach → Unit {0} × NamedTree → List Token → List Token → Type 0
 FairnessParts text = Both (TheMark (token.Word word.Fair)) (λ _. ANamed text 0)
@@ -316,12 +314,10 @@ taken_fairness_decl same m r = as_sort same (takes_so (fairness_is _) (takes_the
 pub no_fairness_word : (text : List ℕ) {k : DeclSort} (a : List Token) → k ≡ sort.Fairness → (e : Stop) →
     IsRefused (AnyOf (TheMark (token.Word word.Fair))) Nothing a e → IsRefused (AnyOf (ADeclOf text k)) Nothing a e
 no_fairness_word text a same e h =
-    no_sort text a same e (refused_so (λ deep here blocked. blocked_so (fairness_is a)
-    (at_first blocked (named_word text 0))) e h)
+    no_sort text a same e (refused_in (fairness_is a) (λ deep here blocked. at_first blocked (named_word text 0)) e h)
 
 pub no_fairness_decl : (text : List ℕ) {k : DeclSort} {p : Place} {a b : List Token} → k ≡ sort.Fairness →
     Takes (λ _. IsMark (token.Word word.Fair)) Nothing p a b → (e : Stop) →
     IsRefused (AnyOf (ANamed text 0)) Nothing b e → IsRefused (AnyOf (ADeclOf text k)) Nothing a e
 no_fairness_decl text same m e h =
-    no_sort text _ same e (refused_so (λ deep here blocked. blocked_so (fairness_is _)
-    (at_second (without_place m) blocked)) e h)
+    no_sort text _ same e (refused_in (fairness_is _) (λ deep here blocked. at_second (without_place m) blocked) e h)

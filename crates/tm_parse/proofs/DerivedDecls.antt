@@ -1,26 +1,25 @@
 -- What is derived within the limit was read: declarations, items and specifications; so a text has one tree at most.
-use Rattle.std.proofs.Common.{◌≡◌, ◌≢◌, ℕ, ◌+◌, ◌<◌, ◌≤◌, ◌⊎◌, inl, inr, Bool, true, false, Option, Some, None, List, [], ◌∷◌, ◌++◌, length, refl, sym, ap, ◌∙◌, subst, arith}
+use Rattle.std.proofs.Common.{◌≡◌, ℕ, Option, Some, None, List, [], ◌∷◌, ◌++◌, refl, sym, ap, ◌∙◌, subst}
 use Rattle.tm_syntax.specs.declared.token.Token.{Token}
 use Rattle.tm_syntax.specs.declared.token.TokenKind.{TokenKind}
 use Rattle.tm_syntax.specs.declared.token.TokenKind.TheVariants as token
 use Rattle.tm_syntax.specs.declared.token.Word.TheVariants as word
 use Rattle.tm_syntax.specs.declared.token.Sign.TheVariants as sign
-use Rattle.tm_syntax.specs.declared.tree.Ident.{Ident}
 use Rattle.tm_syntax.specs.declared.tree.Num.{Num}
 use Rattle.tm_syntax.specs.declared.tree.TypeName.{TypeName}
 use Rattle.tm_syntax.specs.declared.tree.Param.{Param}
 use Rattle.tm_syntax.specs.declared.tree.Port.{Port}
-use Rattle.tm_syntax.specs.Tree.{ExprTree, VarTree, NamedTree, InstanceTree, ProcessTree, EnumTree, TemplateTree, SpecTree}
-use Rattle.tm_syntax.specs.Grammar.Parts.{Has, IsMark, IsName, AreEach, each_none, each_more, IsOptional, optional_none, optional_some, arguments_none, arguments_some, enclosed, enclosed_none, enclosed_some}
+use Rattle.tm_syntax.specs.Tree.{ExprTree, VarTree, NamedTree, TemplateTree, SpecTree}
+use Rattle.tm_syntax.specs.Grammar.Parts.{Has, AreEach, each_none, each_more, IsOptional, optional_none, optional_some, arguments_none, arguments_some, enclosed, enclosed_none, enclosed_some}
 use Rattle.tm_syntax.specs.Grammar.Statements.{IsType, type_bool, type_uint, type_name}
 use Rattle.tm_syntax.specs.Grammar.Declarations.{IsLiteral, literal_number, literal_true, literal_false, literal_name, IsLength, size_of, IsInitial, initial, IsParam, param, instance, IsVar, variable, named, process_fair, process_lazy, task_of, task_controllable, task_uncontrollable, procedure_typed, procedure_void}
-use Rattle.tm_syntax.specs.Grammar.Specification.{DeclTree, IsDecl, decl_instance, decl_variable, decl_goal, decl_fair, decl_process, decl_task, IsPort, port, IsTemplate, template, enum, ItemTree, item_enum, item_template, IsSpec, spec}
+use Rattle.tm_syntax.specs.Grammar.Specification.{DeclTree, IsDecl, decl_instance, decl_variable, decl_goal, decl_fair, decl_process, decl_task, IsPort, port, template, enum, ItemTree, item_enum, item_template, IsSpec, spec}
 use Rattle.tm_syntax.specs.Grammar.Faults.{IsTree}
 use Rattle.tm_parse.specs.declared.specification.DeclSort.{DeclSort}
 use Rattle.tm_parse.specs.declared.specification.DeclSort.TheVariants as sort
 use Rattle.tm_parse.specs.Reading.{Reach, IsBound, first_kind, Takes, Nothing}
 use Rattle.tm_parse.specs.Commands.{GoesAt, InArguments}
-use Rattle.tm_parse.specs.Items.{ANamed, InParentheses, ADecl, ADeclOf, decl_sort, GoesDecls, ATemplate, AnEnum, AnItem, ASpec, GoesOnAtAll}
+use Rattle.tm_parse.specs.Items.{ANamed, InParentheses, ADecl, ADeclOf, decl_sort, GoesDecls, ATemplate, AnItem, ASpec, GoesOnAtAll}
 use Rattle.tm_parse.proofs.Arguments.{other_kind, Listed, row_begins, taken_empty, taken_filled, taken_list, taken_no_list}
 use Rattle.tm_parse.proofs.DeclSorts.{sorted_is, decls_apart, taken_instance_decl, taken_variable_decl, taken_process_decl, taken_task_decl, taken_procedure_decl, taken_goal_decl, taken_fairness_decl}
 use Rattle.tm_parse.proofs.Derived.{near, derived_mark, derived_has, derived_opening, derived_name, derived_number, derived_names, derived_type, derived_parted}
@@ -28,15 +27,15 @@ use Rattle.tm_parse.proofs.DerivedStmts.{whole_read, no_goes_semicolon, braced_r
 use Rattle.tm_parse.proofs.FirstFault.{nothing_behind}
 use Rattle.tm_parse.proofs.Instances.{taken_named, names_listed, taken_instance}
 use Rattle.tm_parse.proofs.Lists.{first_view, so_far_all}
-use Rattle.tm_parse.proofs.Literals.{taken_literal_number, taken_literal_true, taken_literal_false, IsNoLiteral, taken_literal_name, taken_no_length, taken_length, taken_no_initial, taken_initial, taken_variable}
+use Rattle.tm_parse.proofs.Literals.{taken_literal_number, taken_literal_true, taken_literal_false, taken_literal_name, taken_no_length, taken_length, taken_no_initial, taken_initial, taken_variable}
 use Rattle.tm_parse.proofs.Names.{name_has, number_has}
 use Rattle.tm_parse.proofs.Ports.{taken_port, ports_listed, enum_so_far, taken_enum, taken_enum_item, taken_template_item}
 use Rattle.tm_parse.proofs.Rows.{Each, none_here, one_here, each_view, RowSoFar, EndsBy, row_start, row_begun, row_more, each_grows}
 use Rattle.tm_parse.proofs.Taking.{takes_so}
 use Rattle.tm_parse.proofs.Tasks.{taken_lazy, taken_not_lazy, taken_process, taken_param, params_listed, taken_heading, taken_controllable, taken_uncontrollable, taken_void, taken_result, taken_procedure_kind, taken_task, taken_procedure}
-use Rattle.tm_parse.proofs.Templates.{Extending, taken_extended, taken_template, taken_head}
+use Rattle.tm_parse.proofs.Templates.{taken_extended, taken_template, taken_head}
 use Rattle.tm_parse.proofs.Terminals.{mark_kind, has_kind}
-use Rattle.tm_parse.proofs.Wholes.{SomeItems, some_items, items_grow, items_apart, begun, SpecSoFar, taken_spec}
+use Rattle.tm_parse.proofs.Wholes.{SomeItems, some_items, items_grow, items_apart, begun, taken_spec}
 
 -- forms in parentheses
 arguments_read : {X : Type 0} {Is : Reach → X → List Token → List Token → Type 0} {Goes : Option TokenKind → Type 0}

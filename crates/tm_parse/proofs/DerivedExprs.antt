@@ -1,28 +1,23 @@
 -- What is derived within the limit was read: expressions.
-use Rattle.std.proofs.Common.{◌≡◌, ℕ, ◌+◌, ◌<◌, ◌≤◌, ◌⊎◌, inl, inr, Option, Some, None, List, [], ◌∷◌, ◌++◌, length, refl, sym, ap, ◌∙◌, subst, arith}
+use Rattle.std.proofs.Common.{◌≡◌, ℕ, ◌+◌, ◌≤◌, Option, List, refl, subst, arith}
 use Rattle.tm_base.specs.declared.place.Place.{Place}
 use Rattle.tm_syntax.specs.declared.token.Token.{Token}
 use Rattle.tm_syntax.specs.declared.token.TokenKind.{TokenKind}
 use Rattle.tm_syntax.specs.declared.token.TokenKind.TheVariants as token
-use Rattle.tm_syntax.specs.declared.token.Sign.{Sign}
-use Rattle.tm_syntax.specs.declared.token.Sign.TheVariants as sign
-use Rattle.tm_syntax.specs.declared.tree.Ident.{Ident}
 use Rattle.tm_syntax.specs.declared.tree.BinaryOperator.{BinaryOperator}
-use Rattle.tm_bits.specs.declared.shift_operator.ShiftOperator.{ShiftOperator}
 use Rattle.tm_syntax.specs.Tree.{ExprTree, truth, number, path, group, unary, binary, shift, conditional, cast, element}
-use Rattle.tm_syntax.specs.Grammar.Parts.{Has, IsMark, IsPath}
-use Rattle.tm_syntax.specs.Grammar.Expressions.{binary_sign, shift_sign, unary_sign, strength, height, IsExpr, expr_conditional, expr_binary, expr_shift, expr_unary, expr_number, expr_true, expr_false, expr_path, expr_element, expr_group, expr_cast}
-use Rattle.tm_parse.specs.declared.operators.Infix.{Infix}
+use Rattle.tm_syntax.specs.Grammar.Parts.{IsMark}
+use Rattle.tm_syntax.specs.Grammar.Expressions.{binary_sign, unary_sign, strength, height, IsExpr, expr_conditional, expr_binary, expr_shift, expr_unary, expr_number, expr_true, expr_false, expr_path, expr_element, expr_group, expr_cast}
 use Rattle.tm_parse.specs.declared.operators.Infix.TheVariants as joining
-use Rattle.tm_parse.specs.Reading.{Reach, IsBound, first_kind, Takes, Nothing, IsOpening}
+use Rattle.tm_parse.specs.Reading.{IsBound, first_kind, Takes}
 use Rattle.tm_parse.specs.Width.{width}
-use Rattle.tm_parse.specs.Operands.{AnExpr, GoesExpr, goes_dot, goes_bracket, goes_infix, goes_question, IsEnclosed, encloses, from_path, from_element}
+use Rattle.tm_parse.specs.Operands.{AnExpr, GoesExpr, goes_dot, goes_bracket, goes_infix, goes_question, encloses, from_path, from_element}
 use Rattle.tm_parse.proofs.Arguments.{other_kind}
 use Rattle.tm_parse.proofs.Choices.{taken_whole, taken_from, taken_choice_none, taken_choice, taken_right, taken_shift}
 use Rattle.tm_parse.proofs.Derived.{near, derived_mark, derived_has, near_low, derived_opening, derived_mark_opening, derived_number, derived_path}
 use Rattle.tm_parse.proofs.Enclosed.{taken_enclosed}
 use Rattle.tm_parse.proofs.Goes.{no_goes_parenthesis, no_goes_bracket, no_goes_colon, no_goes_question, goes_weaker, no_goes_infix}
-use Rattle.tm_parse.proofs.Primaries.{Operand, is_number, is_true, is_false, is_place, is_group, is_cast, sorted, taken_number_expr, taken_true, taken_false, taken_group, taken_cast, taken_place, taken_path_alone, taken_element, taken_unary}
+use Rattle.tm_parse.proofs.Primaries.{is_number, is_true, is_false, is_place, is_group, is_cast, sorted, taken_number_expr, taken_true, taken_false, taken_group, taken_cast, taken_place, taken_path_alone, taken_element, taken_unary}
 use Rattle.tm_parse.proofs.Spine.{strength_positive, strength_most, infix_most}
 use Rattle.tm_parse.proofs.Tails.{TailSoFar, tail_start, tail_taken, tail_next}
 use Rattle.tm_parse.proofs.Terminals.{mark_kind, mark_has, has_kind, has_mark}

@@ -1,6 +1,5 @@
 -- What is derived within the limit was read: values, statements and bodies.
-use Rattle.std.proofs.Common.{◌≡◌, ◌≢◌, ℕ, ◌+◌, ◌<◌, ◌≤◌, ◌⊎◌, inl, inr, Bool, true, false, Option, Some, None, List, [], ◌∷◌, ◌++◌, length, refl, sym, ap, ◌∙◌, subst, arith}
-use Rattle.tm_base.specs.declared.place.Place.{Place}
+use Rattle.std.proofs.Common.{◌≡◌, ℕ, ◌+◌, inl, inr, Bool, true, false, Option, Some, None, List, [], ◌∷◌, ◌++◌, refl, ap, ◌∙◌, subst}
 use Rattle.tm_syntax.specs.declared.token.Token.{Token}
 use Rattle.tm_syntax.specs.declared.token.TokenKind.{TokenKind}
 use Rattle.tm_syntax.specs.declared.token.TokenKind.TheVariants as token
@@ -8,14 +7,14 @@ use Rattle.tm_syntax.specs.declared.token.Word.TheVariants as word
 use Rattle.tm_syntax.specs.declared.token.Sign.TheVariants as sign
 use Rattle.tm_syntax.specs.declared.tree.Ident.{Ident}
 use Rattle.tm_syntax.specs.Tree.{ExprTree, ValueTree, plain, StmtTree, assign, StmtRow, row_of, LocalTree, BodyTree}
-use Rattle.tm_syntax.specs.Grammar.Parts.{Has, IsMark, IsPath, AreEach, each_none, each_more, optional_none, optional_some, arguments_none, arguments_some, enclosed}
-use Rattle.tm_syntax.specs.Grammar.Statements.{IsPlace, place_path, place_element, IsValue, value_star, value_call, value_expr, IsCondition, condition, IsStmt, stmt_assign, stmt_call, stmt_if, stmt_while, stmt_forever, stmt_choice, stmt_assert, stmt_assume, stmt_pause, stmt_wait, stmt_magic, IsIf, if_alone, if_else, if_else_if, IsBlock, block, AreStmts, stmts_none, stmts_more, AreAlternatives, alternatives_one, alternatives_more, local, body, return, braced, answering}
+use Rattle.tm_syntax.specs.Grammar.Parts.{Has, IsPath, AreEach, each_none, each_more, optional_none, optional_some, arguments_none, arguments_some, enclosed}
+use Rattle.tm_syntax.specs.Grammar.Statements.{IsPlace, place_path, place_element, value_star, value_call, value_expr, condition, IsStmt, stmt_assign, stmt_call, stmt_if, stmt_while, stmt_forever, stmt_choice, stmt_assert, stmt_assume, stmt_pause, stmt_wait, stmt_magic, IsIf, if_alone, if_else, if_else_if, IsBlock, block, AreStmts, stmts_none, stmts_more, AreAlternatives, alternatives_one, alternatives_more, local, body, return, braced, answering}
 use Rattle.tm_parse.specs.declared.statements.StmtSort.{StmtSort}
 use Rattle.tm_parse.specs.declared.statements.StmtSort.TheVariants as sort
 use Rattle.tm_parse.specs.declared.statements.FlatSort.TheVariants as flat
-use Rattle.tm_parse.specs.Reading.{Reach, IsBound, first_of, first_kind, Takes, Nothing, GoesOn}
+use Rattle.tm_parse.specs.Reading.{Reach, IsBound, first_of, first_kind, Takes, Nothing}
 use Rattle.tm_parse.specs.Operands.{AnExpr, GoesExpr}
-use Rattle.tm_parse.specs.Commands.{GoesAt, AreArgs, AValue, GoesValue, ACondition, AnIndex, ABlock, AnIfFrom, IsOrBlock, stmt_sort, AStmtOf, GoesStmt, SomeStmts, GoesStmts, ALocal, GoesBody, AreBody, AnAnswer, ABraced, AnAnswering, begins_local}
+use Rattle.tm_parse.specs.Commands.{GoesAt, AreArgs, AValue, GoesValue, ACondition, ABlock, AnIfFrom, IsOrBlock, stmt_sort, AStmtOf, GoesStmt, SomeStmts, ALocal, GoesBody, AreBody, ABraced, AnAnswering, begins_local}
 use Rattle.tm_parse.proofs.Arguments.{other_kind, row_begins, taken_empty, taken_filled}
 use Rattle.tm_parse.proofs.Blocks.{taken_block, taken_or, ChoiceSoFar, choice_begun, choice_more, choice_all, taken_if, taken_if_from, taken_no_else, taken_else, taken_else_block, taken_else_if, taken_while, taken_forever, taken_choice}
 use Rattle.tm_parse.proofs.Braces.{close_body, return_body, taken_no_answer, taken_answer, taken_braced, taken_answering}
@@ -29,9 +28,9 @@ use Rattle.tm_parse.proofs.Lists.{first_view, so_far_all}
 use Rattle.tm_parse.proofs.Locals.{LocalsSoFar, locals_begun, locals_more, taken_local, taken_body, stmts_local}
 use Rattle.tm_parse.proofs.Primaries.{operand_of, path_kind, place_parts}
 use Rattle.tm_parse.proofs.Rows.{each_view}
-use Rattle.tm_parse.proofs.Sorts.{AStmt, StmtsSoFar, stmts_begun, stmts_next, stmts_all, stmts_each, no_goes_stmt}
+use Rattle.tm_parse.proofs.Sorts.{StmtsSoFar, stmts_begun, stmts_next, stmts_all, stmts_each, no_goes_stmt}
 use Rattle.tm_parse.proofs.Taking.{same_kind}
-use Rattle.tm_parse.proofs.Terminals.{mark_kind, has_kind, has_mark}
+use Rattle.tm_parse.proofs.Terminals.{mark_kind, has_kind}
 use Rattle.tm_parse.proofs.Values.{expr_begins, named_operand, listed_exprs, args_kind, place_opens, taken_star, taken_named, taken_call}
 
 -- a whole expression in front of a sign that goes on with none

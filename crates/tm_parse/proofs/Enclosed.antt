@@ -1,20 +1,18 @@
 -- Expressions between two signs, and conditional expressions.
-use Rattle.std.proofs.Common.{◌≡◌, ℕ, ◌+◌, ◌<◌, ◌≤◌, Bool, false, true, Option, Some, None, List, [], ◌∷◌, ◌++◌, length, refl, sym, ap, ◌∙◌, subst, arith}
+use Rattle.std.proofs.Common.{◌≡◌, ℕ, ◌+◌, Some, List, refl, subst}
 use Rattle.tm_base.specs.declared.place.Place.{Place}
 use Rattle.tm_syntax.specs.declared.token.Token.{Token}
 use Rattle.tm_syntax.specs.declared.token.TokenKind.TheVariants as token
 use Rattle.tm_syntax.specs.declared.token.Sign.{Sign}
-use Rattle.tm_syntax.specs.declared.token.Sign.TheVariants as sign
-use Rattle.tm_syntax.specs.Tree.{ExprTree, number, conditional}
-use Rattle.tm_syntax.specs.Grammar.Parts.{Has, IsMark}
+use Rattle.tm_syntax.specs.Tree.{ExprTree, number}
+use Rattle.tm_syntax.specs.Grammar.Parts.{IsMark}
 use Rattle.tm_syntax.specs.Grammar.Expressions.{expr_number}
 use Rattle.tm_parse.specs.declared.stop.Stop.{Stop}
-use Rattle.tm_parse.specs.Reading.{Reach, first_of, first_kind, IsRefused, Takes, AnyOf, Nothing, TheMark, IsOpening}
-use Rattle.tm_parse.specs.Operands.{AnExpr, GoesExpr, goes_question, IsEnclosed, encloses, IsChoiceFrom, choice_none, choice_some}
-use Rattle.tm_parse.proofs.Goes.{no_goes_colon}
+use Rattle.tm_parse.specs.Reading.{Reach, first_kind, IsRefused, Takes, AnyOf, Nothing, TheMark, IsOpening}
+use Rattle.tm_parse.specs.Operands.{AnExpr, GoesExpr, IsEnclosed, encloses}
 use Rattle.tm_parse.proofs.Names.{number_word}
-use Rattle.tm_parse.proofs.Taking.{Both, Same, AnyWord, Parts, same_kind, takes_both, takes_then, takes_so, at_first, at_second, blocked_first, blocked_second, blocked_so, both_word, refused_so}
-use Rattle.tm_parse.proofs.Terminals.{clash, mark_kind, has_kind, mark_word, without_place}
+use Rattle.tm_parse.proofs.Taking.{Both, Same, AnyWord, takes_both, takes_then, takes_so, at_first, at_second, blocked_first, blocked_second, both_word, refused_in}
+use Rattle.tm_parse.proofs.Terminals.{has_kind, mark_word, without_place}
 
 -- an expression is spelled by a number
 pub expr_word : {X : Type 0} (text : List ℕ) (bound depth : ℕ) → AnyWord {X = X} (λ x. AnExpr text bound depth)
@@ -64,16 +62,16 @@ pub no_enclosed_opening : (text : List ℕ) (opening closing : Sign) (depth : �
     IsRefused (AnyOf (IsOpening (token.Sign opening) depth)) Nothing a e →
     IsRefused (AnyOf (IsEnclosed text opening closing depth)) Nothing a e
 no_enclosed_opening text opening closing depth a e h =
-    refused_so (λ deep here blocked. blocked_so (enclosed_is a) (at_first blocked
-    (both_word (expr_word text 0 (depth + 1)) (mark_word (token.Sign closing))))) e h
+    refused_in (enclosed_is a) (λ deep here blocked. at_first blocked
+    (both_word (expr_word text 0 (depth + 1)) (mark_word (token.Sign closing)))) e h
 
 pub no_enclosed_expr : (text : List ℕ) {opening : Sign} (closing : Sign) {depth : ℕ} {p : Place} {a b : List Token} →
     ¬ GoesExpr 0 (Some (token.Sign closing)) → Takes (IsOpening (token.Sign opening) depth) Nothing p a b → (e : Stop) →
     IsRefused (AnyOf (AnExpr text 0 (depth + 1))) (GoesExpr 0) b e →
     IsRefused (AnyOf (IsEnclosed text opening closing depth)) Nothing a e
 no_enclosed_expr text closing closes o e h =
-    refused_so (λ deep here blocked. blocked_so (enclosed_is _) (at_second o
-    (blocked_first blocked (mark_word (token.Sign closing)) (mark_parts closing closes)))) e h
+    refused_in (enclosed_is _) (λ deep here blocked. at_second o
+    (blocked_first blocked (mark_word (token.Sign closing)) (mark_parts closing closes))) e h
 
 pub no_enclosed_closing : {text : List ℕ} {opening closing : Sign} {depth : ℕ} {p : Place} {x : ExprTree}
     {a b c : List Token} → ¬ GoesExpr 0 (Some (token.Sign closing)) →
@@ -81,5 +79,5 @@ pub no_enclosed_closing : {text : List ℕ} {opening closing : Sign} {depth : �
     (e : Stop) → IsRefused (AnyOf (TheMark (token.Sign closing))) Nothing c e →
     IsRefused (AnyOf (IsEnclosed text opening closing depth)) Nothing a e
 no_enclosed_closing {closing} closes o r e h =
-    refused_so (λ deep here blocked. blocked_so (enclosed_is _) (at_second o
-    (blocked_second r (mark_parts closing closes) blocked))) e h
+    refused_in (enclosed_is _) (λ deep here blocked. at_second o
+    (blocked_second r (mark_parts closing closes) blocked)) e h

@@ -1,22 +1,17 @@
 -- Where the readers refuse a specification, its first token at fault stands.
-use Rattle.std.proofs.Common.{◌≡◌, ℕ, suc, ◌+◌, ◌<◌, ◌≤◌, ◌⊎◌, inl, inr, ⊎_elim, Bool, true, false, Option, Some, None, List, [], ◌∷◌, ◌++◌, length, refl, sym, ap, ◌∙◌, subst, arith, append_assoc, length-append}
+use Rattle.std.proofs.Common.{◌≡◌, ℕ, ◌≤◌, ⊎_elim, Bool, true, false, Some, None, List, [], ◌∷◌, ◌++◌, length, refl, sym, ap, ◌∙◌, subst, arith, append_assoc, length-append, le_refl}
 use Rattle.std.proofs.lemmas.List.{append-nil}
-use Rattle.tm_base.specs.declared.place.Place.{Place}
 use Rattle.tm_syntax.specs.declared.token.Token.{Token}
-use Rattle.tm_syntax.specs.declared.token.TokenKind.{TokenKind}
 use Rattle.tm_syntax.specs.Tokens.{place_after}
 use Rattle.tm_syntax.specs.Tree.{SpecTree}
 use Rattle.tm_syntax.specs.Grammar.Specification.{IsSpec}
-use Rattle.tm_syntax.specs.Grammar.Faults.{Anywhere, IsWithin, IsWithinAt, Begins, IsUnexpected, IsTooDeep, IsFaultless, HasSyntaxFault, unexpected, ends_early, HasDepthFault, too_deep}
+use Rattle.tm_syntax.specs.Grammar.Faults.{Anywhere, IsWithin, IsWithinAt, Begins, IsFaultless, HasSyntaxFault, unexpected, ends_early, HasDepthFault, too_deep}
 use Rattle.tm_parse.specs.Items.{ASpec, GoesOnAtAll}
-use Rattle.tm_parse.specs.Reading.{Reach, nowhere, all_but, only, IsBound, first_of, first_kind, IsBlocked, AnyOf}
+use Rattle.tm_parse.specs.Reading.{nowhere, only, first_kind, IsBlocked, AnyOf}
 use Rattle.tm_parse.proofs.Loosen.{loosen_spec}
 
 pub nothing_behind : ¬ GoesOnAtAll (first_kind [])
 nothing_behind goes = let none : None ≡ Some goes.0 = goes.1 in cc
-
-le_self : (n : ℕ) → n ≤ n
-le_self n = omega arith
 
 -- where a specification is refused
 abbrev Refused : List ℕ → Bool → List Token → List Token → Type 0
@@ -37,7 +32,7 @@ begun_so {text} h front rest whole =
       behind = rest;
       tree = one.0;
       spec = subst (λ l. IsSpec text Anywhere one.0 l []) whole
-          (loosen_spec (λ a n le may. tt) (le_self (length (h.front ++ h.more))) one.1).0;
+          (loosen_spec (λ a n le may. tt) (le_refl (length (h.front ++ h.more))) one.1).0;
     }
 
 -- what was taken holds no token at fault
@@ -53,7 +48,7 @@ faultless {text} h front rest t whole =
     let one = completed h in
     d.refused (rest ++ h.more) one.0
     (subst (λ l. IsSpec text (IsWithinAt (length (rest ++ h.more))) one.0 l []) all
-    (loosen_spec (within rest h.more) (le_self (length (h.front ++ h.more))) one.1).0))
+    (loosen_spec (within rest h.more) (le_refl (length (h.front ++ h.more))) one.1).0))
   where
     within : (rest more a : List Token) (n : ℕ) → length a ≤ length (h.front ++ h.more) → IsWithin (length more) a n →
         IsWithinAt (length (rest ++ more)) a n

@@ -1,5 +1,5 @@
 -- Which tokens go on with an expression.
-use Rattle.std.proofs.Common.{◌≡◌, ◌≢◌, ℕ, ◌+◌, ◌<◌, ◌≤◌, Option, Some, None, List, refl, sym, ap, ◌∙◌, arith}
+use Rattle.std.proofs.Common.{◌≡◌, ◌≢◌, ℕ, ◌<◌, ◌≤◌, Option, Some, None, refl, sym, ap, ◌∙◌, arith}
 use Rattle.tm_syntax.specs.declared.token.TokenKind.{TokenKind}
 use Rattle.tm_syntax.specs.declared.token.TokenKind.TheVariants as token
 use Rattle.tm_syntax.specs.declared.token.Sign.{Sign}
@@ -29,7 +29,7 @@ infix_at sign.OrOr = Some (joining.Binary operator.OrElse)
 infix_at sign.Xor = Some (joining.Binary operator.Xor)
 infix_at _ = None
 
-infix_at-sign : (op : Infix) → infix_at (infix_sign op) ≡ Some op
+pub infix_at-sign : (op : Infix) → infix_at (infix_sign op) ≡ Some op
 infix_at-sign (joining.Binary operator.Equal) = refl
 infix_at-sign (joining.Binary operator.NotEqual) = refl
 infix_at-sign (joining.Binary operator.Less) = refl

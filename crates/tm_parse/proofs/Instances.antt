@@ -1,5 +1,5 @@
 -- Named conditions, and instances.
-use Rattle.std.proofs.Common.{◌≡◌, ℕ, ◌+◌, ◌≤◌, Bool, Option, Some, None, List, [], ◌∷◌, ◌++◌, length, refl, sym, ap, ◌∙◌, subst}
+use Rattle.std.proofs.Common.{◌≡◌, ℕ, Some, List, [], refl}
 use Rattle.tm_base.specs.declared.place.Place.{Place}
 use Rattle.tm_syntax.specs.declared.token.Token.{Token}
 use Rattle.tm_syntax.specs.declared.token.TokenKind.TheVariants as token
@@ -7,10 +7,10 @@ use Rattle.tm_syntax.specs.declared.token.Word.TheVariants as word
 use Rattle.tm_syntax.specs.declared.token.Sign.TheVariants as sign
 use Rattle.tm_syntax.specs.declared.tree.Ident.{Ident}
 use Rattle.tm_syntax.specs.Tree.{ExprTree, NamedTree, InstanceTree}
-use Rattle.tm_syntax.specs.Grammar.Parts.{Has, IsMark, IsName, enclosed_none}
-use Rattle.tm_syntax.specs.Grammar.Declarations.{IsNamed, named, IsInstance, instance}
+use Rattle.tm_syntax.specs.Grammar.Parts.{IsMark, IsName, enclosed_none}
+use Rattle.tm_syntax.specs.Grammar.Declarations.{named, instance}
 use Rattle.tm_parse.specs.declared.stop.Stop.{Stop}
-use Rattle.tm_parse.specs.Reading.{Reach, IsBound, first_kind, IsRefused, Takes, AnyOf, Nothing, TheMark}
+use Rattle.tm_parse.specs.Reading.{Reach, first_kind, IsRefused, Takes, AnyOf, Nothing, TheMark}
 use Rattle.tm_parse.specs.Operands.{AnExpr, GoesExpr}
 use Rattle.tm_parse.specs.Commands.{GoesAt}
 use Rattle.tm_parse.specs.Items.{ANamed, InParentheses, AnInstance}
@@ -18,7 +18,7 @@ use Rattle.tm_parse.proofs.Arguments.{word_so, other_kind, Listed}
 use Rattle.tm_parse.proofs.Enclosed.{expr_word, mark_parts}
 use Rattle.tm_parse.proofs.Goes.{no_goes}
 use Rattle.tm_parse.proofs.Names.{name_has, name_word}
-use Rattle.tm_parse.proofs.Taking.{Both, Same, AnyWord, Parts, takes_both, takes_then, takes_so, at_first, at_second, blocked_first, blocked_second, blocked_so, both_word, refused_so}
+use Rattle.tm_parse.proofs.Taking.{Both, Same, AnyWord, takes_both, takes_then, takes_so, at_first, at_second, blocked_first, blocked_second, both_word, refused_in}
 use Rattle.tm_parse.proofs.Terminals.{has_kind, mark_word, without_place}
 
 no_goes_semicolon : ¬ GoesExpr 0 (Some (token.Sign sign.Semicolon))
@@ -64,23 +64,23 @@ taken_named n m r o =
 pub no_named_name : (text : List ℕ) (depth : ℕ) (a : List Token) (e : Stop) →
     IsRefused (AnyOf (λ _. IsName text)) Nothing a e → IsRefused (AnyOf (ANamed text depth)) Nothing a e
 no_named_name text depth a e h =
-    refused_so (λ deep here blocked. blocked_so (named_is a) (at_first blocked
-    (both_word (mark_word (token.Sign sign.Assign)) (condition_word text depth)))) e h
+    refused_in (named_is a) (λ deep here blocked. at_first blocked
+    (both_word (mark_word (token.Sign sign.Assign)) (condition_word text depth))) e h
 
 pub no_named_sign : (text : List ℕ) (depth : ℕ) {name : Ident} {a b : List Token} →
     Takes (λ _. IsName text) Nothing name a b → (e : Stop) →
     IsRefused (AnyOf (TheMark (token.Sign sign.Assign))) Nothing b e → IsRefused (AnyOf (ANamed text depth)) Nothing a e
 no_named_sign text depth n e h =
-    refused_so (λ deep here blocked. blocked_so (named_is _) (at_second n
-    (at_first blocked (condition_word text depth)))) e h
+    refused_in (named_is _) (λ deep here blocked. at_second n
+    (at_first blocked (condition_word text depth))) e h
 
 pub no_named_expr : {text : List ℕ} (depth : ℕ) {name : Ident} {p : Place} {a b c : List Token} →
     Takes (λ _. IsName text) Nothing name a b → Takes (λ _. IsMark (token.Sign sign.Assign)) Nothing p b c →
     (e : Stop) → IsRefused (AnyOf (AnExpr text 0 depth)) (GoesExpr 0) c e →
     IsRefused (AnyOf (ANamed text depth)) Nothing a e
 no_named_expr depth n m e h =
-    refused_so (λ deep here blocked. blocked_so (named_is _) (at_second n (at_second (without_place m)
-    (blocked_first blocked (mark_word (token.Sign sign.Semicolon)) (mark_parts sign.Semicolon no_goes_semicolon)))))
+    refused_in (named_is _) (λ deep here blocked. at_second n (at_second (without_place m)
+    (blocked_first blocked (mark_word (token.Sign sign.Semicolon)) (mark_parts sign.Semicolon no_goes_semicolon))))
     e h
 
 pub no_named_end : {text : List ℕ} {depth : ℕ} {name : Ident} {x : ExprTree} {p : Place} {a b c d : List Token} →
@@ -89,8 +89,8 @@ pub no_named_end : {text : List ℕ} {depth : ℕ} {name : Ident} {x : ExprTree}
     IsRefused (AnyOf (TheMark (token.Sign sign.Semicolon))) Nothing d e →
     IsRefused (AnyOf (ANamed text depth)) Nothing a e
 no_named_end n m r e h =
-    refused_so (λ deep here blocked. blocked_so (named_is _) (at_second n (at_second (without_place m)
-    (blocked_second r (mark_parts sign.Semicolon no_goes_semicolon) blocked)))) e h
+    refused_in (named_is _) (λ deep here blocked. at_second n (at_second (without_place m)
+    (blocked_second r (mark_parts sign.Semicolon no_goes_semicolon) blocked))) e h
 
 -- names may stand in a list in parentheses
 pub names_listed : (text : List ℕ) → Listed (λ _. IsName text) Nothing
@@ -165,23 +165,23 @@ pub no_instance_word : (text : List ℕ) (depth : ℕ) (a : List Token) (e : Sto
     IsRefused (AnyOf (TheMark (token.Word word.Instance))) Nothing a e →
     IsRefused (AnyOf (AnInstance text depth)) Nothing a e
 no_instance_word text depth a e h =
-    refused_so (λ deep here blocked. blocked_so (instance_is a) (at_first blocked
-    (both_word (name_word text) (both_word (name_word text) (ports_word text depth))))) e h
+    refused_in (instance_is a) (λ deep here blocked. at_first blocked
+    (both_word (name_word text) (both_word (name_word text) (ports_word text depth)))) e h
 
 pub no_instance_template : (text : List ℕ) (depth : ℕ) {p : Place} {a b : List Token} →
     Takes (λ _. IsMark (token.Word word.Instance)) Nothing p a b → (e : Stop) →
     IsRefused (AnyOf (λ _. IsName text)) Nothing b e → IsRefused (AnyOf (AnInstance text depth)) Nothing a e
 no_instance_template text depth m e h =
-    refused_so (λ deep here blocked. blocked_so (instance_is _) (at_second (without_place m)
-    (at_first blocked (both_word (name_word text) (ports_word text depth))))) e h
+    refused_in (instance_is _) (λ deep here blocked. at_second (without_place m)
+    (at_first blocked (both_word (name_word text) (ports_word text depth)))) e h
 
 pub no_instance_name : (text : List ℕ) (depth : ℕ) {p : Place} {template : Ident} {a b c : List Token} →
     Takes (λ _. IsMark (token.Word word.Instance)) Nothing p a b → Takes (λ _. IsName text) Nothing template b c →
     (e : Stop) → IsRefused (AnyOf (λ _. IsName text)) Nothing c e →
     IsRefused (AnyOf (AnInstance text depth)) Nothing a e
 no_instance_name text depth m k e h =
-    refused_so (λ deep here blocked. blocked_so (instance_is _) (at_second (without_place m) (at_second k
-    (at_first blocked (ports_word text depth))))) e h
+    refused_in (instance_is _) (λ deep here blocked. at_second (without_place m) (at_second k
+    (at_first blocked (ports_word text depth)))) e h
 
 pub no_instance_ports : {text : List ℕ} (depth : ℕ) {p : Place} {template name : Ident} {a b c d : List Token} →
     Takes (λ _. IsMark (token.Word word.Instance)) Nothing p a b → Takes (λ _. IsName text) Nothing template b c →
@@ -189,8 +189,8 @@ pub no_instance_ports : {text : List ℕ} (depth : ℕ) {p : Place} {template na
     IsRefused (AnyOf (InParentheses depth (λ _. IsName text))) (GoesAt (token.Sign sign.OpenParenthesis)) d e →
     IsRefused (AnyOf (AnInstance text depth)) Nothing a e
 no_instance_ports depth m k n e h =
-    refused_so (λ deep here blocked. blocked_so (instance_is _) (at_second (without_place m) (at_second k (at_second n
-    (blocked_first blocked (mark_word (token.Sign sign.Semicolon)) ports_parts))))) e h
+    refused_in (instance_is _) (λ deep here blocked. at_second (without_place m) (at_second k (at_second n
+    (blocked_first blocked (mark_word (token.Sign sign.Semicolon)) ports_parts)))) e h
 
 pub no_instance_end : {text : List ℕ} {depth : ℕ} {p : Place} {template name : Ident} {args : List Ident}
     {a b c d f : List Token} → Takes (λ _. IsMark (token.Word word.Instance)) Nothing p a b →
@@ -199,8 +199,8 @@ pub no_instance_end : {text : List ℕ} {depth : ℕ} {p : Place} {template name
     IsRefused (AnyOf (TheMark (token.Sign sign.Semicolon))) Nothing f e →
     IsRefused (AnyOf (AnInstance text depth)) Nothing a e
 no_instance_end m k n r e h =
-    refused_so (λ deep here blocked. blocked_so (instance_is _) (at_second (without_place m) (at_second k (at_second n
-    (blocked_second r ports_parts blocked))))) e h
+    refused_in (instance_is _) (λ deep here blocked. at_second (without_place m) (at_second k (at_second n
+    (blocked_second r ports_parts blocked)))) e h
 
 pub named_word : {X : Type 0} (text : List ℕ) (depth : ℕ) → AnyWord {X = X} (λ x. ANamed text depth)
 named_word text depth =

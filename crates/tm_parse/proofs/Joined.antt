@@ -11,7 +11,7 @@ use Rattle.tm_syntax.specs.Grammar.Expressions.{strength}
 use Rattle.tm_parse.specs.declared.operators.Infix.{Infix}
 use Rattle.tm_parse.specs.declared.operators.Infix.TheVariants as joining
 use Rattle.tm_parse.specs.declared.stop.Stop.{Stop}
-use Rattle.tm_parse.specs.Reading.{Reach, IsRefused, Takes, AnyOf, Nothing}
+use Rattle.tm_parse.specs.Reading.{IsRefused, Takes, AnyOf, Nothing}
 use Rattle.tm_parse.specs.Operands.{AnExpr, GoesExpr, GoesJoined, IsJoined, ATail}
 use Rattle.tm_parse.proofs.Choices.{taken_right, no_right_operand, no_right_tail, taken_shift, no_shift}
 use Rattle.tm_parse.proofs.Spine.{strength_most}

@@ -1,5 +1,5 @@
 -- Literals, and the variables that have them.
-use Rattle.std.proofs.Common.{◌≡◌, ◌≢◌, ℕ, Bool, true, false, Option, Some, None, List, [], ◌∷◌, ◌++◌, length, refl, sym, ap, ◌∙◌, subst}
+use Rattle.std.proofs.Common.{◌≡◌, ◌≢◌, ℕ, true, false, Option, Some, None, List, [], ◌∷◌, refl, sym, ◌∙◌, subst}
 use Rattle.tm_base.specs.declared.place.Place.{Place}
 use Rattle.tm_syntax.specs.declared.token.Token.{Token}
 use Rattle.tm_syntax.specs.declared.token.TokenKind.{TokenKind}
@@ -19,7 +19,7 @@ use Rattle.tm_parse.specs.Commands.{GoesAt}
 use Rattle.tm_parse.proofs.Arguments.{other_kind, BeginsAt, taken_absent, present_is}
 use Rattle.tm_parse.proofs.Names.{name_has, number_has, name_word, number_word}
 use Rattle.tm_parse.proofs.Primaries.{looser, looser_blocked}
-use Rattle.tm_parse.proofs.Taking.{Both, Same, AnyWord, Parts, same_kind, takes_both, takes_then, takes_so, at_first, at_second, blocked_first, blocked_second, blocked_so, both_word, refused_so}
+use Rattle.tm_parse.proofs.Taking.{Both, Same, AnyWord, same_kind, takes_both, takes_then, takes_so, at_first, at_second, blocked_first, blocked_second, blocked_so, both_word, refused_in}
 use Rattle.tm_parse.proofs.Terminals.{clash, mark_kind, has_kind, mark_word, without_place}
 
 -- NUMBER
@@ -43,7 +43,7 @@ taken_literal_number kind r = takes_so (number_is _ kind) r
 
 pub no_literal_number : (text : List ℕ) (a : List Token) → first_kind a ≡ Some token.Number → (e : Stop) →
     IsRefused (AnyOf (λ _. IsNumber text)) Nothing a e → IsRefused (AnyOf (λ _. IsLiteral text)) Nothing a e
-no_literal_number text a kind e h = refused_so (λ deep here blocked. blocked_so (number_is a kind) blocked) e h
+no_literal_number text a kind e h = refused_in (number_is a kind) (λ deep here blocked. blocked) e h
 
 -- "true" and "false"
 true_is : {text : List ℕ} (a : List Token) → first_kind a ≡ Some (token.Word word.True) →
@@ -112,7 +112,7 @@ taken_literal_name {text} a {b} none is r =
 
 pub no_literal_name : (text : List ℕ) (a : List Token) → IsNoLiteral a → (e : Stop) →
     IsRefused (AnyOf (λ _. IsName text)) Nothing a e → IsRefused (AnyOf (λ _. IsLiteral text)) Nothing a e
-no_literal_name text a none e h = refused_so (λ deep here blocked. blocked_so (name_is a none) blocked) e h
+no_literal_name text a none e h = refused_in (name_is a none) (λ deep here blocked. blocked) e h
 
 pub literal_word : {X : Type 0} (text : List ℕ) → AnyWord {X = X} (λ x _. IsLiteral text)
 literal_word text =
@@ -166,8 +166,8 @@ pub no_length_number : (text : List ℕ) {p : Place} {a b : List Token} →
     (e : Stop) → IsRefused (AnyOf (λ _. IsNumber text)) Nothing b e →
     IsRefused (AnyOf (λ _. IsOptional (IsLength text))) (GoesAt (token.Sign sign.OpenBracket)) a e
 no_length_number text kind m e h =
-    refused_so (λ deep here blocked. blocked_so (present_is _ kind) (looser_blocked (blocked_so (length_is _)
-    (at_second (without_place m) (at_first blocked (mark_word (token.Sign sign.CloseBracket))))))) e h
+    refused_in (present_is _ kind) (λ deep here blocked. looser_blocked (blocked_so (length_is _)
+    (at_second (without_place m) (at_first blocked (mark_word (token.Sign sign.CloseBracket)))))) e h
 
 pub no_length_closing : {text : List ℕ} {p : Place} {n : Num} {a b c : List Token} →
     first_kind a ≡ Some (token.Sign sign.OpenBracket) →
@@ -176,8 +176,8 @@ pub no_length_closing : {text : List ℕ} {p : Place} {n : Num} {a b c : List To
     IsRefused (AnyOf (TheMark (token.Sign sign.CloseBracket))) Nothing c e →
     IsRefused (AnyOf (λ _. IsOptional (IsLength text))) (GoesAt (token.Sign sign.OpenBracket)) a e
 no_length_closing kind m r e h =
-    refused_so (λ deep here blocked. blocked_so (present_is _ kind) (looser_blocked (blocked_so (length_is _)
-    (at_second (without_place m) (at_second r blocked))))) e h
+    refused_in (present_is _ kind) (λ deep here blocked. looser_blocked (blocked_so (length_is _)
+    (at_second (without_place m) (at_second r blocked)))) e h
 
 -- "=" and a literal
 abbrev InitialParts : List ℕ → Reach → Unit {0} × ExprTree → List Token → List Token → Type 0
@@ -215,8 +215,8 @@ pub no_initial : (text : List ℕ) {p : Place} {a b : List Token} → first_kind
     IsRefused (AnyOf (λ _. IsLiteral text)) Nothing b e →
     IsRefused (AnyOf (λ _. IsOptional (IsInitial text))) (GoesAt (token.Sign sign.Assign)) a e
 no_initial text kind m e h =
-    refused_so (λ deep here blocked. blocked_so (present_is _ kind) (looser_blocked (blocked_so (initial_is _)
-    (at_second (without_place m) blocked)))) e h
+    refused_in (present_is _ kind) (λ deep here blocked. looser_blocked (blocked_so (initial_is _)
+    (at_second (without_place m) blocked))) e h
 
 -- a type, a name, a length and a literal, where they stand here, and ";"
 abbrev EndParts : List ℕ → Reach → Option ExprTree × Unit {0} → List Token → List Token → Type 0
@@ -303,21 +303,21 @@ taken_variable r n l i m =
 pub no_variable_type : (text : List ℕ) (a : List Token) (e : Stop) → IsRefused (AnyOf (λ _. IsType text)) Nothing a e →
     IsRefused (AnyOf (λ _. IsVar text)) Nothing a e
 no_variable_type text a e h =
-    refused_so (λ deep here blocked. blocked_so (var_is a) (at_first blocked
-    (both_word (name_word text) (length_word text)))) e h
+    refused_in (var_is a) (λ deep here blocked. at_first blocked
+    (both_word (name_word text) (length_word text))) e h
 
 pub no_variable_name : (text : List ℕ) {ty : TypeName} {a b : List Token} → Takes (λ _. IsType text) Nothing ty a b →
     (e : Stop) → IsRefused (AnyOf (λ _. IsName text)) Nothing b e → IsRefused (AnyOf (λ _. IsVar text)) Nothing a e
 no_variable_name text r e h =
-    refused_so (λ deep here blocked. blocked_so (var_is _) (at_second r (at_first blocked (length_word text)))) e h
+    refused_in (var_is _) (λ deep here blocked. at_second r (at_first blocked (length_word text))) e h
 
 pub no_variable_length : (text : List ℕ) {ty : TypeName} {name : Ident} {a b c : List Token} →
     Takes (λ _. IsType text) Nothing ty a b → Takes (λ _. IsName text) Nothing name b c → (e : Stop) →
     IsRefused (AnyOf (λ _. IsOptional (IsLength text))) (GoesAt (token.Sign sign.OpenBracket)) c e →
     IsRefused (AnyOf (λ _. IsVar text)) Nothing a e
 no_variable_length text r n e h =
-    refused_so (λ deep here blocked. blocked_so (var_is _) (at_second r (at_second n
-    (blocked_first blocked (end_word text) length_parts)))) e h
+    refused_in (var_is _) (λ deep here blocked. at_second r (at_second n
+    (blocked_first blocked (end_word text) length_parts))) e h
 
 pub no_variable_initial : {text : List ℕ} {ty : TypeName} {name : Ident} {size : Option Num} {a b c d : List Token} →
     Takes (λ _. IsType text) Nothing ty a b → Takes (λ _. IsName text) Nothing name b c →
@@ -325,9 +325,9 @@ pub no_variable_initial : {text : List ℕ} {ty : TypeName} {name : Ident} {size
     IsRefused (AnyOf (λ _. IsOptional (IsInitial text))) (GoesAt (token.Sign sign.Assign)) d e →
     IsRefused (AnyOf (λ _. IsVar text)) Nothing a e
 no_variable_initial r n l e h =
-    refused_so (λ deep here blocked. blocked_so (var_is _) (at_second r (at_second n
+    refused_in (var_is _) (λ deep here blocked. at_second r (at_second n
     (blocked_second l length_parts
-    (blocked_first blocked (mark_word (token.Sign sign.Semicolon)) initial_parts))))) e h
+    (blocked_first blocked (mark_word (token.Sign sign.Semicolon)) initial_parts)))) e h
 
 pub no_variable_end : {text : List ℕ} {ty : TypeName} {name : Ident} {size : Option Num} {init : Option ExprTree}
     {a b c d x : List Token} → Takes (λ _. IsType text) Nothing ty a b → Takes (λ _. IsName text) Nothing name b c →
@@ -336,5 +336,5 @@ pub no_variable_end : {text : List ℕ} {ty : TypeName} {name : Ident} {size : O
     IsRefused (AnyOf (TheMark (token.Sign sign.Semicolon))) Nothing x e →
     IsRefused (AnyOf (λ _. IsVar text)) Nothing a e
 no_variable_end r n l i e h =
-    refused_so (λ deep here blocked. blocked_so (var_is _) (at_second r (at_second n
-    (blocked_second l length_parts (blocked_second i initial_parts blocked))))) e h
+    refused_in (var_is _) (λ deep here blocked. at_second r (at_second n
+    (blocked_second l length_parts (blocked_second i initial_parts blocked)))) e h

@@ -1,5 +1,5 @@
 -- Bodies: the declarations of locals, statements, and what a procedure returns.
-use Rattle.std.proofs.Common.{◌≡◌, ◌≢◌, ℕ, ◌+◌, ◌<◌, ◌≤◌, ◌⊎◌, inl, inr, Bool, true, false, IsTrue, Option, Some, None, List, [], ◌∷◌, ◌++◌, length, refl, sym, ap, ◌∙◌, subst, arith, append_assoc}
+use Rattle.std.proofs.Common.{◌≡◌, ℕ, inl, inr, Bool, true, false, IsTrue, Option, Some, None, List, [], ◌∷◌, ◌++◌, length, refl, sym, ap, ◌∙◌, subst, arith, append_assoc}
 use Rattle.std.proofs.lemmas.List.{append-nil}
 use Rattle.tm_base.specs.declared.place.Place.{Place}
 use Rattle.tm_syntax.specs.declared.token.Token.{Token}
@@ -10,27 +10,23 @@ use Rattle.tm_syntax.specs.declared.token.Sign.TheVariants as sign
 use Rattle.tm_syntax.specs.declared.tree.Ident.{Ident}
 use Rattle.tm_syntax.specs.declared.tree.TypeName.{TypeName}
 use Rattle.tm_syntax.specs.declared.tree.TypeName.TheVariants as written
-use Rattle.tm_syntax.specs.Tree.{ExprTree, ValueTree, StmtTree, LocalTree, BodyTree}
-use Rattle.tm_syntax.specs.Grammar.Parts.{Has, IsMark, IsName, AreEach, each_none, each_more, parted_one, IsOptional, optional_none, optional_some}
-use Rattle.tm_syntax.specs.Grammar.Statements.{IsType, type_bool, type_uint, type_name, IsLocal, local, stmts_none, stmts_more, IsBody, body, IsReturn, return, IsBraced, braced, IsAnswering, answering}
+use Rattle.tm_syntax.specs.Tree.{ValueTree, StmtTree, LocalTree}
+use Rattle.tm_syntax.specs.Grammar.Parts.{Has, IsMark, IsName, AreEach, each_none, each_more, parted_one, optional_none, optional_some}
+use Rattle.tm_syntax.specs.Grammar.Statements.{IsType, type_bool, type_uint, type_name, local, stmts_none, stmts_more}
 use Rattle.tm_parse.specs.declared.stop.Stop.{Stop}
-use Rattle.tm_parse.specs.Reading.{Reach, all_but, IsBound, Binds, first_of, first_kind, IsBlocked, IsRefused, Takes, AnyOf, Nothing, TheMark, IsOpening}
+use Rattle.tm_parse.specs.Reading.{Reach, all_but, Binds, first_of, first_kind, IsBlocked, IsRefused, Takes, AnyOf, Nothing, TheMark}
 use Rattle.tm_parse.specs.declared.statements.StmtSort.{StmtSort}
 use Rattle.tm_parse.specs.declared.statements.StmtSort.TheVariants as sort
-use Rattle.tm_parse.specs.Operands.{AnExpr, GoesExpr, encloses}
-use Rattle.tm_parse.specs.Commands.{GoesAt, AValue, GoesValue, stmt_sort, SomeStmts, GoesStmts, GoesBody, IsStmtFrom, from_arguments, from_place, IsSorted, is_path, is_if, is_while, is_forever, is_choice, is_assert, is_assume, is_pause, is_wait, is_magic, tests, shortly, ALocal, AreBody, AnAnswer, ABraced, AnAnswering, is_name, begins_name, begins_type, begins_local}
-use Rattle.tm_parse.proofs.Arguments.{wider, wider_blocked, other_kind, opening_word, word_so, BeginsAt, taken_absent, present_is}
-use Rattle.tm_parse.proofs.Blocks.{brace_parts, stmts_word}
+use Rattle.tm_parse.specs.Operands.{encloses}
+use Rattle.tm_parse.specs.Commands.{AValue, GoesValue, stmt_sort, SomeStmts, GoesStmts, GoesBody, IsStmtFrom, from_arguments, from_place, IsSorted, is_path, is_if, is_while, is_forever, is_choice, is_assert, is_assume, is_pause, is_wait, is_magic, tests, shortly, ALocal, AreBody, is_name, begins_name, begins_type, begins_local}
+use Rattle.tm_parse.proofs.Arguments.{other_kind}
 use Rattle.tm_parse.proofs.Commands.{semicolon_parts, stmt_from_word}
-use Rattle.tm_parse.proofs.Enclosed.{expr_word}
-use Rattle.tm_parse.proofs.Goes.{no_goes}
 use Rattle.tm_parse.proofs.Names.{has_name, name_word}
-use Rattle.tm_parse.proofs.Primaries.{looser, looser_blocked}
-use Rattle.tm_parse.proofs.Rows.{Each, none_here, one_here, each_view, Leads, RowSoFar, row_start, row_more, Apart, each_grows}
+use Rattle.tm_parse.proofs.Rows.{Each, none_here, one_here, each_view, RowSoFar, row_start, row_more, Apart, each_grows}
 use Rattle.tm_parse.proofs.Lists.{First, alone, before, first_view}
-use Rattle.tm_parse.proofs.Sorts.{AStmt, SortView, sort_view, stmts_each, path_to}
-use Rattle.tm_parse.proofs.Taking.{Both, Same, AnyWord, Parts, same_kind, same_behind, takes_both, takes_then, takes_so, at_first, at_second, blocked_first, blocked_second, blocked_so, both_word, refused_so}
-use Rattle.tm_parse.proofs.Terminals.{mark_kind, mark_has, has_kind, has_mark, mark_word, without_place, with_place}
+use Rattle.tm_parse.proofs.Sorts.{AStmt, sort_view, stmts_each, path_to}
+use Rattle.tm_parse.proofs.Taking.{Both, Same, AnyWord, same_behind, takes_both, takes_then, takes_so, at_first, at_second, blocked_first, blocked_second, both_word, refused_in}
+use Rattle.tm_parse.proofs.Terminals.{mark_kind, mark_has, has_kind, mark_word, without_place}
 use Rattle.tm_parse.proofs.Values.{args_kind, value_word}
 
 -- a type, a name, "=", a value, ";"
@@ -85,30 +81,30 @@ taken_local t n m v s =
 pub no_local_type : (text : List ℕ) (depth : ℕ) (a : List Token) (e : Stop) →
     IsRefused (AnyOf (λ _. IsType text)) Nothing a e → IsRefused (AnyOf (ALocal text depth)) Nothing a e
 no_local_type text depth a e h =
-    refused_so (λ deep here blocked. blocked_so (local_is a) (at_first blocked
-    (both_word (name_word text) (both_word (mark_word (token.Sign sign.Assign)) (end_word text depth))))) e h
+    refused_in (local_is a) (λ deep here blocked. at_first blocked
+    (both_word (name_word text) (both_word (mark_word (token.Sign sign.Assign)) (end_word text depth)))) e h
 
 pub no_local_name : {text : List ℕ} (depth : ℕ) {ty : TypeName} {a b : List Token} →
     Takes (λ _. IsType text) Nothing ty a b → (e : Stop) →
     IsRefused (AnyOf (λ _. IsName text)) Nothing b e → IsRefused (AnyOf (ALocal text depth)) Nothing a e
 no_local_name {text} depth t e h =
-    refused_so (λ deep here blocked. blocked_so (local_is _) (at_second t (at_first blocked
-    (both_word (mark_word (token.Sign sign.Assign)) (end_word text depth))))) e h
+    refused_in (local_is _) (λ deep here blocked. at_second t (at_first blocked
+    (both_word (mark_word (token.Sign sign.Assign)) (end_word text depth)))) e h
 
 pub no_local_assign : {text : List ℕ} (depth : ℕ) {ty : TypeName} {name : Ident} {a b c : List Token} →
     Takes (λ _. IsType text) Nothing ty a b → Takes (λ _. IsName text) Nothing name b c → (e : Stop) →
     IsRefused (AnyOf (TheMark (token.Sign sign.Assign))) Nothing c e → IsRefused (AnyOf (ALocal text depth)) Nothing a e
 no_local_assign {text} depth t n e h =
-    refused_so (λ deep here blocked. blocked_so (local_is _) (at_second t (at_second n
-    (at_first blocked (end_word text depth))))) e h
+    refused_in (local_is _) (λ deep here blocked. at_second t (at_second n
+    (at_first blocked (end_word text depth)))) e h
 
 pub no_local_value : {text : List ℕ} (depth : ℕ) {ty : TypeName} {name : Ident} {p : Place} {a b c d : List Token} →
     Takes (λ _. IsType text) Nothing ty a b → Takes (λ _. IsName text) Nothing name b c →
     Takes (λ _. IsMark (token.Sign sign.Assign)) Nothing p c d → (e : Stop) →
     IsRefused (AnyOf (AValue text depth)) GoesValue d e → IsRefused (AnyOf (ALocal text depth)) Nothing a e
 no_local_value depth t n m e h =
-    refused_so (λ deep here blocked. blocked_so (local_is _) (at_second t (at_second n (at_second (without_place m)
-    (blocked_first blocked (mark_word (token.Sign sign.Semicolon)) semicolon_parts))))) e h
+    refused_in (local_is _) (λ deep here blocked. at_second t (at_second n (at_second (without_place m)
+    (blocked_first blocked (mark_word (token.Sign sign.Semicolon)) semicolon_parts)))) e h
 
 pub no_local_end : {text : List ℕ} {depth : ℕ} {ty : TypeName} {name : Ident} {p : Place} {v : ValueTree}
     {a b c d f : List Token} → Takes (λ _. IsType text) Nothing ty a b → Takes (λ _. IsName text) Nothing name b c →
@@ -117,8 +113,8 @@ pub no_local_end : {text : List ℕ} {depth : ℕ} {ty : TypeName} {name : Ident
     IsRefused (AnyOf (TheMark (token.Sign sign.Semicolon))) Nothing f e →
     IsRefused (AnyOf (ALocal text depth)) Nothing a e
 no_local_end t n m v e h =
-    refused_so (λ deep here blocked. blocked_so (local_is _) (at_second t (at_second n (at_second (without_place m)
-    (blocked_second v semicolon_parts blocked))))) e h
+    refused_in (local_is _) (λ deep here blocked. at_second t (at_second n (at_second (without_place m)
+    (blocked_second v semicolon_parts blocked)))) e h
 
 -- a declaration of a local begins as one
 local_begins : {text : List ℕ} {depth : ℕ} (reach : Reach) {d : LocalTree} {a b : List Token} →

@@ -1,6 +1,6 @@
 -- What is spelled where tokens may stand so deep is spelled where those of this many last tokens may stand deeper. And
 -- a form leaves no more tokens than it begins with.
-use Rattle.std.proofs.Common.{◌≡◌, ℕ, ◌+◌, ◌<◌, ◌≤◌, List, ◌∷◌, length, Option, ap, arith}
+use Rattle.std.proofs.Common.{◌≡◌, ℕ, ◌≤◌, List, ◌∷◌, length, Option, ap, arith}
 use Rattle.tm_syntax.specs.declared.token.Token.{Token}
 use Rattle.tm_syntax.specs.declared.token.Sign.{Sign}
 use Rattle.tm_syntax.specs.declared.tree.Ident.{Ident}

@@ -1,13 +1,13 @@
 -- Names and numbers.
-use Rattle.std.proofs.Common.{◌≡◌, ℕ, Bool, false, Option, Some, List, [], ◌∷◌, ◌++◌, length, slice_range, refl, sym, ap, ◌∙◌, subst}
+use Rattle.std.proofs.Common.{◌≡◌, ℕ, false, Some, List, [], ◌∷◌, slice_range, refl, sym, ap, ◌∙◌}
 use Rattle.tm_syntax.specs.declared.token.Token.{Token}
 use Rattle.tm_syntax.specs.declared.token.TokenKind.TheVariants as token
 use Rattle.tm_syntax.specs.declared.tree.Ident.{Ident}
 use Rattle.tm_syntax.specs.declared.tree.Num.{Num}
 use Rattle.tm_syntax.specs.Grammar.Parts.{Has, IsName, IsNumber, below_limit, written_number}
-use Rattle.tm_parse.specs.Reading.{first_of, first_kind, Takes, IsBlocked, AnyOf, Nothing, TheMark}
-use Rattle.tm_parse.proofs.Taking.{AnyWord, Same, blocked_so}
-use Rattle.tm_parse.proofs.Terminals.{no_mark, mark_word, mark_rest}
+use Rattle.tm_parse.specs.Reading.{first_kind, Takes, IsBlocked, AnyOf, Nothing}
+use Rattle.tm_parse.proofs.Taking.{AnyWord}
+use Rattle.tm_parse.proofs.Terminals.{no_mark, mark_word}
 
 pub has_name : {text : List ℕ} {a b : List Token} → Has token.Name a b → (n : Ident) × IsName text n a b
 has_name {text} h = (

@@ -1,5 +1,5 @@
 -- Ports, enums and items.
-use Rattle.std.proofs.Common.{◌≡◌, ℕ, ◌+◌, ◌≤◌, inl, inr, Bool, Option, Some, None, List, [], ◌∷◌, ◌++◌, length, refl, sym, ap, ◌∙◌, subst}
+use Rattle.std.proofs.Common.{◌≡◌, ℕ, inl, inr, Some, List, [], ◌∷◌, refl, sym, ◌∙◌}
 use Rattle.tm_base.specs.declared.place.Place.{Place}
 use Rattle.tm_syntax.specs.declared.token.Token.{Token}
 use Rattle.tm_syntax.specs.declared.token.TokenKind.{TokenKind}
@@ -12,11 +12,11 @@ use Rattle.tm_syntax.specs.Tree.{EnumTree, TemplateTree}
 use Rattle.tm_syntax.specs.Grammar.Parts.{Has, IsMark, IsName, AreParted, parted_one}
 use Rattle.tm_syntax.specs.Grammar.Specification.{IsPort, port, template, enum, ItemTree, an_enum, a_template, item_enum, item_template}
 use Rattle.tm_parse.specs.declared.stop.Stop.{Stop}
-use Rattle.tm_parse.specs.Reading.{Reach, IsBound, first_of, first_kind, IsRefused, Takes, AnyOf, Nothing, TheMark, IsOpening, GoesOn}
+use Rattle.tm_parse.specs.Reading.{Reach, first_of, first_kind, IsRefused, Takes, AnyOf, Nothing, TheMark, IsOpening, GoesOn}
 use Rattle.tm_parse.specs.Items.{ATemplate, AnEnum, AnItem}
 use Rattle.tm_parse.proofs.Arguments.{opening_word, word_so, other_kind, Listed}
 use Rattle.tm_parse.proofs.Names.{name_has, name_word}
-use Rattle.tm_parse.proofs.Taking.{Both, Same, AnyWord, same_kind, takes_both, takes_then, takes_so, at_first, at_second, blocked_first, blocked_second, blocked_so, both_word, refused_so}
+use Rattle.tm_parse.proofs.Taking.{Both, Same, AnyWord, same_kind, takes_both, takes_then, takes_so, at_first, at_second, blocked_first, blocked_second, both_word, refused_in}
 use Rattle.tm_parse.proofs.Terminals.{clash, mark_has, has_kind, has_mark, mark_word, without_place}
 
 -- NAME NAME
@@ -42,11 +42,11 @@ taken_port k n = takes_so (port_is _) (takes_then k n)
 pub no_port_template : (text : List ℕ) (a : List Token) (e : Stop) → IsRefused (AnyOf (λ _. IsName text)) Nothing a e →
     IsRefused (AnyOf (λ _. IsPort text)) Nothing a e
 no_port_template text a e h =
-    refused_so (λ deep here blocked. blocked_so (port_is a) (at_first blocked (name_word text))) e h
+    refused_in (port_is a) (λ deep here blocked. at_first blocked (name_word text)) e h
 
 pub no_port_name : (text : List ℕ) {kind : Ident} {a b : List Token} → Takes (λ _. IsName text) Nothing kind a b →
     (e : Stop) → IsRefused (AnyOf (λ _. IsName text)) Nothing b e → IsRefused (AnyOf (λ _. IsPort text)) Nothing a e
-no_port_name text k e h = refused_so (λ deep here blocked. blocked_so (port_is _) (at_second k blocked)) e h
+no_port_name text k e h = refused_in (port_is _) (λ deep here blocked. at_second k blocked) e h
 
 port_opens : {text : List ℕ} {x : Port} {a b : List Token} → IsPort text x a b →
     ¬ (first_kind a ≡ Some (token.Sign sign.CloseParenthesis))
@@ -168,16 +168,16 @@ taken_enum h r m k s =
 pub no_enum_word : (text : List ℕ) (a : List Token) (e : Stop) →
     IsRefused (AnyOf (TheMark (token.Word word.Typedef))) Nothing a e → IsRefused (AnyOf (AnEnum text)) Nothing a e
 no_enum_word text a e h =
-    refused_so (λ deep here blocked. blocked_so (enum_is a) (at_first blocked
+    refused_in (enum_is a) (λ deep here blocked. at_first blocked
     (both_word (mark_word (token.Word word.Enum))
-    (both_word (opening_word (token.Sign sign.OpenBrace) 0) (body_word text))))) e h
+    (both_word (opening_word (token.Sign sign.OpenBrace) 0) (body_word text)))) e h
 
 pub no_enum_second : (text : List ℕ) {p : Place} {a b : List Token} →
     Takes (λ _. IsMark (token.Word word.Typedef)) Nothing p a b → (e : Stop) →
     IsRefused (AnyOf (TheMark (token.Word word.Enum))) Nothing b e → IsRefused (AnyOf (AnEnum text)) Nothing a e
 no_enum_second text m e h =
-    refused_so (λ deep here blocked. blocked_so (enum_is _) (at_second (without_place m) (at_first blocked
-    (both_word (opening_word (token.Sign sign.OpenBrace) 0) (body_word text))))) e h
+    refused_in (enum_is _) (λ deep here blocked. at_second (without_place m) (at_first blocked
+    (both_word (opening_word (token.Sign sign.OpenBrace) 0) (body_word text)))) e h
 
 pub no_enum_brace : (text : List ℕ) {p q : Place} {a b c : List Token} →
     Takes (λ _. IsMark (token.Word word.Typedef)) Nothing p a b →
@@ -185,35 +185,35 @@ pub no_enum_brace : (text : List ℕ) {p q : Place} {a b c : List Token} →
     IsRefused (AnyOf (IsOpening (token.Sign sign.OpenBrace) 0)) Nothing c e →
     IsRefused (AnyOf (AnEnum text)) Nothing a e
 no_enum_brace text m n e h =
-    refused_so (λ deep here blocked. blocked_so (enum_is _) (at_second (without_place m)
-    (at_second (without_place n) (at_first blocked (body_word text))))) e h
+    refused_in (enum_is _) (λ deep here blocked. at_second (without_place m)
+    (at_second (without_place n) (at_first blocked (body_word text)))) e h
 
 pub no_enum_names : {text : List ℕ} {a b : List Token} → EnumSoFar text a b → (e : Stop) →
     IsRefused (AnyOf (λ _. AreParted sign.Comma (IsName text))) (GoesOn sign.Comma Nothing) b e →
     IsRefused (AnyOf (AnEnum text)) Nothing a e
 no_enum_names {text} s e h =
-    refused_so (λ deep here blocked. blocked_so (enum_is _) (at_second s.first_word (at_second s.second_word
+    refused_in (enum_is _) (λ deep here blocked. at_second s.first_word (at_second s.second_word
     (at_second s.brace
-    (blocked_first blocked (end_word text) names_parts))))) e h
+    (blocked_first blocked (end_word text) names_parts)))) e h
 
 pub no_enum_closing : {text : List ℕ} {names : List Ident} {a b c : List Token} → EnumSoFar text a b →
     Takes (λ _. AreParted sign.Comma (IsName text)) (GoesOn sign.Comma Nothing) names b c → (e : Stop) →
     IsRefused (AnyOf (TheMark (token.Sign sign.CloseBrace))) Nothing c e → IsRefused (AnyOf (AnEnum text)) Nothing a e
 no_enum_closing {text} s r e h =
-    refused_so (λ deep here blocked. blocked_so (enum_is _) (at_second s.first_word (at_second s.second_word
+    refused_in (enum_is _) (λ deep here blocked. at_second s.first_word (at_second s.second_word
     (at_second s.brace
     (blocked_second r names_parts (at_first blocked
-    (both_word (name_word text) (mark_word (token.Sign sign.Semicolon))))))))) e h
+    (both_word (name_word text) (mark_word (token.Sign sign.Semicolon)))))))) e h
 
 pub no_enum_name : {text : List ℕ} {names : List Ident} {p : Place} {a b c d : List Token} → EnumSoFar text a b →
     Takes (λ _. AreParted sign.Comma (IsName text)) (GoesOn sign.Comma Nothing) names b c →
     Takes (λ _. IsMark (token.Sign sign.CloseBrace)) Nothing p c d → (e : Stop) →
     IsRefused (AnyOf (λ _. IsName text)) Nothing d e → IsRefused (AnyOf (AnEnum text)) Nothing a e
 no_enum_name s r m e h =
-    refused_so (λ deep here blocked. blocked_so (enum_is _) (at_second s.first_word (at_second s.second_word
+    refused_in (enum_is _) (λ deep here blocked. at_second s.first_word (at_second s.second_word
     (at_second s.brace
     (blocked_second r names_parts (at_second (without_place m)
-    (at_first blocked (mark_word (token.Sign sign.Semicolon)))))))))
+    (at_first blocked (mark_word (token.Sign sign.Semicolon))))))))
     e h
 
 pub no_enum_end : {text : List ℕ} {names : List Ident} {name : Ident} {p : Place} {a b c d f : List Token} →
@@ -222,9 +222,9 @@ pub no_enum_end : {text : List ℕ} {names : List Ident} {name : Ident} {p : Pla
     (e : Stop) → IsRefused (AnyOf (TheMark (token.Sign sign.Semicolon))) Nothing f e →
     IsRefused (AnyOf (AnEnum text)) Nothing a e
 no_enum_end s r m k e h =
-    refused_so (λ deep here blocked. blocked_so (enum_is _) (at_second s.first_word (at_second s.second_word
+    refused_in (enum_is _) (λ deep here blocked. at_second s.first_word (at_second s.second_word
     (at_second s.brace
-    (blocked_second r names_parts (at_second (without_place m) (at_second k blocked))))))) e h
+    (blocked_second r names_parts (at_second (without_place m) (at_second k blocked)))))) e h
 
 -- items by their first tokens
 enum_item_is : {text : List ℕ} (a : List Token) → first_kind a ≡ Some (token.Word word.Typedef) →
@@ -260,7 +260,7 @@ taken_enum_item a first r = takes_so (enum_item_is a first) r
 
 pub no_enum_item : (text : List ℕ) (a : List Token) → first_kind a ≡ Some (token.Word word.Typedef) → (e : Stop) →
     IsRefused (AnyOf (AnEnum text)) Nothing a e → IsRefused (AnyOf (AnItem text)) Nothing a e
-no_enum_item text a first e h = refused_so (λ deep here blocked. blocked_so (enum_item_is a first) blocked) e h
+no_enum_item text a first e h = refused_in (enum_item_is a first) (λ deep here blocked. blocked) e h
 
 pub taken_template_item : {text : List ℕ} {d : TemplateTree} (a : List Token) {b : List Token} →
     ¬ (first_kind a ≡ Some (token.Word word.Typedef)) → Takes (ATemplate text) Nothing d a b →
@@ -269,7 +269,7 @@ taken_template_item a none r = takes_so (template_item_is a none) r
 
 pub no_template_item : (text : List ℕ) (a : List Token) → ¬ (first_kind a ≡ Some (token.Word word.Typedef)) →
     (e : Stop) → IsRefused (AnyOf (ATemplate text)) Nothing a e → IsRefused (AnyOf (AnItem text)) Nothing a e
-no_template_item text a none e h = refused_so (λ deep here blocked. blocked_so (template_item_is a none) blocked) e h
+no_template_item text a none e h = refused_in (template_item_is a none) (λ deep here blocked. blocked) e h
 
 -- an item begins with a token
 pub item_opens : (reach : Reach) {text : List ℕ} {d : ItemTree} {a b : List Token} → AnItem text reach d a b →

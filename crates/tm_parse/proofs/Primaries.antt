@@ -1,5 +1,5 @@
 -- Operands: prefixed forms and primaries.
-use Rattle.std.proofs.Common.{◌≡◌, ◌≢◌, ℕ, ◌+◌, ◌<◌, ◌≤◌, inl, inr, append_assoc, length-append, Bool, false, true, Option, Some, None, List, [], ◌∷◌, ◌++◌, length, refl, sym, ap, ◌∙◌, subst, arith}
+use Rattle.std.proofs.Common.{◌≡◌, ◌≢◌, ℕ, ◌+◌, inl, inr, append_assoc, length-append, Bool, false, true, Option, Some, None, List, [], ◌∷◌, ◌++◌, length, refl, sym, ap, ◌∙◌, subst, arith}
 use Rattle.tm_base.specs.declared.place.Place.{Place}
 use Rattle.tm_syntax.specs.declared.token.Token.{Token}
 use Rattle.tm_syntax.specs.declared.token.TokenKind.{TokenKind}
@@ -11,21 +11,21 @@ use Rattle.tm_syntax.specs.declared.tree.Ident.{Ident}
 use Rattle.tm_syntax.specs.declared.tree.Num.{Num}
 use Rattle.tm_syntax.specs.declared.tree.UnaryOperator.{UnaryOperator}
 use Rattle.tm_syntax.specs.declared.tree.UnaryOperator.TheVariants as unary_operator
-use Rattle.tm_syntax.specs.Tree.{ExprTree, truth, number, path, group, unary, binary, shift, conditional, cast, element}
+use Rattle.tm_syntax.specs.Tree.{ExprTree, truth, number, path, group, unary, cast, element}
 use Rattle.tm_syntax.specs.Grammar.Parts.{Has, IsMark, IsName, IsNumber, IsPath}
-use Rattle.tm_syntax.specs.Grammar.Expressions.{unary_sign, strength, expr_conditional, expr_binary, expr_shift, expr_unary, expr_number, expr_true, expr_false, expr_path, expr_element, expr_group, expr_cast}
+use Rattle.tm_syntax.specs.Grammar.Expressions.{unary_sign, expr_conditional, expr_binary, expr_shift, expr_unary, expr_number, expr_true, expr_false, expr_path, expr_element, expr_group, expr_cast}
 use Rattle.tm_parse.specs.declared.stop.Stop.{Stop}
-use Rattle.tm_parse.specs.Reading.{Reach, all_but, IsBound, first_of, first_kind, IsBlocked, IsRefused, Takes, AnyOf, Nothing, TheMark, IsOpening, GoesBy, GoesOn}
+use Rattle.tm_parse.specs.Reading.{Reach, all_but, IsBound, first_of, first_kind, IsBlocked, IsRefused, Takes, AnyOf, Nothing, TheMark, IsOpening, GoesOn}
 use Rattle.tm_parse.specs.Width.{IsWidth, width}
 use Rattle.tm_parse.specs.declared.operators.Primary.{Primary}
 use Rattle.tm_parse.specs.declared.operators.Primary.TheVariants as primary
-use Rattle.tm_parse.specs.Operands.{AnExpr, GoesExpr, goes_dot, goes_bracket, IsPrefix, prefixes, primary_of, primary_at, IsEnclosed, encloses, IsPlaceFrom, from_path, from_element}
-use Rattle.tm_parse.proofs.Enclosed.{expr_word, mark_parts}
+use Rattle.tm_parse.specs.Operands.{AnExpr, GoesExpr, goes_dot, goes_bracket, primary_of, primary_at, IsEnclosed, encloses, IsPlaceFrom, from_path, from_element}
+use Rattle.tm_parse.proofs.Enclosed.{expr_word}
 use Rattle.tm_parse.proofs.Goes.{no_goes_parenthesis}
 use Rattle.tm_parse.proofs.Lists.{First, alone, before, first_view}
-use Rattle.tm_parse.proofs.Names.{name_has, number_has, name_word, number_word}
+use Rattle.tm_parse.proofs.Names.{name_has, number_has}
 use Rattle.tm_parse.proofs.Spine.{strength_most}
-use Rattle.tm_parse.proofs.Taking.{Both, Same, AnyWord, Parts, same_kind, same_behind, takes_both, takes_then, takes_so, at_first, at_second, blocked_first, blocked_second, blocked_so, both_word, refused_so}
+use Rattle.tm_parse.proofs.Taking.{Both, Same, AnyWord, same_kind, takes_both, takes_then, takes_so, at_first, at_second, blocked_first, blocked_second, both_word, refused_in}
 use Rattle.tm_parse.proofs.Terminals.{mark_kind, mark_has, has_kind, mark_word, without_place, with_place}
 use Rattle.tm_parse.proofs.Types.{width_word}
 
@@ -315,7 +315,7 @@ unary_is {text} {depth} op a kind = record {
 pub no_number_expr : (text : List ℕ) (depth : ℕ) (a : List Token) → primary_at a ≡ Some primary.Number → (e : Stop) →
     IsRefused (AnyOf (λ _. IsNumber text)) Nothing a e → IsRefused (AnyOf (AnExpr text 10 depth)) (GoesExpr 10) a e
 no_number_expr text depth a sort e h =
-    refused_so (λ deep here blocked. blocked_so (number_is a sort) (looser_blocked blocked)) e h
+    refused_in (number_is a sort) (λ deep here blocked. looser_blocked blocked) e h
 
 pub taken_true : {text : List ℕ} {depth : ℕ} {p : Place} (a : List Token) {b : List Token} →
     primary_at a ≡ Some primary.True → Takes (λ _. IsMark (token.Word word.True)) Nothing p a b →
@@ -326,7 +326,7 @@ pub no_true : (text : List ℕ) (depth : ℕ) (a : List Token) → primary_at a 
     IsRefused (AnyOf (TheMark (token.Word word.True))) Nothing a e →
     IsRefused (AnyOf (AnExpr text 10 depth)) (GoesExpr 10) a e
 no_true text depth a sort e h =
-    refused_so (λ deep here blocked. blocked_so (true_is a sort) (looser_blocked (with_place blocked))) e h
+    refused_in (true_is a sort) (λ deep here blocked. looser_blocked (with_place blocked)) e h
 
 pub taken_false : {text : List ℕ} {depth : ℕ} {p : Place} (a : List Token) {b : List Token} →
     primary_at a ≡ Some primary.False → Takes (λ _. IsMark (token.Word word.False)) Nothing p a b →
@@ -337,7 +337,7 @@ pub no_false : (text : List ℕ) (depth : ℕ) (a : List Token) → primary_at a
     IsRefused (AnyOf (TheMark (token.Word word.False))) Nothing a e →
     IsRefused (AnyOf (AnExpr text 10 depth)) (GoesExpr 10) a e
 no_false text depth a sort e h =
-    refused_so (λ deep here blocked. blocked_so (false_is a sort) (looser_blocked (with_place blocked))) e h
+    refused_in (false_is a sort) (λ deep here blocked. looser_blocked (with_place blocked)) e h
 
 parenthesis_parts : (reach : Reach) (x : ExprTree) (y : Unit {0}) (a b : List Token) →
     TheMark (token.Sign sign.CloseParenthesis) reach y a b → ¬ GoesExpr 10 (first_kind b) → ¬ GoesExpr 0 (first_kind a)
@@ -356,16 +356,16 @@ pub no_group_opening : (text : List ℕ) (depth : ℕ) (a : List Token) → prim
     IsRefused (AnyOf (IsOpening (token.Sign sign.OpenParenthesis) depth)) Nothing a e →
     IsRefused (AnyOf (AnExpr text 10 depth)) (GoesExpr 10) a e
 no_group_opening text depth a sort e h =
-    refused_so (λ deep here blocked. blocked_so (group_is a sort) (at_first blocked
-    (both_word (expr_word text 0 (depth + 1)) (mark_word (token.Sign sign.CloseParenthesis))))) e h
+    refused_in (group_is a sort) (λ deep here blocked. at_first blocked
+    (both_word (expr_word text 0 (depth + 1)) (mark_word (token.Sign sign.CloseParenthesis)))) e h
 
 pub no_group_expr : (text : List ℕ) {depth : ℕ} {p : Place} (a : List Token) {b : List Token} →
     primary_at a ≡ Some primary.Group → Takes (IsOpening (token.Sign sign.OpenParenthesis) depth) Nothing p a b →
     (e : Stop) → IsRefused (AnyOf (AnExpr text 0 (depth + 1))) (GoesExpr 0) b e →
     IsRefused (AnyOf (AnExpr text 10 depth)) (GoesExpr 10) a e
 no_group_expr text {depth} a sort o e h =
-    refused_so (λ deep here blocked. blocked_so (group_is a sort) (at_second o
-    (blocked_first blocked (mark_word (token.Sign sign.CloseParenthesis)) parenthesis_parts))) e h
+    refused_in (group_is a sort) (λ deep here blocked. at_second o
+    (blocked_first blocked (mark_word (token.Sign sign.CloseParenthesis)) parenthesis_parts)) e h
 
 pub no_group_closing : {text : List ℕ} {depth : ℕ} {p : Place} {x : ExprTree} (a : List Token) {b c : List Token} →
     primary_at a ≡ Some primary.Group → Takes (IsOpening (token.Sign sign.OpenParenthesis) depth) Nothing p a b →
@@ -373,8 +373,8 @@ pub no_group_closing : {text : List ℕ} {depth : ℕ} {p : Place} {x : ExprTree
     IsRefused (AnyOf (TheMark (token.Sign sign.CloseParenthesis))) Nothing c e →
     IsRefused (AnyOf (AnExpr text 10 depth)) (GoesExpr 10) a e
 no_group_closing {text} {depth} a sort o r e h =
-    refused_so (λ deep here blocked. blocked_so (group_is a sort) (at_second o
-    (blocked_second r parenthesis_parts (looser_blocked blocked)))) e h
+    refused_in (group_is a sort) (λ deep here blocked. at_second o
+    (blocked_second r parenthesis_parts (looser_blocked blocked))) e h
 
 pub enclosed_word : {X : Type 0} (text : List ℕ) (opening closing : Sign) (depth : ℕ) →
     AnyWord {X = X} (λ x. IsEnclosed text opening closing depth)
@@ -414,15 +414,15 @@ pub no_cast_uint : (text : List ℕ) (depth : ℕ) (a : List Token) → primary_
     IsRefused (AnyOf (TheMark (token.Word word.Uint))) Nothing a e →
     IsRefused (AnyOf (AnExpr text 10 depth)) (GoesExpr 10) a e
 no_cast_uint text depth a sort e h =
-    refused_so (λ deep here blocked. blocked_so (cast_is a sort) (at_first (with_place blocked)
-    (both_word (width_word text) (enclosed_word text sign.OpenParenthesis sign.CloseParenthesis depth)))) e h
+    refused_in (cast_is a sort) (λ deep here blocked. at_first (with_place blocked)
+    (both_word (width_word text) (enclosed_word text sign.OpenParenthesis sign.CloseParenthesis depth))) e h
 
 pub no_cast_width : (text : List ℕ) (depth : ℕ) {p : Place} (a : List Token) {b : List Token} →
     primary_at a ≡ Some primary.Cast → Takes (λ _. IsMark (token.Word word.Uint)) Nothing p a b → (e : Stop) →
     IsRefused (AnyOf (λ _. IsWidth text)) Nothing b e → IsRefused (AnyOf (AnExpr text 10 depth)) (GoesExpr 10) a e
 no_cast_width text depth a sort m e h =
-    refused_so (λ deep here blocked. blocked_so (cast_is a sort) (at_second m
-    (at_first blocked (enclosed_word text sign.OpenParenthesis sign.CloseParenthesis depth)))) e h
+    refused_in (cast_is a sort) (λ deep here blocked. at_second m
+    (at_first blocked (enclosed_word text sign.OpenParenthesis sign.CloseParenthesis depth))) e h
 
 pub no_cast_expr : {text : List ℕ} (depth : ℕ) {p : Place} {n : Num} (a : List Token) {b c : List Token} →
     primary_at a ≡ Some primary.Cast → Takes (λ _. IsMark (token.Word word.Uint)) Nothing p a b →
@@ -430,7 +430,7 @@ pub no_cast_expr : {text : List ℕ} (depth : ℕ) {p : Place} {n : Num} (a : Li
     IsRefused (AnyOf (IsEnclosed text sign.OpenParenthesis sign.CloseParenthesis depth)) Nothing c e →
     IsRefused (AnyOf (AnExpr text 10 depth)) (GoesExpr 10) a e
 no_cast_expr depth a sort m w e h =
-    refused_so (λ deep here blocked. blocked_so (cast_is a sort) (at_second m (at_second w (looser_blocked blocked)))) e
+    refused_in (cast_is a sort) (λ deep here blocked. at_second m (at_second w (looser_blocked blocked))) e
     h
 
 -- what stands behind a path does not go on with it
@@ -455,15 +455,14 @@ pub no_place_path : (text : List ℕ) (depth : ℕ) (a : List Token) → primary
     IsRefused (AnyOf (λ _. IsPath text)) (GoesOn sign.Dot Nothing) a e →
     IsRefused (AnyOf (AnExpr text 10 depth)) (GoesExpr 10) a e
 no_place_path text depth a sort e h =
-    refused_so (λ deep here blocked.
-    blocked_so (place_is a sort) (blocked_first blocked (place_word text depth) place_parts)) e h
+    refused_in (place_is a sort) (λ deep here blocked. blocked_first blocked (place_word text depth) place_parts) e h
 
 pub no_place_from : {text : List ℕ} (depth : ℕ) {names : List Ident} (a : List Token) {b : List Token} →
     primary_at a ≡ Some primary.Place → Takes (λ _. IsPath text) (GoesOn sign.Dot Nothing) names a b → (e : Stop) →
     IsRefused (AnyOf (IsPlaceFrom text names depth)) (GoesExpr 10) b e →
     IsRefused (AnyOf (AnExpr text 10 depth)) (GoesExpr 10) a e
 no_place_from depth a sort r e h =
-    refused_so (λ deep here blocked. blocked_so (place_is a sort) (blocked_second r place_parts blocked)) e h
+    refused_in (place_is a sort) (λ deep here blocked. blocked_second r place_parts blocked) e h
 
 pub taken_unary : {text : List ℕ} {depth : ℕ} {p : Place} {e : ExprTree} (op : UnaryOperator) (k : TokenKind)
     (a : List Token) {b c : List Token} → k ≡ token.Sign (unary_sign op) → first_kind a ≡ Some k →
@@ -477,8 +476,8 @@ pub no_unary_opening : (text : List ℕ) (depth : ℕ) (op : UnaryOperator) (k :
     k ≡ token.Sign (unary_sign op) → first_kind a ≡ Some k → (e : Stop) →
     IsRefused (AnyOf (IsOpening k depth)) Nothing a e → IsRefused (AnyOf (AnExpr text 10 depth)) (GoesExpr 10) a e
 no_unary_opening text depth op k a is kind e h =
-    refused_so (λ deep here blocked. blocked_so (unary_is op a (kind ∙ ap Some is)) (at_first blocked
-    (expr_word text 10 (depth + 1)))) e (subst (λ l. IsRefused (AnyOf (IsOpening l depth)) Nothing a e) is h)
+    refused_in (unary_is op a (kind ∙ ap Some is)) (λ deep here blocked. at_first blocked
+    (expr_word text 10 (depth + 1))) e (subst (λ l. IsRefused (AnyOf (IsOpening l depth)) Nothing a e) is h)
 
 pub no_unary_operand : (text : List ℕ) {depth : ℕ} {p : Place} (op : UnaryOperator) (k : TokenKind) (a : List Token)
     {b : List Token} → k ≡ token.Sign (unary_sign op) → first_kind a ≡ Some k →
@@ -486,8 +485,8 @@ pub no_unary_operand : (text : List ℕ) {depth : ℕ} {p : Place} (op : UnaryOp
     (e : Stop) → IsRefused (AnyOf (AnExpr text 10 (depth + 1))) (GoesExpr 10) b e →
     IsRefused (AnyOf (AnExpr text 10 depth)) (GoesExpr 10) a e
 no_unary_operand text {depth} {p} op k a {b} is kind o e h =
-    refused_so (λ deep here blocked. blocked_so (unary_is op a (kind ∙ ap Some is))
-    (at_second (subst (λ l. Takes (IsOpening l depth) Nothing p a b) is o) blocked)) e h
+    refused_in (unary_is op a (kind ∙ ap Some is)) (λ deep here blocked.
+    at_second (subst (λ l. Takes (IsOpening l depth) Nothing p a b) is o) blocked) e h
 
 -- no operand begins here
 pub no_operand : (text : List ℕ) (depth : ℕ) (a : List Token) → primary_at a ≡ None →
@@ -552,4 +551,4 @@ pub no_element : (text : List ℕ) (depth : ℕ) (names : List Ident) (a : List 
     IsRefused (AnyOf (IsEnclosed text sign.OpenBracket sign.CloseBracket depth)) Nothing a e →
     IsRefused (AnyOf (IsPlaceFrom text names depth)) (GoesExpr 10) a e
 no_element text depth names a kind e h =
-    refused_so (λ deep here blocked. blocked_so (element_is names a kind) (looser_blocked blocked)) e h
+    refused_in (element_is names a kind) (λ deep here blocked. looser_blocked blocked) e h

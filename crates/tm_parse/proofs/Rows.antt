@@ -1,11 +1,11 @@
 -- Forms one behind another: what was read so far, and where a row is refused.
-use Rattle.std.proofs.Common.{◌≡◌, ℕ, ◌+◌, ◌<◌, ◌≤◌, Bool, true, false, IsTrue, Option, Some, None, List, [], ◌∷◌, ◌++◌, length, refl, sym, ap, ◌∙◌, subst, arith, append_assoc}
+use Rattle.std.proofs.Common.{◌≡◌, Bool, IsTrue, Option, List, [], ◌∷◌, ◌++◌, length, refl, sym, ap, ◌∙◌, subst, append_assoc}
 use Rattle.std.proofs.lemmas.List.{append-nil}
 use Rattle.tm_syntax.specs.declared.token.Token.{Token}
 use Rattle.tm_syntax.specs.declared.token.TokenKind.{TokenKind}
 use Rattle.tm_syntax.specs.Grammar.Parts.{AreEach, each_none, each_more}
 use Rattle.tm_parse.specs.Reading.{Reach, all_but, Binds, first_of, first_kind, IsBlocked, Takes, AnyOf, Nothing}
-use Rattle.tm_parse.proofs.Taking.{AnyWord, same_kind, same_behind}
+use Rattle.tm_parse.proofs.Taking.{same_kind, same_behind}
 
 -- a row from the left: none, or the first form and the others
 pub data Each {X : Type 0} (Is : X → List Token → List Token → Type 0) :

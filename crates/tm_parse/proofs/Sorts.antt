@@ -1,5 +1,5 @@
 -- Statements by their first tokens, and rows of them.
-use Rattle.std.proofs.Common.{◌≡◌, ◌≢◌, ℕ, ◌+◌, ◌<◌, ◌≤◌, ◌⊎◌, inl, inr, Bool, true, false, Option, Some, None, List, [], ◌∷◌, ◌++◌, length, refl, sym, ap, ◌∙◌, subst, arith}
+use Rattle.std.proofs.Common.{◌≡◌, ℕ, inl, inr, Option, Some, None, List, [], ◌∷◌, ◌++◌, refl, sym, ap, ◌∙◌, subst}
 use Rattle.tm_base.specs.declared.place.Place.{Place}
 use Rattle.tm_syntax.specs.declared.token.Token.{Token}
 use Rattle.tm_syntax.specs.declared.token.TokenKind.{TokenKind}
@@ -8,17 +8,17 @@ use Rattle.tm_syntax.specs.declared.token.Word.TheVariants as word
 use Rattle.tm_syntax.specs.declared.token.Sign.TheVariants as sign
 use Rattle.tm_syntax.specs.declared.tree.Ident.{Ident}
 use Rattle.tm_syntax.specs.Tree.{ExprTree, ValueTree, StmtTree, assign, choose, StmtRow, row_of, alternatives_of}
-use Rattle.tm_syntax.specs.Grammar.Parts.{Has, IsMark, IsPath, AreEach, each_none, each_more, IsOptional, optional_none, optional_some}
-use Rattle.tm_syntax.specs.Grammar.Statements.{IsPlace, place_path, place_element, IsValue, IsStmt, stmt_assign, stmt_call, stmt_if, stmt_while, stmt_forever, stmt_choice, stmt_assert, stmt_assume, stmt_pause, stmt_wait, stmt_magic, IsIf, if_alone, if_else, if_else_if, IsBlock, AreStmts, stmts_none, stmts_more, AreAlternatives, alternatives_one, alternatives_more}
+use Rattle.tm_syntax.specs.Grammar.Parts.{Has, IsMark, IsPath, AreEach, each_none, each_more, optional_none, optional_some}
+use Rattle.tm_syntax.specs.Grammar.Statements.{IsPlace, place_path, place_element, IsStmt, stmt_assign, stmt_call, stmt_if, stmt_while, stmt_forever, stmt_choice, stmt_assert, stmt_assume, stmt_pause, stmt_wait, stmt_magic, IsIf, if_alone, if_else, if_else_if, stmts_none, stmts_more, AreAlternatives, alternatives_one, alternatives_more}
 use Rattle.tm_parse.specs.declared.stop.Stop.{Stop}
 use Rattle.tm_parse.specs.declared.statements.StmtSort.{StmtSort}
 use Rattle.tm_parse.specs.declared.statements.StmtSort.TheVariants as sort
 use Rattle.tm_parse.specs.declared.statements.FlatSort.TheVariants as flat
-use Rattle.tm_parse.specs.Reading.{Reach, IsBound, first_of, first_kind, IsBlocked, IsRefused, Takes, AnyOf, IsOpening}
+use Rattle.tm_parse.specs.Reading.{Reach, IsBound, first_kind, IsRefused, Takes, AnyOf}
 use Rattle.tm_parse.specs.Operands.{encloses}
-use Rattle.tm_parse.specs.Commands.{GoesAt, AValue, tests, shortly, IsStmtFrom, from_arguments, from_place, ABlock, IsIfFrom, from_test, else_none, else_some, from_block, from_if, IsOrBlock, or_block, IsChoice, choices, stmt_sort, IsSorted, is_path, is_if, is_while, is_forever, is_choice, is_assert, is_assume, is_pause, is_wait, is_magic, AStmtOf, GoesStmt, SomeStmts, GoesStmts}
+use Rattle.tm_parse.specs.Commands.{AValue, tests, shortly, IsStmtFrom, from_arguments, from_place, ABlock, IsIfFrom, from_test, else_none, else_some, from_block, from_if, IsOrBlock, or_block, IsChoice, choices, stmt_sort, IsSorted, is_path, is_if, is_while, is_forever, is_choice, is_assert, is_assume, is_pause, is_wait, is_magic, AStmtOf, GoesStmt, SomeStmts, GoesStmts}
 use Rattle.tm_parse.proofs.Primaries.{path_kind}
-use Rattle.tm_parse.proofs.Rows.{Each, none_here, one_here, each_view, each_cons, Grows, Leads, RowSoFar, row_more, row_all, row_blocked, row_start, Apart, EndsBy}
+use Rattle.tm_parse.proofs.Rows.{Each, none_here, one_here, each_view, each_cons, Grows, RowSoFar, row_more, row_all, row_blocked, row_start, Apart, EndsBy}
 use Rattle.tm_parse.proofs.Taking.{Same, same_kind, takes_so, blocked_so, refused_so}
 use Rattle.tm_parse.proofs.Terminals.{mark_kind, mark_has, has_kind, has_mark}
 

@@ -1,5 +1,5 @@
 -- An expression is an operand and what operators join to it.
-use Rattle.std.proofs.Common.{◌≡◌, ℕ, zero, suc, ◌+◌, ◌<◌, ◌≤◌, Bool, Option, Some, List, refl, sym, ap, ◌∙◌, subst, arith}
+use Rattle.std.proofs.Common.{◌≡◌, ℕ, ◌+◌, ◌≤◌, List, refl, arith, le_refl}
 use Rattle.tm_base.specs.declared.place.Place.{Place}
 use Rattle.tm_syntax.specs.declared.token.Token.{Token}
 use Rattle.tm_syntax.specs.declared.token.TokenKind.TheVariants as token
@@ -72,10 +72,7 @@ joined_expr : {text : List ℕ} {depth : ℕ} {reach : Reach} {op : Infix} {at :
     AnExpr text (infix_strength op) depth reach l a b → IsMark (token.Sign (infix_sign op)) at b c →
     IsBound reach b (height l + 1) → IsJoined text depth reach l at op e c d →
     AnExpr text (infix_strength op) depth reach e a d
-joined_expr left m w (joins_expr {op} right) = expr_binary (le_self (strength op)) left m w right
-  where
-    le_self : (n : ℕ) → n ≤ n
-    le_self n = omega arith
+joined_expr left m w (joins_expr {op} right) = expr_binary (le_refl (strength op)) left m w right
 joined_expr left m w (joins_number n) = expr_shift (omega arith) left m w n
 
 -- what operators join to an expression that binds strongly enough is an expression
@@ -85,11 +82,8 @@ pub tail_expr : {text : List ℕ} {least depth : ℕ} {reach : Reach} {most cap 
     AnExpr text least depth reach e a c
 tail_expr {least} above below left tail_end = weaker least (omega arith) left
 tail_expr above below left (tail_more {op} s t m w right more) =
-    tail_expr s (le_self (infix_strength op))
+    tail_expr s (le_refl (infix_strength op))
     (joined_expr (weaker (infix_strength op) (omega arith) left) m w right) more
-  where
-    le_self : (n : ℕ) → n ≤ n
-    le_self n = omega arith
 
 -- one more operand behind a tail of operators that bind at least as strongly as the last
 tail_push : {text : List ℕ} {least last depth : ℕ} {reach : Reach} {most : ℕ} {op : Infix} {at : Place}

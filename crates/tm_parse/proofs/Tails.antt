@@ -1,11 +1,11 @@
 -- What operators join to an operand, one operator at a time.
-use Rattle.std.proofs.Common.{◌≡◌, ◌≢◌, ℕ, suc, ◌+◌, ◌<◌, ◌≤◌, Bool, false, true, IsTrue, Option, Some, None, List, [], ◌∷◌, ◌++◌, length, refl, sym, ap, ◌∙◌, subst, arith, append_assoc}
+use Rattle.std.proofs.Common.{◌≡◌, ◌≢◌, ℕ, suc, ◌+◌, ◌≤◌, Bool, true, Some, List, [], ◌∷◌, ◌++◌, length, refl, sym, ap, ◌∙◌, subst, arith, append_assoc}
 use Rattle.tm_base.specs.declared.place.Place.{Place}
 use Rattle.tm_syntax.specs.declared.token.Token.{Token}
 use Rattle.tm_syntax.specs.declared.token.TokenKind.{TokenKind}
 use Rattle.tm_syntax.specs.declared.token.TokenKind.TheVariants as token
 use Rattle.tm_syntax.specs.Tree.{ExprTree, number, binary, shift}
-use Rattle.tm_syntax.specs.Grammar.Parts.{Has, IsMark, IsNumber}
+use Rattle.tm_syntax.specs.Grammar.Parts.{IsMark}
 use Rattle.tm_syntax.specs.Grammar.Expressions.{height, expr_number}
 use Rattle.tm_parse.specs.declared.operators.Infix.{Infix}
 use Rattle.tm_parse.specs.declared.operators.Infix.TheVariants as joining
@@ -13,7 +13,7 @@ use Rattle.tm_parse.specs.Reading.{Reach, all_but, IsBound, first_of, first_kind
 use Rattle.tm_parse.specs.Operands.{GoesExpr, goes_infix, GoesJoined, IsJoined, joins_expr, joins_number, IsTail, tail_end, tail_more, ATail, infix_sign, infix_strength}
 use Rattle.tm_parse.proofs.Goes.{infix-injective, no_goes_infix, goes_weaker}
 use Rattle.tm_parse.proofs.Names.{number_word}
-use Rattle.tm_parse.proofs.Taking.{AnyWord, same_kind, same_behind, low_bound}
+use Rattle.tm_parse.proofs.Taking.{same_kind, same_behind, low_bound}
 use Rattle.tm_parse.proofs.Terminals.{mark_kind, mark_has, mark_rest, mark_place}
 
 -- a tail that begins with an operator

@@ -1,6 +1,6 @@
 -- Forms with their trees, one behind another: what was read of the parts was read of the whole, and what is refused of
 -- a part is refused of the whole.
-use Rattle.std.proofs.Common.{◌≡◌, ℕ, ◌+◌, ◌<◌, ◌≤◌, Bool, true, false, IsTrue, Option, Some, None, List, [], ◌∷◌, ◌++◌, length, refl, sym, ap, ◌∙◌, subst, arith, append_assoc, length-append, Result, Ok, Err}
+use Rattle.std.proofs.Common.{◌≡◌, ℕ, ◌≤◌, Bool, true, false, Option, Some, List, [], ◌∷◌, ◌++◌, length, refl, sym, ap, ◌∙◌, subst, arith, append_assoc, length-append, Result, Ok, Err}
 use Rattle.std.specs.Result.{IfOk, IfErr}
 use Rattle.tm_syntax.specs.declared.token.Token.{Token}
 use Rattle.tm_syntax.specs.declared.token.TokenKind.{TokenKind}
@@ -177,6 +177,14 @@ blocked_so {tree} {a} {here} s h = record {
       let parts = s.from reach is.0 (h.front ++ other) rest begins stop is.1 in
       h.stuck reach other rest same within stop (parts.0, parts.1);
 }
+
+-- what refuses a part of a rule refuses the rule
+pub refused_in : {X Y : Type 0} {Is : Reach → X → List Token → List Token → Type 0}
+    {Or : Reach → Y → List Token → List Token → Type 0} {Part : Reach → List Token → List Token → Type 0}
+    {Goes Stops : Option TokenKind → Type 0} {tree : X → Y} {a b : List Token} → Same Is Or Stops tree a →
+    ((deep : Bool) (here : List Token) → IsBlocked Part Goes deep b here → IsBlocked (AnyOf Is) Stops deep a here) →
+    (e : Stop) → IsRefused Part Goes b e → IsRefused (AnyOf Or) Stops a e
+refused_in same blocks e h = refused_so (λ deep here blocked. blocked_so same (blocks deep here blocked)) e h
 
 -- the words of two parts
 pub both_word : {W X Y : Type 0} {Is : W → Reach → X → List Token → List Token → Type 0}

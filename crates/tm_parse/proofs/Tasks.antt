@@ -1,5 +1,5 @@
 -- Processes, tasks and procedures.
-use Rattle.std.proofs.Common.{◌≡◌, ◌≢◌, ℕ, ◌+◌, ◌≤◌, Bool, true, false, Option, Some, None, List, [], ◌∷◌, ◌++◌, length, refl, sym, ap, ◌∙◌, subst}
+use Rattle.std.proofs.Common.{◌≡◌, ◌≢◌, ℕ, Bool, true, false, Option, Some, None, List, [], refl, sym, ◌∙◌}
 use Rattle.tm_base.specs.declared.place.Place.{Place}
 use Rattle.tm_syntax.specs.declared.token.Token.{Token}
 use Rattle.tm_syntax.specs.declared.token.TokenKind.{TokenKind}
@@ -22,7 +22,7 @@ use Rattle.tm_parse.specs.Items.{AProcess, IsLaziness, not_lazy, lazily, IsTaskK
 use Rattle.tm_parse.proofs.Arguments.{opening_word, word_so, other_kind, Listed, arguments_word}
 use Rattle.tm_parse.proofs.Names.{name_has, name_word}
 use Rattle.tm_parse.proofs.Primaries.{looser}
-use Rattle.tm_parse.proofs.Taking.{Both, Same, AnyWord, Parts, same_kind, takes_both, takes_then, takes_so, at_first, at_second, blocked_second, blocked_so, both_word, refused_so}
+use Rattle.tm_parse.proofs.Taking.{Both, Same, AnyWord, same_kind, takes_both, takes_then, takes_so, at_first, at_second, blocked_second, blocked_so, both_word, refused_in}
 use Rattle.tm_parse.proofs.Terminals.{mark_kind, mark_has, has_kind, mark_word, without_place}
 
 -- bodies in braces, of no statement
@@ -135,16 +135,16 @@ pub no_process_word : (text : List ℕ) (depth : ℕ) {lazy : Bool} {a b : List 
     IsRefused (AnyOf (TheMark (token.Word word.Process))) Nothing b e →
     IsRefused (AnyOf (AProcess text depth)) Nothing a e
 no_process_word text depth l e h =
-    refused_so (λ deep here blocked. blocked_so (process_is _) (blocked_second l lazy_parts
-    (at_first blocked (both_word (name_word text) (braced_word text depth))))) e h
+    refused_in (process_is _) (λ deep here blocked. blocked_second l lazy_parts
+    (at_first blocked (both_word (name_word text) (braced_word text depth)))) e h
 
 pub no_process_name : (text : List ℕ) (depth : ℕ) {lazy : Bool} {p : Place} {a b c : List Token} →
     Takes (λ _. IsLaziness) (GoesAt (token.Word word.Lazy)) lazy a b →
     Takes (λ _. IsMark (token.Word word.Process)) Nothing p b c → (e : Stop) →
     IsRefused (AnyOf (λ _. IsName text)) Nothing c e → IsRefused (AnyOf (AProcess text depth)) Nothing a e
 no_process_name text depth l m e h =
-    refused_so (λ deep here blocked. blocked_so (process_is _) (blocked_second l lazy_parts
-    (at_second (without_place m) (at_first blocked (braced_word text depth))))) e h
+    refused_in (process_is _) (λ deep here blocked. blocked_second l lazy_parts
+    (at_second (without_place m) (at_first blocked (braced_word text depth)))) e h
 
 pub no_process_body : {text : List ℕ} (depth : ℕ) {lazy : Bool} {name : Ident} {p : Place} {a b c d : List Token} →
     Takes (λ _. IsLaziness) (GoesAt (token.Word word.Lazy)) lazy a b →
@@ -152,8 +152,8 @@ pub no_process_body : {text : List ℕ} (depth : ℕ) {lazy : Bool} {name : Iden
     (e : Stop) → IsRefused (AnyOf (ABraced text depth)) Nothing d e →
     IsRefused (AnyOf (AProcess text depth)) Nothing a e
 no_process_body depth l m n e h =
-    refused_so (λ deep here blocked. blocked_so (process_is _) (blocked_second l lazy_parts
-    (at_second (without_place m) (at_second n blocked)))) e h
+    refused_in (process_is _) (λ deep here blocked. blocked_second l lazy_parts
+    (at_second (without_place m) (at_second n blocked))) e h
 
 -- a parameter
 abbrev ParamParts : List ℕ → Reach → TypeName × Ident → List Token → List Token → Type 0
@@ -178,11 +178,11 @@ taken_param r n = takes_so (param_is _) (takes_then r n)
 pub no_param_type : (text : List ℕ) (a : List Token) (e : Stop) → IsRefused (AnyOf (λ _. IsType text)) Nothing a e →
     IsRefused (AnyOf (λ _. IsParam text)) Nothing a e
 no_param_type text a e h =
-    refused_so (λ deep here blocked. blocked_so (param_is a) (at_first blocked (name_word text))) e h
+    refused_in (param_is a) (λ deep here blocked. at_first blocked (name_word text)) e h
 
 pub no_param_name : (text : List ℕ) {ty : TypeName} {a b : List Token} → Takes (λ _. IsType text) Nothing ty a b →
     (e : Stop) → IsRefused (AnyOf (λ _. IsName text)) Nothing b e → IsRefused (AnyOf (λ _. IsParam text)) Nothing a e
-no_param_name text r e h = refused_so (λ deep here blocked. blocked_so (param_is _) (at_second r blocked)) e h
+no_param_name text r e h = refused_in (param_is _) (λ deep here blocked. at_second r blocked) e h
 
 -- no type begins with another token
 type_opens : {text : List ℕ} {ty : TypeName} {a b : List Token} (k : TokenKind) → token.Word word.Bool ≢ k →
@@ -227,14 +227,13 @@ taken_heading n r = takes_so (heading_is _) (takes_then n r)
 pub no_heading_name : (text : List ℕ) (depth : ℕ) (a : List Token) (e : Stop) →
     IsRefused (AnyOf (λ _. IsName text)) Nothing a e → IsRefused (AnyOf (IsHeading text depth)) Nothing a e
 no_heading_name text depth a e h =
-    refused_so (λ deep here blocked. blocked_so (heading_is a)
-    (at_first blocked (arguments_word (λ _. IsParam text) depth))) e h
+    refused_in (heading_is a) (λ deep here blocked. at_first blocked (arguments_word (λ _. IsParam text) depth)) e h
 
 pub no_heading_params : {text : List ℕ} (depth : ℕ) {name : Ident} {a b : List Token} →
     Takes (λ _. IsName text) Nothing name a b → (e : Stop) →
     IsRefused (AnyOf (InArguments depth (λ _. IsParam text))) Nothing b e →
     IsRefused (AnyOf (IsHeading text depth)) Nothing a e
-no_heading_params depth n e h = refused_so (λ deep here blocked. blocked_so (heading_is _) (at_second n blocked)) e h
+no_heading_params depth n e h = refused_in (heading_is _) (λ deep here blocked. at_second n blocked) e h
 
 heading_word : {X : Type 0} (text : List ℕ) (depth : ℕ) → AnyWord {X = X} (λ x. IsHeading text depth)
 heading_word text depth =
@@ -314,15 +313,15 @@ access_word =
 pub no_task_word : (a : List Token) (e : Stop) → IsRefused (AnyOf (TheMark (token.Word word.Task))) Nothing a e →
     IsRefused (AnyOf (λ _. IsTaskKind)) Nothing a e
 no_task_word a e h =
-    refused_so (λ deep here blocked. blocked_so (task_kind_is a) (at_first blocked access_word)) e h
+    refused_in (task_kind_is a) (λ deep here blocked. at_first blocked access_word) e h
 
 pub no_task_kind : {p : Place} {a b : List Token} → Takes (λ _. IsMark (token.Word word.Task)) Nothing p a b →
     ¬ (first_kind b ≡ Some (token.Word word.Controllable)) → (e : Stop) →
     IsRefused (AnyOf (TheMark (token.Word word.Uncontrollable))) Nothing b e →
     IsRefused (AnyOf (λ _. IsTaskKind)) Nothing a e
 no_task_kind m none e h =
-    refused_so (λ deep here blocked. blocked_so (task_kind_is _) (at_second (without_place m)
-    (blocked_so (environment_is _ none) blocked))) e h
+    refused_in (task_kind_is _) (λ deep here blocked. at_second (without_place m)
+    (blocked_so (environment_is _ none) blocked)) e h
 
 -- "void", or a type
 void_is : {text : List ℕ} (a : List Token) → first_kind a ≡ Some (token.Word word.Void) →
@@ -361,7 +360,7 @@ taken_result a none r = takes_so (typed_is a none) r
 
 pub no_result : (text : List ℕ) (a : List Token) → ¬ (first_kind a ≡ Some (token.Word word.Void)) → (e : Stop) →
     IsRefused (AnyOf (λ _. IsType text)) Nothing a e → IsRefused (AnyOf (λ _. IsResult text)) Nothing a e
-no_result text a none e h = refused_so (λ deep here blocked. blocked_so (typed_is a none) blocked) e h
+no_result text a none e h = refused_in (typed_is a none) (λ deep here blocked. blocked) e h
 
 result_word : {X : Type 0} (text : List ℕ) → AnyWord {X = X} (λ x _. IsResult text)
 result_word text =
@@ -392,13 +391,13 @@ pub no_procedure_word : (text : List ℕ) (a : List Token) (e : Stop) →
     IsRefused (AnyOf (TheMark (token.Word word.Procedure))) Nothing a e →
     IsRefused (AnyOf (λ _. IsProcedureKind text)) Nothing a e
 no_procedure_word text a e h =
-    refused_so (λ deep here blocked. blocked_so (procedure_kind_is a) (at_first blocked (result_word text))) e h
+    refused_in (procedure_kind_is a) (λ deep here blocked. at_first blocked (result_word text)) e h
 
 pub no_procedure_result : (text : List ℕ) {p : Place} {a b : List Token} →
     Takes (λ _. IsMark (token.Word word.Procedure)) Nothing p a b → (e : Stop) →
     IsRefused (AnyOf (λ _. IsResult text)) Nothing b e → IsRefused (AnyOf (λ _. IsProcedureKind text)) Nothing a e
 no_procedure_result text m e h =
-    refused_so (λ deep here blocked. blocked_so (procedure_kind_is _) (at_second (without_place m) blocked)) e h
+    refused_in (procedure_kind_is _) (λ deep here blocked. at_second (without_place m) blocked) e h
 
 -- a task
 abbrev TaskParts : List ℕ → ℕ → Reach → TaskKind × ((Ident × List Param) × BodyTree) → List Token → List Token → Type 0
@@ -427,21 +426,21 @@ taken_task k r is = takes_so (task_is _) (takes_then k (takes_then r is))
 pub no_task_begin : (text : List ℕ) (depth : ℕ) (a : List Token) (e : Stop) →
     IsRefused (AnyOf (λ _. IsTaskKind)) Nothing a e → IsRefused (AnyOf (IsControlled text depth)) Nothing a e
 no_task_begin text depth a e h =
-    refused_so (λ deep here blocked. blocked_so (task_is a) (at_first blocked
-    (both_word (heading_word text depth) (braced_word text depth)))) e h
+    refused_in (task_is a) (λ deep here blocked. at_first blocked
+    (both_word (heading_word text depth) (braced_word text depth))) e h
 
 pub no_task_heading : (text : List ℕ) (depth : ℕ) {k : TaskKind} {a b : List Token} →
     Takes (λ _. IsTaskKind) Nothing k a b → (e : Stop) → IsRefused (AnyOf (IsHeading text depth)) Nothing b e →
     IsRefused (AnyOf (IsControlled text depth)) Nothing a e
 no_task_heading text depth k e h =
-    refused_so (λ deep here blocked. blocked_so (task_is _) (at_second k
-    (at_first blocked (braced_word text depth)))) e h
+    refused_in (task_is _) (λ deep here blocked. at_second k
+    (at_first blocked (braced_word text depth))) e h
 
 pub no_task_body : {text : List ℕ} {depth : ℕ} {k : TaskKind} {name : Ident} {xs : List Param} {a b c : List Token} →
     Takes (λ _. IsTaskKind) Nothing k a b → Takes (IsHeading text depth) Nothing (name, xs) b c → (e : Stop) →
     IsRefused (AnyOf (ABraced text depth)) Nothing c e → IsRefused (AnyOf (IsControlled text depth)) Nothing a e
 no_task_body k r e h =
-    refused_so (λ deep here blocked. blocked_so (task_is _) (at_second k (at_second r blocked))) e h
+    refused_in (task_is _) (λ deep here blocked. at_second k (at_second r blocked)) e h
 
 -- a procedure
 abbrev ProcedureParts : List ℕ → ℕ → Reach → TaskKind × ((Ident × List Param) × BodyTree) → List Token → List Token →
@@ -472,19 +471,19 @@ taken_procedure k r is = takes_so (procedure_is _) (takes_then k (takes_then r i
 pub no_procedure_begin : (text : List ℕ) (depth : ℕ) (a : List Token) (e : Stop) →
     IsRefused (AnyOf (λ _. IsProcedureKind text)) Nothing a e → IsRefused (AnyOf (IsProcedure text depth)) Nothing a e
 no_procedure_begin text depth a e h =
-    refused_so (λ deep here blocked. blocked_so (procedure_is a) (at_first blocked
-    (both_word (heading_word text depth) (answering_word text depth)))) e h
+    refused_in (procedure_is a) (λ deep here blocked. at_first blocked
+    (both_word (heading_word text depth) (answering_word text depth))) e h
 
 pub no_procedure_heading : (text : List ℕ) (depth : ℕ) {k : TaskKind} {a b : List Token} →
     Takes (λ _. IsProcedureKind text) Nothing k a b → (e : Stop) →
     IsRefused (AnyOf (IsHeading text depth)) Nothing b e → IsRefused (AnyOf (IsProcedure text depth)) Nothing a e
 no_procedure_heading text depth k e h =
-    refused_so (λ deep here blocked. blocked_so (procedure_is _) (at_second k
-    (at_first blocked (answering_word text depth)))) e h
+    refused_in (procedure_is _) (λ deep here blocked. at_second k
+    (at_first blocked (answering_word text depth))) e h
 
 pub no_procedure_body : {text : List ℕ} {depth : ℕ} {k : TaskKind} {name : Ident} {xs : List Param}
     {a b c : List Token} → Takes (λ _. IsProcedureKind text) Nothing k a b →
     Takes (IsHeading text depth) Nothing (name, xs) b c → (e : Stop) →
     IsRefused (AnyOf (AnAnswering text depth)) Nothing c e → IsRefused (AnyOf (IsProcedure text depth)) Nothing a e
 no_procedure_body k r e h =
-    refused_so (λ deep here blocked. blocked_so (procedure_is _) (at_second k (at_second r blocked))) e h
+    refused_in (procedure_is _) (λ deep here blocked. at_second k (at_second r blocked)) e h

@@ -1,11 +1,10 @@
 -- The declarations of a template, one behind another, and the template that they make.
-use Rattle.std.proofs.Common.{◌≡◌, ◌≢◌, ℕ, ◌+◌, ◌≤◌, ◌⊎◌, Bool, Option, Some, None, List, [], ◌∷◌, ◌++◌, length, refl, sym, ap, ◌∙◌, subst, append_assoc}
+use Rattle.std.proofs.Common.{◌≡◌, ℕ, Option, Some, None, List, [], ◌∷◌, ◌++◌, refl, sym, ap, ◌∙◌, subst, append_assoc}
 use Rattle.std.specs.List.{filter_map}
 use Rattle.std.proofs.lemmas.List.{append-nil}
 use Rattle.std.proofs.lemmas.List.Elements.{filter_map-append}
 use Rattle.tm_base.specs.declared.place.Place.{Place}
 use Rattle.tm_syntax.specs.declared.token.Token.{Token}
-use Rattle.tm_syntax.specs.declared.token.TokenKind.{TokenKind}
 use Rattle.tm_syntax.specs.declared.token.TokenKind.TheVariants as token
 use Rattle.tm_syntax.specs.declared.token.Word.TheVariants as word
 use Rattle.tm_syntax.specs.declared.token.Sign.TheVariants as sign
@@ -23,7 +22,7 @@ use Rattle.tm_parse.proofs.Arguments.{other_kind}
 use Rattle.tm_parse.proofs.DeclSorts.{decl_opens, sorted_is, decls_apart, plain_decls, sorted_decls}
 use Rattle.tm_parse.proofs.Names.{name_word}
 use Rattle.tm_parse.proofs.Rows.{Each, none_here, one_here, each_view, EndsBy, RowSoFar, row_start, row_more, row_all, row_blocked, each_grows}
-use Rattle.tm_parse.proofs.Taking.{Both, Same, AnyWord, same_kind, takes_both, takes_then, takes_so, at_first, at_second, blocked_first, blocked_second, blocked_so, both_word, refused_so}
+use Rattle.tm_parse.proofs.Taking.{Both, Same, AnyWord, same_kind, takes_both, takes_then, takes_so, at_first, at_second, blocked_first, blocked_second, blocked_so, both_word, refused_in}
 use Rattle.tm_parse.proofs.Terminals.{has_kind, mark_word, without_place}
 
 -- declarations, one behind another
@@ -110,8 +109,8 @@ pub no_extended : {text : List ℕ} {t u : TemplateTree} {k : DeclSort} {a b : L
     decl_sort (first_kind b) ≡ Some k → (e : Stop) → IsRefused (AnyOf (ADeclOf text k)) Nothing b e →
     IsRefused (AnyOf (IsExtended text t)) GoesDecls a e
 no_extended {text} {t} {k} {a} {b} so_far begins e h =
-    refused_so (λ deep here blocked. blocked_so (extended_is t a)
-    (row_blocked each_grows (decls_apart text) (k, begins) so_far.row (blocked_so (sorted_is b begins) blocked))) e h
+    refused_in (extended_is t a) (λ deep here blocked.
+    row_blocked each_grows (decls_apart text) (k, begins) so_far.row (blocked_so (sorted_is b begins) blocked)) e h
 
 -- a head, declarations and "endtemplate"
 abbrev EndParts : List ℕ → TemplateTree → Reach → TemplateTree × Unit {0} → List Token → List Token → Type 0
@@ -185,22 +184,22 @@ pub no_template_head : (text : List ℕ) (a : List Token) (e : Stop) →
     IsRefused (AnyOf (IsHead text)) (GoesAt (token.Sign sign.OpenParenthesis)) a e →
     IsRefused (AnyOf (ATemplate text)) Nothing a e
 no_template_head text a e h =
-    refused_so (λ deep here blocked. blocked_so (template_is a) (blocked_first blocked (end_word text) head_parts)) e h
+    refused_in (template_is a) (λ deep here blocked. blocked_first blocked (end_word text) head_parts) e h
 
 pub no_template_decls : {text : List ℕ} {t : TemplateTree} {a b : List Token} →
     Takes (IsHead text) (GoesAt (token.Sign sign.OpenParenthesis)) t a b → (e : Stop) →
     IsRefused (AnyOf (IsExtended text t)) GoesDecls b e → IsRefused (AnyOf (ATemplate text)) Nothing a e
 no_template_decls r e h =
-    refused_so (λ deep here blocked. blocked_so (template_is _) (blocked_second r head_parts
-    (blocked_first blocked (mark_word (token.Word word.EndTemplate)) decls_parts))) e h
+    refused_in (template_is _) (λ deep here blocked. blocked_second r head_parts
+    (blocked_first blocked (mark_word (token.Word word.EndTemplate)) decls_parts)) e h
 
 pub no_template_end : {text : List ℕ} {t u : TemplateTree} {a b c : List Token} →
     Takes (IsHead text) (GoesAt (token.Sign sign.OpenParenthesis)) t a b → Takes (IsExtended text t) GoesDecls u b c →
     (e : Stop) → IsRefused (AnyOf (TheMark (token.Word word.EndTemplate))) Nothing c e →
     IsRefused (AnyOf (ATemplate text)) Nothing a e
 no_template_end r s e h =
-    refused_so (λ deep here blocked. blocked_so (template_is _) (blocked_second r head_parts
-    (blocked_second s decls_parts blocked))) e h
+    refused_in (template_is _) (λ deep here blocked. blocked_second r head_parts
+    (blocked_second s decls_parts blocked)) e h
 
 -- "template", a name and ports
 abbrev HeadParts : List ℕ → Reach → Unit {0} × (Ident × List Port) → List Token → List Token → Type 0
@@ -235,16 +234,16 @@ pub no_head_word : (text : List ℕ) (a : List Token) (e : Stop) →
     IsRefused (AnyOf (TheMark (token.Word word.Template))) Nothing a e →
     IsRefused (AnyOf (IsHead text)) (GoesAt (token.Sign sign.OpenParenthesis)) a e
 no_head_word text a e h =
-    refused_so (λ deep here blocked. blocked_so (head_is a) (at_first blocked
-    (both_word (name_word text) (no_ports_word text)))) e h
+    refused_in (head_is a) (λ deep here blocked. at_first blocked
+    (both_word (name_word text) (no_ports_word text))) e h
 
 pub no_head_name : (text : List ℕ) {p : Place} {a b : List Token} →
     Takes (λ _. IsMark (token.Word word.Template)) Nothing p a b → (e : Stop) →
     IsRefused (AnyOf (λ _. IsName text)) Nothing b e →
     IsRefused (AnyOf (IsHead text)) (GoesAt (token.Sign sign.OpenParenthesis)) a e
 no_head_name text m e h =
-    refused_so (λ deep here blocked. blocked_so (head_is _) (at_second (without_place m)
-    (at_first blocked (no_ports_word text)))) e h
+    refused_in (head_is _) (λ deep here blocked. at_second (without_place m)
+    (at_first blocked (no_ports_word text))) e h
 
 pub no_head_ports : {text : List ℕ} {name : Ident} {p : Place} {a b c : List Token} →
     Takes (λ _. IsMark (token.Word word.Template)) Nothing p a b → Takes (λ _. IsName text) Nothing name b c →
@@ -252,7 +251,7 @@ pub no_head_ports : {text : List ℕ} {name : Ident} {p : Place} {a b c : List T
     IsRefused (AnyOf (InParentheses 0 (λ _. IsPort text))) (GoesAt (token.Sign sign.OpenParenthesis)) c e →
     IsRefused (AnyOf (IsHead text)) (GoesAt (token.Sign sign.OpenParenthesis)) a e
 no_head_ports m n e h =
-    refused_so (λ deep here blocked. blocked_so (head_is _) (at_second (without_place m) (at_second n blocked))) e h
+    refused_in (head_is _) (λ deep here blocked. at_second (without_place m) (at_second n blocked)) e h
 
 -- a template that declares nothing yet
 pub taken_bare : {text : List ℕ} {name : Ident} {ports : List Port} {is : List InstanceTree} {vs : List VarTree}

@@ -1,5 +1,5 @@
 -- Widths and types.
-use Rattle.std.proofs.Common.{◌≡◌, ℕ, Bool, false, Option, Some, List, [], ◌∷◌, ◌++◌, length, refl, sym, ap, ◌∙◌, subst}
+use Rattle.std.proofs.Common.{◌≡◌, ℕ, Some, List, ◌++◌, refl, sym, ◌∙◌}
 use Rattle.tm_base.specs.declared.place.Place.{Place}
 use Rattle.tm_syntax.specs.declared.token.Token.{Token}
 use Rattle.tm_syntax.specs.declared.token.TokenKind.TheVariants as token
@@ -9,13 +9,13 @@ use Rattle.tm_syntax.specs.declared.tree.Ident.{Ident}
 use Rattle.tm_syntax.specs.declared.tree.Num.{Num}
 use Rattle.tm_syntax.specs.declared.tree.TypeName.{TypeName}
 use Rattle.tm_syntax.specs.declared.tree.TypeName.TheVariants as written
-use Rattle.tm_syntax.specs.Grammar.Parts.{Has, IsMark, IsName, IsNumber}
+use Rattle.tm_syntax.specs.Grammar.Parts.{IsMark, IsName, IsNumber}
 use Rattle.tm_syntax.specs.Grammar.Statements.{IsType, type_bool, type_uint, type_name}
 use Rattle.tm_parse.specs.Reading.{Reach, all_but, first_of, first_kind, IsRefused, Takes, AnyOf, Nothing, TheMark}
 use Rattle.tm_parse.specs.Width.{IsWidth, width}
 use Rattle.tm_parse.specs.declared.stop.Stop.{Stop}
 use Rattle.tm_parse.proofs.Names.{name_has, number_word}
-use Rattle.tm_parse.proofs.Taking.{Both, Same, AnyWord, same_kind, takes_then, takes_so, at_first, at_second, blocked_so, both_word, refused_so}
+use Rattle.tm_parse.proofs.Taking.{Both, Same, AnyWord, same_kind, takes_then, takes_so, at_first, at_second, both_word, refused_in}
 use Rattle.tm_parse.proofs.Terminals.{clash, mark_kind, has_kind, mark_word, without_place}
 
 -- "<", NUMBER, ">"
@@ -46,22 +46,22 @@ taken_width m r o =
 pub no_width_less : (text : List ℕ) (a : List Token) (e : Stop) →
     IsRefused (AnyOf (TheMark (token.Sign sign.Less))) Nothing a e → IsRefused (AnyOf (λ _. IsWidth text)) Nothing a e
 no_width_less text a e h =
-    refused_so (λ deep here blocked. blocked_so (width_is a) (at_first blocked
-    (both_word (number_word text) (mark_word (token.Sign sign.Greater))))) e h
+    refused_in (width_is a) (λ deep here blocked. at_first blocked
+    (both_word (number_word text) (mark_word (token.Sign sign.Greater)))) e h
 
 pub no_width_number : (text : List ℕ) {p : Place} {a b : List Token} →
     Takes (λ _. IsMark (token.Sign sign.Less)) Nothing p a b → (e : Stop) →
     IsRefused (AnyOf (λ _. IsNumber text)) Nothing b e → IsRefused (AnyOf (λ _. IsWidth text)) Nothing a e
 no_width_number text m e h =
-    refused_so (λ deep here blocked. blocked_so (width_is _) (at_second (without_place m)
-    (at_first blocked (mark_word (token.Sign sign.Greater))))) e h
+    refused_in (width_is _) (λ deep here blocked. at_second (without_place m)
+    (at_first blocked (mark_word (token.Sign sign.Greater)))) e h
 
 pub no_width_greater : {text : List ℕ} {p : Place} {n : Num} {a b c : List Token} →
     Takes (λ _. IsMark (token.Sign sign.Less)) Nothing p a b → Takes (λ _. IsNumber text) Nothing n b c → (e : Stop) →
     IsRefused (AnyOf (TheMark (token.Sign sign.Greater))) Nothing c e →
     IsRefused (AnyOf (λ _. IsWidth text)) Nothing a e
 no_width_greater m r e h =
-    refused_so (λ deep here blocked. blocked_so (width_is _) (at_second (without_place m) (at_second r blocked))) e h
+    refused_in (width_is _) (λ deep here blocked. at_second (without_place m) (at_second r blocked)) e h
 
 -- "bool"
 bool_is : {text : List ℕ} (a : List Token) → first_kind a ≡ Some (token.Word word.Bool) →
@@ -112,7 +112,7 @@ pub no_uint : (text : List ℕ) {p : Place} {a b : List Token} → first_kind a 
     Takes (λ _. IsMark (token.Word word.Uint)) Nothing p a b → (e : Stop) →
     IsRefused (AnyOf (λ _. IsWidth text)) Nothing b e → IsRefused (AnyOf (λ _. IsType text)) Nothing a e
 no_uint text kind m e h =
-    refused_so (λ deep here blocked. blocked_so (uint_is _ kind) (at_second m blocked)) e h
+    refused_in (uint_is _ kind) (λ deep here blocked. at_second m blocked) e h
 
 -- NAME
 type_name_is : {text : List ℕ} (a : List Token) → ¬ (first_kind a ≡ Some (token.Word word.Bool)) →
@@ -137,7 +137,7 @@ pub no_type_name : (text : List ℕ) (a : List Token) → ¬ (first_kind a ≡ S
     ¬ (first_kind a ≡ Some (token.Word word.Uint)) → (e : Stop) →
     IsRefused (AnyOf (λ _. IsName text)) Nothing a e → IsRefused (AnyOf (λ _. IsType text)) Nothing a e
 no_type_name text a no_bool no_width e h =
-    refused_so (λ deep here blocked. blocked_so (type_name_is a no_bool no_width) blocked) e h
+    refused_in (type_name_is a no_bool no_width) (λ deep here blocked. blocked) e h
 
 pub width_word : {X : Type 0} (text : List ℕ) → AnyWord {X = X} (λ x _. IsWidth text)
 width_word {X} text =

@@ -1,8 +1,7 @@
 -- What is assigned: any value, a call, or an expression.
-use Rattle.std.proofs.Common.{◌≡◌, ◌≢◌, ℕ, ◌+◌, ◌<◌, ◌≤◌, ◌⊎◌, inl, inr, Bool, true, false, Option, Some, None, List, [], ◌∷◌, ◌++◌, length, refl, sym, ap, ◌∙◌, subst, arith}
+use Rattle.std.proofs.Common.{◌≡◌, ◌≢◌, ℕ, ◌+◌, inl, inr, Some, List, [], refl, sym, ap, ◌∙◌, subst, arith}
 use Rattle.tm_base.specs.declared.place.Place.{Place}
 use Rattle.tm_syntax.specs.declared.token.Token.{Token}
-use Rattle.tm_syntax.specs.declared.token.TokenKind.{TokenKind}
 use Rattle.tm_syntax.specs.declared.token.TokenKind.TheVariants as token
 use Rattle.tm_syntax.specs.declared.token.Sign.{Sign}
 use Rattle.tm_syntax.specs.declared.token.Sign.TheVariants as sign
@@ -10,21 +9,21 @@ use Rattle.tm_syntax.specs.declared.tree.Ident.{Ident}
 use Rattle.tm_syntax.specs.declared.tree.UnaryOperator.{UnaryOperator}
 use Rattle.tm_syntax.specs.declared.tree.UnaryOperator.TheVariants as unary_operator
 use Rattle.tm_syntax.specs.Tree.{ExprTree, path, ValueTree, star, result, plain}
-use Rattle.tm_syntax.specs.Grammar.Parts.{Has, IsMark, IsPath, AreArguments, arguments_none, arguments_some, enclosed}
+use Rattle.tm_syntax.specs.Grammar.Parts.{IsMark, IsPath, arguments_none, arguments_some, enclosed}
 use Rattle.tm_syntax.specs.Grammar.Expressions.{unary_sign}
-use Rattle.tm_syntax.specs.Grammar.Statements.{IsValue, value_star, value_call, value_expr}
+use Rattle.tm_syntax.specs.Grammar.Statements.{value_star, value_call, value_expr}
 use Rattle.tm_parse.specs.declared.stop.Stop.{Stop}
-use Rattle.tm_parse.specs.Reading.{Reach, IsBound, first_of, first_kind, IsBlocked, IsRefused, Takes, AnyOf, Nothing, TheMark, IsOpening, GoesOn}
-use Rattle.tm_parse.specs.Operands.{AnExpr, GoesExpr, goes_bracket, goes_infix, goes_question, IsEnclosed, encloses, IsPlaceFrom, from_path, from_element, tail_end, tail_more, choice_none, choice_some, IsExprFrom, from_tail}
-use Rattle.tm_parse.specs.Commands.{AreExprs, AreArgs, AValue, GoesValue, IsValueFrom, from_call, from_operand}
+use Rattle.tm_parse.specs.Reading.{Reach, first_of, first_kind, IsRefused, Takes, AnyOf, Nothing, GoesOn}
+use Rattle.tm_parse.specs.Operands.{AnExpr, GoesExpr, goes_infix, encloses, IsPlaceFrom, from_path, from_element, tail_end, tail_more, choice_none, choice_some, IsExprFrom, from_tail}
+use Rattle.tm_parse.specs.Commands.{AreArgs, AValue, GoesValue, IsValueFrom, from_call, from_operand}
 use Rattle.tm_parse.proofs.Arguments.{wider, wider_blocked, other_kind, Listed, arguments_word}
 use Rattle.tm_parse.proofs.Choices.{whole_of, of_whole, from_parts, from_word}
 use Rattle.tm_parse.proofs.Enclosed.{expr_word}
-use Rattle.tm_parse.proofs.Goes.{no_goes, no_goes_parenthesis, goes_weaker}
+use Rattle.tm_parse.proofs.Goes.{no_goes, no_goes_parenthesis}
 use Rattle.tm_parse.proofs.Names.{number_has}
-use Rattle.tm_parse.proofs.Primaries.{Operand, is_unary, is_number, is_true, is_false, is_place, is_group, is_cast, operand_of, path_kind, place_of, place_parts, place_word, looser, looser_blocked}
-use Rattle.tm_parse.proofs.Taking.{Both, Same, AnyWord, Parts, same_kind, takes_both, takes_then, takes_so, at_first, at_second, blocked_first, blocked_second, blocked_so, both_word, refused_so}
-use Rattle.tm_parse.proofs.Terminals.{mark_kind, mark_has, has_kind, at_word, mark_word, without_place, with_place}
+use Rattle.tm_parse.proofs.Primaries.{Operand, is_unary, is_number, is_true, is_false, is_place, is_group, is_cast, operand_of, path_kind, place_of, place_parts, looser, looser_blocked}
+use Rattle.tm_parse.proofs.Taking.{Both, Same, AnyWord, same_kind, takes_both, takes_so, blocked_first, blocked_second, refused_in}
+use Rattle.tm_parse.proofs.Terminals.{mark_kind, has_kind, at_word}
 
 -- an operand begins with no sign but `(` and those of the prefix operators
 operand_begins : {text : List ℕ} {depth : ℕ} {reach : Reach} {e : ExprTree} {a b : List Token} (s : Sign) →
@@ -143,8 +142,7 @@ pub no_plain : (text : List ℕ) (depth : ℕ) (a : List Token) → ¬ (first_ki
     ¬ (first_kind a ≡ Some token.Name) → (e : Stop) → IsRefused (AnyOf (AnExpr text 0 depth)) (GoesExpr 0) a e →
     IsRefused (AnyOf (AValue text depth)) GoesValue a e
 no_plain text depth a no_star no_name e h =
-    refused_so (λ deep here blocked. blocked_so (plain_is a no_star no_name)
-    (wider_blocked (λ kind goes. inr goes) blocked))
+    refused_in (plain_is a no_star no_name) (λ deep here blocked. wider_blocked (λ kind goes. inr goes) blocked)
     e h
 
 -- a path, and what stands behind it
@@ -204,15 +202,15 @@ pub no_named_path : (text : List ℕ) (depth : ℕ) (a : List Token) → first_k
     IsRefused (AnyOf (λ _. IsPath text)) (GoesOn sign.Dot Nothing) a e →
     IsRefused (AnyOf (AValue text depth)) GoesValue a e
 no_named_path text depth a kind e h =
-    refused_so (λ deep here blocked.
-    blocked_so (named_is a kind) (blocked_first blocked (value_from_word text depth) named_parts)) e h
+    refused_in (named_is a kind) (λ deep here blocked.
+    blocked_first blocked (value_from_word text depth) named_parts) e h
 
 pub no_named_from : {text : List ℕ} (depth : ℕ) {names : List Ident} {a b : List Token} →
     first_kind a ≡ Some token.Name → Takes (λ _. IsPath text) (GoesOn sign.Dot Nothing) names a b → (e : Stop) →
     IsRefused (AnyOf (IsValueFrom text depth names)) GoesValue b e →
     IsRefused (AnyOf (AValue text depth)) GoesValue a e
 no_named_from depth kind r e h =
-    refused_so (λ deep here blocked. blocked_so (named_is _ kind) (blocked_second r named_parts blocked)) e h
+    refused_in (named_is _ kind) (λ deep here blocked. blocked_second r named_parts blocked) e h
 
 -- a call
 call_is : {text : List ℕ} {depth : ℕ} (names : List Ident) (a : List Token) →
@@ -238,7 +236,7 @@ pub no_call : (text : List ℕ) (depth : ℕ) (names : List Ident) (a : List Tok
     first_kind a ≡ Some (token.Sign sign.OpenParenthesis) → (e : Stop) →
     IsRefused (AnyOf (AreArgs text depth)) Nothing a e → IsRefused (AnyOf (IsValueFrom text depth names)) GoesValue a e
 no_call text depth names a kind e h =
-    refused_so (λ deep here blocked. blocked_so (call_is names a kind) (looser_blocked blocked)) e h
+    refused_in (call_is names a kind) (λ deep here blocked. looser_blocked blocked) e h
 
 -- the rest of an expression
 abbrev RestParts : List ℕ → ℕ → List Ident → Reach → ExprTree × ExprTree → List Token → List Token → Type 0
@@ -274,8 +272,7 @@ pub no_rest_place : (text : List ℕ) (depth : ℕ) (names : List Ident) (a : Li
     IsRefused (AnyOf (IsPlaceFrom text names depth)) (GoesExpr 10) a e →
     IsRefused (AnyOf (IsValueFrom text depth names)) GoesValue a e
 no_rest_place text depth names a none e h =
-    refused_so (λ deep here blocked. blocked_so (rest_is names a none)
-    (blocked_first blocked (from_word text depth) rest_parts)) e h
+    refused_in (rest_is names a none) (λ deep here blocked. blocked_first blocked (from_word text depth) rest_parts) e h
 
 pub no_rest_from : {text : List ℕ} {depth : ℕ} {x : ExprTree} (names : List Ident) (a : List Token) {b : List Token} →
     ¬ (first_kind a ≡ Some (token.Sign sign.OpenParenthesis)) →
@@ -283,8 +280,8 @@ pub no_rest_from : {text : List ℕ} {depth : ℕ} {x : ExprTree} (names : List 
     IsRefused (AnyOf (IsExprFrom text depth x)) (GoesExpr 0) b e →
     IsRefused (AnyOf (IsValueFrom text depth names)) GoesValue a e
 no_rest_from names a none r e h =
-    refused_so (λ deep here blocked. blocked_so (rest_is names a none)
-    (blocked_second r rest_parts (wider_blocked (λ kind goes. inr goes) blocked))) e h
+    refused_in (rest_is names a none) (λ deep here blocked.
+    blocked_second r rest_parts (wider_blocked (λ kind goes. inr goes) blocked)) e h
 
 -- a value is spelled by "*"
 pub value_word : {X : Type 0} (text : List ℕ) (depth : ℕ) → AnyWord {X = X} (λ x. AValue text depth)

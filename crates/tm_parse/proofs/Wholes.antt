@@ -1,10 +1,8 @@
 -- The items of a specification, one behind another.
-use Rattle.std.proofs.Common.{◌≡◌, ◌==◌, ℕ, ◌+◌, ◌≤◌, Bool, true, false, Option, Some, None, List, [], ◌∷◌, ◌++◌, length, refl, sym, ap, ◌∙◌, subst, arith}
-use Rattle.std.specs.List.{filter_map}
+use Rattle.std.proofs.Common.{◌≡◌, ◌==◌, ℕ, Bool, true, false, Some, None, List, [], ◌∷◌, ◌++◌, length, refl, sym, ap, ◌∙◌, subst, arith}
 use Rattle.std.proofs.lemmas.Bool.{eqb-true}
 use Rattle.std.proofs.lemmas.List.Elements.{filter_map-append}
 use Rattle.tm_syntax.specs.declared.token.Token.{Token}
-use Rattle.tm_syntax.specs.declared.token.TokenKind.{TokenKind}
 use Rattle.tm_syntax.specs.Tree.{SpecTree}
 use Rattle.tm_syntax.specs.Grammar.Parts.{AreEach, each_none, each_more}
 use Rattle.tm_syntax.specs.Grammar.Specification.{ItemTree, enum_of, template_in, spec_of, spec}
@@ -13,7 +11,7 @@ use Rattle.tm_parse.specs.Reading.{Reach, first_of, first_kind, IsBlocked, IsRef
 use Rattle.tm_parse.specs.Items.{AnItem, with_items, ASpec, GoesOnAtAll}
 use Rattle.tm_parse.proofs.Ports.{item_opens}
 use Rattle.tm_parse.proofs.Rows.{Each, none_here, one_here, each_view, Grows, EndsBy, RowSoFar, Begun, row_begun, Apart, row_more, row_all, row_blocked}
-use Rattle.tm_parse.proofs.Taking.{Same, same_kind, takes_so, blocked_so, refused_so}
+use Rattle.tm_parse.proofs.Taking.{Same, same_kind, takes_so, refused_in}
 
 -- one item or more
 pub data SomeItems (text : List ℕ) (reach : Reach) : List ItemTree → List Token → List Token → Type 0 where
@@ -132,7 +130,7 @@ first_blocked h = record {
 pub no_first_item : (text : List ℕ) (a : List Token) (e : Stop) → IsRefused (AnyOf (AnItem text)) Nothing a e →
     IsRefused (AnyOf (ASpec text)) GoesOnAtAll a e
 no_first_item text a e h =
-    refused_so (λ deep here blocked. blocked_so (spec_is a) (first_blocked blocked)) e h
+    refused_in (spec_is a) (λ deep here blocked. first_blocked blocked) e h
 
 goes_on : (a : List Token) → ¬ (a ≡ []) → GoesOnAtAll (first_kind a)
 goes_on [] more = absurd (more refl)
@@ -153,5 +151,5 @@ is_not_nil a e same =
 pub no_item : {text : List ℕ} {s : SpecTree} {a b : List Token} → ¬ (b ≡ []) → SpecSoFar text s a b → (e : Stop) →
     IsRefused (AnyOf (AnItem text)) Nothing b e → IsRefused (AnyOf (ASpec text)) GoesOnAtAll a e
 no_item {text} {b} more h e refused =
-    refused_so (λ deep here blocked. blocked_so (spec_is _)
-    (row_blocked (items_grow text) (items_apart text) (goes_on b more) h.row blocked)) e refused
+    refused_in (spec_is _) (λ deep here blocked.
+    row_blocked (items_grow text) (items_apart text) (goes_on b more) h.row blocked) e refused

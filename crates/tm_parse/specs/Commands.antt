@@ -1,5 +1,5 @@
 -- Values, statements and bodies, from the left to the right: what stands behind what was read.
-use Rattle.std.specs.Prelude.{◌≡◌, ℕ, ◌+◌, ◌⊎◌, Bool, true, false, Option, Some, None, List, [], ◌∷◌, ◌++◌}
+use Rattle.std.specs.Prelude.{◌≡◌, ℕ, ◌+◌, ◌⊎◌, Bool, true, false, Option, Some, None, List, [], ◌∷◌}
 use Rattle.std.specs.declared.vec.Vec.{Vec}
 use Rattle.std.specs.declared.alloc.Global.{Global}
 use Rattle.tm_base.specs.declared.place.Place.{Place}
@@ -14,7 +14,7 @@ use Rattle.tm_syntax.specs.declared.tree.Stmt.{Stmt}
 use Rattle.tm_syntax.specs.Tree.View.{stmt_trees}
 use Rattle.tm_syntax.specs.Tree.{ExprTree, ValueTree, result, plain, StmtTree, assign, invoke, branch, repeat, forever, choose, assert, assume, pause, wait, magic, StmtRow, nothing, then, row_of, alternatives_of, LocalTree, BodyTree}
 use Rattle.tm_syntax.specs.Grammar.Parts.{Has, IsMark, IsPath, AreEach, IsOptional, AreParted, AreArguments}
-use Rattle.tm_syntax.specs.Grammar.Statements.{IsValue, IsCondition, IsStmt, IsIf, IsBlock, AreStmts, IsLocal, IsReturn, IsBraced, IsAnswering}
+use Rattle.tm_syntax.specs.Grammar.Statements.{IsValue, IsCondition, IsBlock, AreStmts, IsLocal, IsReturn, IsBraced, IsAnswering}
 use Rattle.tm_parse.specs.Reading.{Reach, IsBound, IsOpening, GoesOn}
 use Rattle.tm_parse.specs.Operands.{AnExpr, GoesExpr, IsEnclosed, IsPlaceFrom, IsExprFrom}
 use Rattle.tm_parse.specs.declared.statements.StmtSort.{StmtSort}

@@ -1,11 +1,10 @@
 -- Declarations and items, from the left to the right.
-use Rattle.std.specs.Prelude.{◌≡◌, ℕ, ◌+◌, ◌⊎◌, Bool, true, false, Option, Some, None, List, [], ◌∷◌, ◌++◌}
+use Rattle.std.specs.Prelude.{◌≡◌, ℕ, Bool, true, false, Option, Some, None, List, [], ◌++◌}
 use Rattle.std.specs.List.{filter_map}
 use Rattle.tm_syntax.specs.declared.token.Token.{Token}
 use Rattle.tm_syntax.specs.declared.token.TokenKind.{TokenKind}
 use Rattle.tm_syntax.specs.declared.token.TokenKind.TheVariants as token
 use Rattle.tm_syntax.specs.declared.token.Word.TheVariants as word
-use Rattle.tm_syntax.specs.declared.token.Sign.TheVariants as sign
 use Rattle.tm_syntax.specs.declared.tree.Ident.{Ident}
 use Rattle.tm_syntax.specs.declared.tree.Param.{Param}
 use Rattle.tm_syntax.specs.declared.tree.Port.{Port}

@@ -26,7 +26,10 @@ mod stop;
 #[cfg(test)]
 mod tests;
 
-pub use laws::{faults_are_determined, trees_have_no_fault};
+pub use laws::{
+    deep_tokens_are_faults, faults_are_determined, texts_have_one_fault, tokens_stand_alike,
+    trees_are_determined, trees_have_no_fault,
+};
 use specification::spec;
 use std::alloc::Global;
 use stop::Stop;

@@ -5,7 +5,8 @@ use Rattle.tm_syntax.specs.declared.tree.Ident.{Ident}
 use Rattle.tm_syntax.specs.Tree.{ValueTree, star, result, plain, StmtTree, assign, invoke, branch, repeat, forever, choose, assert, assume, pause, wait, magic, StmtRow, nothing, then, BlockRow, nowhere, or_else}
 use Rattle.tm_syntax.specs.Scopes.Pauses.{value_pauses, stmt_pauses, row_pauses, block_pauses}
 use Rattle.tm_syntax.specs.Scopes.Crossing.{value_crosses, stmt_crosses, row_crosses, blocks_cross}
-use Rattle.tm_scope.specs.Calls.{value_calls, stmt_calls, row_calls, block_calls}
+use Rattle.tm_scope.specs.Inner.Calls.{stmt_calls, row_calls, block_calls}
+use Rattle.tm_syntax.specs.Scopes.Parts.{value_calls}
 
 module _ (f g : List Ident → Bool) where
   -- two tests say the same of each of these calls

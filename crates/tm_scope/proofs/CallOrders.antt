@@ -1,5 +1,5 @@
 -- Where calls are in order, what a body does depends on no deeper calls than its position.
-use Rattle.std.proofs.Common.{◌≡◌, ℕ, zero, suc, ◌<◌, Bool, false, Option, None, Some, List, [], ◌∷◌, length, slice_get, refl, sym, ap, ◌∙◌, arith}
+use Rattle.std.proofs.Common.{◌≡◌, ℕ, zero, suc, ◌<◌, Bool, false, Option, None, Some, List, [], ◌∷◌, length, slice_get, refl, sym, ap, ◌∙◌, subst, arith}
 use Rattle.std.specs.Prelude.{◌||◌, Contains}
 use Rattle.std.proofs.lemmas.Option.{none-some, same_Some}
 use Rattle.std.specs.List.{list_any, flat_map}
@@ -9,10 +9,12 @@ use Rattle.tm_syntax.specs.Tree.{SpecTree, TemplateTree, TaskTree, BodyTree, Loc
 use Rattle.tm_syntax.specs.Scopes.Pauses.{value_pauses, stmt_pauses, task_reached, body_pauses}
 use Rattle.tm_syntax.specs.Scopes.Crossing.{value_crosses, stmt_crosses, body_crosses}
 use Rattle.tm_scope.specs.CallOrder.{IsCallOrder}
-use Rattle.tm_scope.specs.Calls.{value_calls, stmt_calls, body_calls}
+use Rattle.tm_syntax.specs.Scopes.Calls.{body_calls, numbered_task, task_number}
+use Rattle.tm_syntax.specs.Scopes.Parts.{value_calls}
+use Rattle.tm_scope.specs.Inner.Calls.{stmt_calls}
 use Rattle.tm_scope.specs.Members.{task_at}
-use Rattle.tm_scope.specs.Numbers.{task_number}
-use Rattle.tm_scope.specs.declared.members.Member.{Member}
+use Rattle.tm_syntax.specs.declared.member.Member.{Member}
+use Rattle.tm_scope.proofs.BodyCalls.{body_calls-parts}
 use Rattle.tm_scope.proofs.Agreement.{AgreeOn, AgreeOn-front, AgreeOn-back, value_pauses-agree, stmt_pauses-agree, value_crosses-agree, stmt_crosses-agree}
 use Rattle.tm_scope.proofs.Meanings.{task_at_number}
 
@@ -63,20 +65,22 @@ module _ (f g : List Ident → Bool) where
   pub body_pauses-agree : (b : BodyTree) → AgreeOn f g (body_calls b) →
       (list_any (λ l. value_pauses f l.value) b.locals || list_any (stmt_pauses f) b.stmts)
       ≡ (list_any (λ l. value_pauses g l.value) b.locals || list_any (stmt_pauses g) b.stmts)
-  body_pauses-agree b h = λ i.
-      locals_pause-agree b.locals
-      (AgreeOn-front f g (flat_map (λ l. value_calls l.value) b.locals) (flat_map stmt_calls b.stmts) h) i
+  body_pauses-agree b h =
+      let by_parts = subst (AgreeOn f g) (body_calls-parts b) h in
+      λ i. locals_pause-agree b.locals
+      (AgreeOn-front f g (flat_map (λ l. value_calls l.value) b.locals) (flat_map stmt_calls b.stmts) by_parts) i
       || stmts_pause-agree b.stmts
-      (AgreeOn-back f g (flat_map (λ l. value_calls l.value) b.locals) (flat_map stmt_calls b.stmts) h) i
+      (AgreeOn-back f g (flat_map (λ l. value_calls l.value) b.locals) (flat_map stmt_calls b.stmts) by_parts) i
 
   pub body_crosses-agree : (b : BodyTree) → AgreeOn f g (body_calls b) →
       (list_any (λ l. value_crosses f l.value) b.locals || list_any (stmt_crosses f) b.stmts)
       ≡ (list_any (λ l. value_crosses g l.value) b.locals || list_any (stmt_crosses g) b.stmts)
-  body_crosses-agree b h = λ i.
-      locals_cross-agree b.locals
-      (AgreeOn-front f g (flat_map (λ l. value_calls l.value) b.locals) (flat_map stmt_calls b.stmts) h) i
+  body_crosses-agree b h =
+      let by_parts = subst (AgreeOn f g) (body_calls-parts b) h in
+      λ i. locals_cross-agree b.locals
+      (AgreeOn-front f g (flat_map (λ l. value_calls l.value) b.locals) (flat_map stmt_calls b.stmts) by_parts) i
       || stmts_cross-agree b.stmts
-      (AgreeOn-back f g (flat_map (λ l. value_calls l.value) b.locals) (flat_map stmt_calls b.stmts) h) i
+      (AgreeOn-back f g (flat_map (λ l. value_calls l.value) b.locals) (flat_map stmt_calls b.stmts) by_parts) i
 
 module _ (spec : SpecTree) where
   -- the template of a task
@@ -100,6 +104,21 @@ module _ (spec : SpecTree) where
       sym (task_at_number spec path m.template
       ∙ ap (option_and_then (λ t. task_reached spec t path)) (template_of m t is))
 
+  -- such a task is the one of its number
+  pub numbered : (m : Member) (t : TemplateTree × TaskTree) → task_at spec m ≡ Some t →
+      numbered_task spec m ≡ Some t.1
+  numbered m t is = by (slice_get spec.templates m.template) is
+    where
+      inside : (u : TemplateTree) (o : Option TaskTree) → option_map (λ k. (u, k)) o ≡ Some t → o ≡ Some t.1
+      inside u None e = absurd (none-some t e)
+      inside u (Some k) e = ap (λ p. Some p.1) (same_Some (u, k) t e)
+
+      by : (o : Option TemplateTree) →
+          option_and_then (λ t. option_map (λ k. (t, k)) (slice_get t.tasks m.index)) o ≡ Some t →
+          option_and_then (λ t. slice_get t.tasks m.index) o ≡ Some t.1
+      by None e = absurd (none-some t e)
+      by (Some u) e = inside u (slice_get u.tasks m.index) e
+
   -- two tests of bodies say the same of a call, where they do of what stands before the caller
   same_call : (order : List Member) → IsCallOrder spec order → (f g : TemplateTree × TaskTree → Bool)
       (k : ℕ) (m : Member) (t : TemplateTree × TaskTree) →
@@ -115,7 +134,8 @@ module _ (spec : SpecTree) where
       of_task c leads None there = refl
       of_task c leads (Some u) there =
           let before : (j : ℕ) × (j < k) × (slice_get order j ≡ Some c) =
-          ordered.behind k m c at (record { task = t; path = path; is = is; calls = among; leads = leads }) in
+          ordered.behind k m c at
+          (record { task = t.1; path = path; is = numbered m t is; calls = among; leads = leads }) in
           earlier before.0 c u before.1 before.2 there
 
       by : (o : Option Member) → task_number spec m.template path ≡ o →

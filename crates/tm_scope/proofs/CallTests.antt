@@ -10,8 +10,9 @@ use Rattle.tm_syntax.specs.Scopes.Pauses.{task_reached}
 use Rattle.tm_scope.specs.CallOrder.{CoversTasks}
 use Rattle.tm_scope.specs.Marks.{ArePassing, is_in, is_marked}
 use Rattle.tm_scope.specs.Members.{task_at}
-use Rattle.tm_scope.specs.Numbers.{task_number}
-use Rattle.tm_scope.specs.declared.members.Member.{Member}
+use Rattle.tm_syntax.specs.Scopes.Calls.{task_number}
+use Rattle.tm_syntax.specs.declared.member.Member.{Member}
+use Rattle.tm_scope.proofs.CallOrders.{numbered}
 use Rattle.tm_scope.proofs.Meanings.{task_at_number}
 use Rattle.tm_scope.proofs.PathSteps.{template_read}
 
@@ -36,7 +37,9 @@ module _ (spec : SpecTree) (test : TemplateTree × TaskTree → Bool) (order tas
         by : (o : Option (TemplateTree × TaskTree)) → task_at spec m ≡ o →
             is_in tasks m ≡ option_map_or test (task_at spec m) false
         by None e = out e (is_in tasks m) refl ∙ sym (ap (λ o. option_map_or test o false) e)
-        by (Some t) e = passing.complete (covers m t e).0 m (covers m t e).1
+        by (Some t) e =
+            let at = covers m t.1 (numbered spec m t e) in
+            passing.complete at.0 m at.1
 
     known_number : (o : Option Member) →
         option_map_or (is_in tasks) o false ≡ option_map_or test (option_and_then (task_at spec) o) false

@@ -8,7 +8,7 @@ use Rattle.tm_syntax.specs.declared.tree.Port.{Port}
 use Rattle.tm_syntax.specs.declared.tree.Template.{Template}
 use Rattle.tm_syntax.specs.Tree.View.{instance_tree, template_tree}
 use Rattle.tm_syntax.specs.Scopes.Names.{is_spelled}
-use Rattle.tm_scope.specs.Numbers.{known_template}
+use Rattle.tm_syntax.specs.Scopes.Calls.{known_template}
 use Rattle.tm_scope.proofs.Positions.{find-position}
 
 -- the first that a filter keeps, before what stands behind the list

@@ -10,10 +10,10 @@ use Rattle.tm_syntax.specs.Tree.View.{spec_tree, template_tree, var_tree}
 use Rattle.tm_syntax.specs.Scopes.Names.{is_spelled, last_name, template_along}
 use Rattle.tm_syntax.specs.Scopes.Context.{BodyName, variable_of}
 use Rattle.tm_syntax.specs.Scopes.Pauses.{task_reached}
-use Rattle.tm_scope.specs.declared.members.Member.{Member}
+use Rattle.tm_syntax.specs.declared.member.Member.{Member}
 use Rattle.tm_scope.specs.Context.{template_at}
-use Rattle.tm_scope.specs.Members.{var_at, task_at}
-use Rattle.tm_scope.specs.Numbers.{number_along, var_number, task_number}
+use Rattle.tm_scope.specs.Members.{task_at, var_at, var_number}
+use Rattle.tm_syntax.specs.Scopes.Calls.{number_along, task_number}
 use Rattle.tm_scope.proofs.FirstNames.{find-map}
 use Rattle.tm_scope.proofs.Numbers.{template_at_number_along}
 use Rattle.tm_scope.proofs.PathSteps.{template_read}

@@ -5,7 +5,7 @@ use Rattle.tm_syntax.specs.declared.tree.Ident.{Ident}
 use Rattle.tm_syntax.specs.Tree.{SpecTree, TemplateTree}
 use Rattle.tm_syntax.specs.Scopes.Names.{is_spelled, template_number, template_named, neighbor_template, template_along}
 use Rattle.tm_scope.specs.Context.{template_at}
-use Rattle.tm_scope.specs.Numbers.{known_template, number_along}
+use Rattle.tm_syntax.specs.Scopes.Calls.{known_template, number_along}
 use Rattle.tm_scope.proofs.Positions.{find-position}
 
 and_then-Some : {X : Type 0} (o : Option X) → o ≡ option_and_then (λ x. Some x) o

@@ -8,7 +8,8 @@ use Rattle.tm_syntax.specs.declared.tree.Template.{Template}
 use Rattle.tm_syntax.specs.Tree.View.{spec_tree, template_tree}
 use Rattle.tm_syntax.specs.Tree.{SpecTree}
 use Rattle.tm_syntax.specs.Scopes.Names.{is_spelled, template_number, last_name}
-use Rattle.tm_scope.specs.Numbers.{known_template, neighbor_number, number_along, var_number, task_number}
+use Rattle.tm_syntax.specs.Scopes.Calls.{known_template, neighbor_number, number_along, task_number}
+use Rattle.tm_scope.specs.Members.{var_number}
 
 -- from a template that is there
 module _ (s : Spec) (from : ℕ) (t : Template) (at : slice_get s.templates.items from ≡ Some t) where

@@ -13,24 +13,23 @@ use Rattle.tm_syntax.specs.Tree.View.{spec_tree}
 use Rattle.tm_syntax.specs.Scopes.Pauses.{body_pauses, call_depth, task_reached}
 use Rattle.tm_syntax.specs.Scopes.Crossing.{body_crosses}
 use Rattle.tm_scope.specs.CallOrder.{IsCallOrder}
-use Rattle.tm_scope.specs.Calls.{body_calls}
+use Rattle.tm_syntax.specs.Scopes.Calls.{body_calls, task_number}
 use Rattle.tm_scope.specs.Marks.{same_task, is_in, with_task, CallTable, is_marked, pauses_by, crosses_by, pauses_at, crosses_at}
 use Rattle.tm_scope.specs.Members.{task_at}
-use Rattle.tm_scope.specs.Numbers.{task_number}
-use Rattle.tm_scope.specs.declared.members.Member.{Member}
-use Rattle.tm_scope.proofs.CallOrders.{AgreeOn-all, body_pauses-agree, body_crosses-agree, reached, settled_pauses, settled_crosses}
+use Rattle.tm_syntax.specs.declared.member.Member.{Member}
+use Rattle.tm_scope.proofs.CallOrders.{AgreeOn-all, body_pauses-agree, body_crosses-agree, numbered, reached, settled_pauses, settled_crosses}
 
 -- ---- numbers of tasks
 
 same_numbers : (a b : Member) → a.template ≡ b.template → a.index ≡ b.index → a ≡ b
 same_numbers a b t i = λ j. record { template = t j; index = i j }
 
-both-true : (a b : Bool) → (a && b) ≡ true → (a ≡ true) × (b ≡ true)
+pub both-true : (a b : Bool) → (a && b) ≡ true → (a ≡ true) × (b ≡ true)
 both-true true true e = (refl, refl)
 both-true true false e = absurd (true≢false (sym e))
 both-true false b e = absurd (true≢false (sym e))
 
-same_task-is : (a b : Member) → same_task a b ≡ true → a ≡ b
+pub same_task-is : (a b : Member) → same_task a b ≡ true → a ≡ b
 same_task-is a b e =
     let parts : (nat_eq a.template b.template ≡ true) × (nat_eq a.index b.index ≡ true) =
     both-true (nat_eq a.template b.template) (nat_eq a.index b.index) e in
@@ -39,7 +38,7 @@ same_task-is a b e =
 nat_eq-refl : (n : ℕ) → nat_eq n n ≡ true
 nat_eq-refl n = grind (arith, nat_tests)
 
-same_task-refl : (a : Member) → same_task a a ≡ true
+pub same_task-refl : (a : Member) → same_task a a ≡ true
 same_task-refl a =
     ap (λ b. b && nat_eq a.index a.index) (nat_eq-refl a.template) ∙ nat_eq-refl a.index
 
@@ -67,7 +66,7 @@ joined a true t is follows = or_true a ∙ sym (follows refl)
 joined a false t is follows = or_false a ∙ is
 
 -- a task is in a set with one more where it was, or is that one
-is_in-with : (tasks : List Member) (m n : Member) → is_in (with_task tasks m) n ≡ (is_in tasks n || same_task n m)
+pub is_in-with : (tasks : List Member) (m n : Member) → is_in (with_task tasks m) n ≡ (is_in tasks n || same_task n m)
 is_in-with tasks m n = by (is_in tasks m) refl
   where
     there : is_in tasks m ≡ true → same_task n m ≡ true → is_in tasks n ≡ true
@@ -161,7 +160,13 @@ module _ (s : Spec) (order : List Member) (ordered : IsCallOrder (spec_tree s) o
         (reached (spec_tree s) m t path is ∙ ap (option_and_then (task_at (spec_tree s))) leads))
     pauses_callee t is n deep within path among (Some c) leads =
         let before : (j : ℕ) × (j < i) × (slice_get order j ≡ Some c) =
-        ordered.behind i m c here (record { task = t; path = path; is = is; calls = among; leads = leads }) in
+        ordered.behind i m c here (record {
+          task = t.1;
+          path = path;
+          is = numbered (spec_tree s) m t is;
+          calls = among;
+          leads = leads;
+        }) in
         ap (λ o. option_map_or (is_in tasks) o false) leads
         ∙ so.complete before.0 c before.1 before.2
         ∙ settles before.0 before.1 before.2 (task_at (spec_tree s) c) refl
@@ -219,7 +224,13 @@ module _ (s : Spec) (order : List Member) (ordered : IsCallOrder (spec_tree s) o
         (reached (spec_tree s) m t path is ∙ ap (option_and_then (task_at (spec_tree s))) leads))
     crosses_callee t is n deep within path among (Some c) leads =
         let before : (j : ℕ) × (j < i) × (slice_get order j ≡ Some c) =
-        ordered.behind i m c here (record { task = t; path = path; is = is; calls = among; leads = leads }) in
+        ordered.behind i m c here (record {
+          task = t.1;
+          path = path;
+          is = numbered (spec_tree s) m t is;
+          calls = among;
+          leads = leads;
+        }) in
         ap (λ o. option_map_or (is_in tasks) o false) leads
         ∙ so.complete before.0 c before.1 before.2
         ∙ settles before.0 before.1 before.2 (task_at (spec_tree s) c) refl

@@ -1,9 +1,8 @@
 -- Orders of tasks in which each stands behind all that it calls.
 use Rattle.std.specs.Prelude.{◌≡◌, ℕ, ◌<◌, Some, List, slice_get}
-use Rattle.tm_syntax.specs.Tree.{SpecTree, TemplateTree, TaskTree}
-use Rattle.tm_scope.specs.Calls.{Calls}
-use Rattle.tm_scope.specs.Members.{task_at}
-use Rattle.tm_scope.specs.declared.members.Member.{Member}
+use Rattle.tm_syntax.specs.declared.member.Member.{Member}
+use Rattle.tm_syntax.specs.Tree.{SpecTree, TaskTree}
+use Rattle.tm_syntax.specs.Scopes.Calls.{Calls, numbered_task}
 
 -- each task of the order stands behind all that it calls
 pub record IsCallOrder (spec : SpecTree) (order : List Member) : Type 0 where
@@ -13,4 +12,4 @@ pub record IsCallOrder (spec : SpecTree) (order : List Member) : Type 0 where
 -- each task of the text stands in the order
 abbrev pub CoversTasks : SpecTree → List Member → Type 0
 CoversTasks spec order =
-    (m : Member) (t : TemplateTree × TaskTree) → task_at spec m ≡ Some t → (k : ℕ) × (slice_get order k ≡ Some m)
+    (m : Member) (task : TaskTree) → numbered_task spec m ≡ Some task → (k : ℕ) × (slice_get order k ≡ Some m)

@@ -1,10 +1,10 @@
 pub mod CallOrder
-pub mod Calls
+pub mod Cells
 pub mod Context
 pub mod Directory
+pub mod Graph
 pub mod Inner
 pub mod Instances
 pub mod Marks
 pub mod Members
-pub mod Numbers
 pub mod Types

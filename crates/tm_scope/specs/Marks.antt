@@ -1,16 +1,16 @@
 -- Sets of tasks, and which paths lead to a task of a set.
-use Rattle.std.specs.Prelude.{◌≡◌, ℕ, Bool, true, false, Some, ◌||◌, ◌&&◌, List, [], ◌∷◌, ◌++◌, nat_eq, slice_get, if◌then◌else◌}
+use Rattle.std.specs.Prelude.{◌≡◌, ℕ, Bool, true, false, Option, Some, ◌||◌, ◌&&◌, List, [], ◌∷◌, ◌++◌, nat_eq, position, slice_get, if◌then◌else◌}
 use Rattle.std.specs.List.{list_any}
-use Rattle.std.specs.Option.{option_map_or}
+use Rattle.std.specs.Option.{option_and_then, option_map_or}
 use Rattle.tm_syntax.specs.declared.tree.Ident.{Ident}
 use Rattle.tm_syntax.specs.declared.tree.Spec.{Spec}
 use Rattle.tm_syntax.specs.Tree.{SpecTree, BodyTree}
 use Rattle.tm_syntax.specs.Tree.View.{spec_tree}
 use Rattle.tm_syntax.specs.Scopes.Pauses.{value_pauses, stmt_pauses, may_pause, call_depth}
 use Rattle.tm_syntax.specs.Scopes.Crossing.{value_crosses, stmt_crosses, body_crosses}
-use Rattle.tm_scope.specs.declared.members.Member.{Member}
+use Rattle.tm_syntax.specs.declared.member.Member.{Member}
 use Rattle.tm_scope.specs.Members.{task_at}
-use Rattle.tm_scope.specs.Numbers.{task_number}
+use Rattle.tm_syntax.specs.Scopes.Calls.{task_number}
 
 -- whether two numbers are of one task
 abbrev pub same_task : Member → Member → Bool
@@ -33,6 +33,11 @@ pub record CallTable : Type 0 where
 -- whether a path leads to one of the tasks
 abbrev pub is_marked : CallTable → List Ident → Bool
 is_marked x path = option_map_or (is_in x.tasks) (task_number (spec_tree x.spec) x.from path) false
+
+-- the number among the tasks of the one to which a path leads
+abbrev pub marked_number : CallTable → List Ident → Option ℕ
+marked_number x path =
+    option_and_then (λ m. position (same_task m) x.tasks) (task_number (spec_tree x.spec) x.from path)
 
 -- whether a body may pause, given which calls may
 abbrev pub pauses_by : (List Ident → Bool) → BodyTree → Bool

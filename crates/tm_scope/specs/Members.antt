@@ -1,21 +1,31 @@
 -- Members of templates and slots of bodies, by numbers.
-use Rattle.std.specs.Prelude.{Option, None, slice_get}
+use Rattle.std.specs.Prelude.{ℕ, Option, None, List, position, slice_get}
 use Rattle.std.specs.Option.{option_map, option_and_then}
+use Rattle.tm_syntax.specs.declared.member.Member.{Member}
+use Rattle.tm_syntax.specs.declared.tree.Ident.{Ident}
 use Rattle.tm_syntax.specs.declared.tree.Template.{Template}
 use Rattle.tm_syntax.specs.Tree.{SpecTree, TemplateTree, VarTree, TaskTree}
 use Rattle.tm_syntax.specs.Tree.View.{local_tree}
+use Rattle.tm_syntax.specs.Scopes.Calls.{number_along}
 use Rattle.tm_syntax.specs.Scopes.Context.{Slot, param_slot, local_slot}
+use Rattle.tm_syntax.specs.Scopes.Names.{is_spelled, last_name}
 use Rattle.tm_scope.specs.Context.{BodyPlace}
 use Rattle.tm_scope.specs.Inner.Tables.{BodySlots, process_slots, task_slots}
 use Rattle.tm_scope.specs.declared.context.BodyName.{BodyName}
 use Rattle.tm_scope.specs.declared.context.BodyName.TheVariants.{Process, Task, Outside}
-use Rattle.tm_scope.specs.declared.members.Member.{Member}
 use Rattle.tm_scope.specs.declared.members.SlotNumber.{SlotNumber}
 use Rattle.tm_scope.specs.declared.members.SlotNumber.TheVariants.{Param, Local}
 
 -- the variable or array of a number
 abbrev pub var_at : SpecTree → Member → Option VarTree
 var_at spec m = option_and_then (λ t. slice_get t.vars m.index) (slice_get spec.templates m.template)
+
+-- the variable or array that a path means, from the template of a number
+abbrev pub var_number : SpecTree → ℕ → List Ident → Option Member
+var_number spec from path =
+    option_and_then (λ n. option_and_then (λ t. option_map (λ k. record { template = n; index = k })
+    (position (λ v. is_spelled (last_name path) v.name) t.vars)) (slice_get spec.templates n))
+    (number_along spec from path)
 
 -- the task or procedure of a number, with the template that declares it
 abbrev pub task_at : SpecTree → Member → Option (TemplateTree × TaskTree)

@@ -14,7 +14,8 @@ use Rattle.tm_syntax.specs.Design.Small.{IsSmallAction, IsSmallStmt, IsSmallBody
 use Rattle.tm_syntax.specs.Design.Cells.{Called, task_called}
 use Rattle.tm_syntax.specs.Design.Scope.{Scope, main_scope, site}
 use Rattle.tm_syntax.specs.Scopes.Context.{BodyName, process_body, task_body}
-use Rattle.tm_syntax.specs.Design.Work.{WorkItem, perform, performs, body_stmts, body_items}
+use Rattle.tm_syntax.specs.Design.Work.{WorkItem, perform, performs, body_items}
+use Rattle.tm_syntax.specs.Scopes.Parts.{body_stmts}
 use Rattle.tm_syntax.specs.Design.Locations.{Location, row_locations, body_locations, Thread, thread, locations, rest}
 use Rattle.tm_syntax.specs.Scopes.Pauses.{call_depth}
 use Rattle.tm_sem.specs.Step.{task_of}

@@ -8,7 +8,8 @@ use Rattle.tm_syntax.specs.declared.fault.Quantity.TheVariants as quantity
 use Rattle.tm_syntax.specs.Tree.{InstanceTree, TemplateTree, SpecTree}
 use Rattle.tm_syntax.specs.Places.{text_start}
 use Rattle.tm_syntax.specs.Scopes.Names.{template_number}
-use Rattle.tm_syntax.specs.Scopes.Calls.{TaskNumber, Calls, Reaches, at_once, through, Holds, ReachesTemplate, directly, further}
+use Rattle.tm_syntax.specs.declared.member.Member.{Member}
+use Rattle.tm_syntax.specs.Scopes.Calls.{Calls, Reaches, at_once, through, Holds, ReachesTemplate, directly, further}
 use Rattle.tm_syntax.specs.Faults.Marks.{marked, named}
 use Rattle.tm_syntax.specs.Faults.Limits.{above, many}
 use Rattle.tm_syntax.specs.Faults.{fault, here, later, HasTreeFault}
@@ -32,7 +33,7 @@ all_contained P (y ∷ ys) x zero bound e all = subst P e all.0
 all_contained P (y ∷ ys) x (suc k) bound e all = all_contained P ys x k (omega arith) e all.1
 
 -- where no template declares a task, none calls another one
-no_calls : (spec : SpecTree) → AllByRecursion (λ (t : TemplateTree). t.tasks ≡ []) spec.templates → (a b : TaskNumber) →
+no_calls : (spec : SpecTree) → AllByRecursion (λ (t : TemplateTree). t.tasks ≡ []) spec.templates → (a b : Member) →
     Calls spec a b → ⊥
 no_calls spec none a b c = of_template (slice_get spec.templates a.template) refl c.is
   where
@@ -44,7 +45,7 @@ no_calls spec none a b c = of_template (slice_get spec.templates a.template) ref
         (all_at (λ (t : TemplateTree). t.tasks ≡ []) spec.templates a.template t found none)) ∙ is)
 
 no_call_cycle : (spec : SpecTree) → AllByRecursion (λ (t : TemplateTree). t.tasks ≡ []) spec.templates →
-    (a b : TaskNumber) → Reaches spec a b → ⊥
+    (a b : Member) → Reaches spec a b → ⊥
 no_call_cycle spec none a b (at_once {a = c} {b = d} first) = no_calls spec none c d first
 no_call_cycle spec none a b (through {a = c} {b = d} first _) = no_calls spec none c d first
 

@@ -19,7 +19,8 @@ use Rattle.tm_syntax.specs.Tree.{SpecTree}
 use Rattle.tm_syntax.specs.Limits.{specification_limit}
 use Rattle.tm_syntax.specs.Tokens.{AreTokens, HasByteFault}
 use Rattle.tm_syntax.specs.Grammar.Faults.{IsTree, HasSyntaxFault, HasDepthFault}
-use Rattle.tm_syntax.specs.Scopes.Calls.{TaskNumber, Reaches, ReachesTemplate}
+use Rattle.tm_syntax.specs.declared.member.Member.{Member}
+use Rattle.tm_syntax.specs.Scopes.Calls.{Reaches, ReachesTemplate}
 use Rattle.tm_syntax.specs.Design.{DesignTree, IsDesign}
 use Rattle.tm_syntax.specs.Places.{text_start, is_before}
 use Rattle.tm_syntax.specs.Faults.Marks.{Mark, marked, first_mark, first_place}
@@ -70,7 +71,7 @@ IsFree spec kind.UnknownName = unknown_names spec ≡ []
 IsFree spec kind.Twice = names_twice spec ≡ []
 IsFree spec kind.Mismatch = mismatches spec ≡ []
 IsFree spec kind.Literal = misfit_numbers spec ≡ []
-IsFree spec kind.CallCycle = (k : TaskNumber) → ¬ Reaches spec k k
+IsFree spec kind.CallCycle = (k : Member) → ¬ Reaches spec k k
 IsFree spec kind.LoopWithoutLocation = endless_loops spec ≡ []
 IsFree spec kind.LocationInAtomic = atomic_locations spec ≡ []
 IsFree spec kind.TemplateCycle = (t : ℕ) → ¬ ReachesTemplate spec t t

@@ -30,6 +30,7 @@ ghost use Rattle.tm_syntax.specs.Examples.{at, name_at, spinning, indexed, wide,
 
 pub mod design;
 pub mod fault;
+pub mod member;
 pub mod token;
 pub mod tree;
 pub mod typed;

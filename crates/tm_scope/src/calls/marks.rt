@@ -1,6 +1,6 @@
 //! Which paths lead to some tasks of a text.
 ghost use Rattle.std.specs.Prelude.{◌≡◌, ◌<◌, length};
-ghost use Rattle.tm_scope.specs.Marks.{is_marked};
+ghost use Rattle.tm_scope.specs.Marks.{is_marked, marked_number};
 
 use crate::calls::task_set::TaskSet;
 use crate::scopes::Scopes;
@@ -42,6 +42,16 @@ impl<'m, 's, 'a> CallMarks<'m, 's, 'a> {
             scopes,
             from,
             tasks,
+        }
+    }
+
+    // The number among the tasks of the one to which a path leads.
+    pub(crate) fn number(&self, path: &[Ident]) -> Option<usize>
+        ensures { result ≡ marked_number self.now path.now }
+    {
+        match self.scopes.task_number(self.from, path) {
+            Some(task) => self.tasks.number(task),
+            None => None,
         }
     }
 

@@ -10,7 +10,7 @@ ghost use Rattle.tm_syntax.specs.Scopes.Pauses.{body_pauses, may_pause, task_rea
 ghost use Rattle.tm_scope.specs.CallOrder.{CoversTasks, IsCallOrder};
 ghost use Rattle.tm_scope.specs.Marks.{ArePassing, crosses_at, is_marked, pauses_at};
 ghost use Rattle.tm_scope.specs.Members.{task_at};
-ghost use Rattle.tm_scope.specs.declared.members.Member as numbered;
+ghost use Rattle.tm_syntax.specs.declared.member.Member as numbered;
 
 /// A task at position k of an order in which each stands behind all that it calls: whether it pauses, and whether it is
 /// sure to cross, is the same at each depth of calls above k.

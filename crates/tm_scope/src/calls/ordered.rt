@@ -10,9 +10,9 @@ ghost use Rattle.tm_scope.specs.Members.{task_at};
 use crate::calls::bodies::{body_crosses, body_pauses};
 use crate::calls::marks::CallMarks;
 use crate::calls::task_set::TaskSet;
-use crate::members::Member;
 use crate::scopes::Scopes;
 use std::alloc::{AllocError, Global};
+use tm_syntax::member::Member;
 
 /// The tasks of an order that may pause, where each stands behind all that it calls. Linear in the
 /// text of these tasks. `AllocError` is want of memory.

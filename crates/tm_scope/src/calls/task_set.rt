@@ -1,11 +1,11 @@
 //! Sets of tasks.
-ghost use Rattle.std.specs.Prelude.{◌≡◌, [], OnOk};
-ghost use Rattle.tm_scope.specs.Marks.{is_in, with_task};
+ghost use Rattle.std.specs.Prelude.{◌≡◌, [], OnOk, position, slice_get};
+ghost use Rattle.tm_scope.specs.Marks.{is_in, same_task, with_task};
 
-use crate::members::Member;
 use indexmap::IndexSet;
 use std::alloc::{AllocError, Global};
 use std::marker::Model;
+use tm_syntax::member::Member;
 
 /// Some tasks and procedures of a text, by their numbers. Contracts see a list of them.
 #[derive(Drop)]
@@ -15,7 +15,7 @@ pub struct TaskSet {
 
 impl Model for TaskSet {
     ghost use Rattle.std.specs.Prelude.{List};
-    ghost use Rattle.tm_scope.specs.declared.members.Member.{Member};
+    ghost use Rattle.tm_syntax.specs.declared.member.Member.{Member};
 
     ghost Value = { List Member };
 
@@ -37,6 +37,27 @@ impl TaskSet {
         ensures { result ≡ is_in self.now task }
     {
         self.tasks.contains(&task)
+    }
+
+    /// The tasks, in the order in which they were added.
+    pub fn as_slice(&self) -> &[Member]
+        ensures { result.now ≡ self.now }
+    {
+        self.tasks.as_slice()
+    }
+
+    /// The number of a task among them, in constant time.
+    pub fn number(&self, task: Member) -> Option<usize>
+        ensures { result ≡ position (same_task task) self.now }
+    {
+        self.tasks.get_index_of(&task)
+    }
+
+    /// The task of a number.
+    pub fn task(&self, number: usize) -> Option<Member>
+        ensures { result ≡ slice_get self.now number }
+    {
+        self.tasks.get_index(number).copied()
     }
 
     /// Adds a task. `AllocError` is want of memory.

@@ -3,7 +3,7 @@ ghost use Rattle.std.specs.Prelude.{◌≡◌, IfOk, slice_get};
 ghost use Rattle.std.specs.Option.{option_and_then, option_copied};
 ghost use Rattle.tm_syntax.specs.Design.{instance_node, neighbor};
 ghost use Rattle.tm_syntax.specs.Tree.View.{template_tree};
-ghost use Rattle.tm_scope.specs.Numbers.{known_template};
+ghost use Rattle.tm_syntax.specs.Scopes.Calls.{known_template};
 
 use crate::names::Directory;
 use std::alloc::{AllocError, Global};

@@ -9,12 +9,12 @@ ghost use Rattle.tm_scope.specs.Context.{template_at};
 ghost use Rattle.tm_syntax.specs.Scopes.Context as text;
 ghost use Rattle.tm_syntax.specs.Scopes.Context.{variable_of};
 ghost use Rattle.tm_syntax.specs.Scopes.Pauses.{task_reached};
-ghost use Rattle.tm_scope.specs.Members.{task_at, var_at};
-ghost use Rattle.tm_scope.specs.Numbers.{neighbor_number, number_along, var_number, task_number};
+ghost use Rattle.tm_scope.specs.Members.{task_at, var_at, var_number};
+ghost use Rattle.tm_syntax.specs.Scopes.Calls.{neighbor_number, number_along, task_number};
 
-use crate::members::Member;
 use crate::scopes::scope::Scopes;
 use crate::scopes::template_scope::TemplateScope;
+use tm_syntax::member::Member;
 use tm_syntax::tree::{Ident, TaskDef};
 
 impl<'a> Scopes<'a> {

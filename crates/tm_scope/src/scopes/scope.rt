@@ -52,6 +52,13 @@ impl<'a> Scopes<'a> {
         })
     }
 
+    /// The specification.
+    pub fn spec(&self) -> &'a Spec
+        ensures { result.now ≡ self.now }
+    {
+        self.names.spec()
+    }
+
     // The template of a number, with its tables.
     pub(crate) fn template(&self, number: usize) -> Option<&TemplateScope<'a>>
         ensures { option_copied result ≡ slice_get self.now.templates.items number }

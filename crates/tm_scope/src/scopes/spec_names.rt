@@ -45,6 +45,13 @@ impl<'a> SpecNames<'a> {
         })
     }
 
+    /// The specification.
+    pub(crate) fn spec(&self) -> &'a Spec
+        ensures { result.now ≡ self.now }
+    {
+        self.spec
+    }
+
     /// The number of the template of a name.
     pub(crate) fn template_number(&self, name: &[u8]) -> Option<usize>
         ensures number { result ≡ template_number (spec_tree self.now) name.now }

@@ -5,7 +5,7 @@ ghost use Rattle.tm_syntax.specs.Design.{instance_node, neighbor};
 ghost use Rattle.tm_syntax.specs.Scopes.Names.{is_spelled};
 ghost use Rattle.tm_syntax.specs.Tree.View.{template_tree};
 ghost use Rattle.tm_scope.specs.Members.{body_slots};
-ghost use Rattle.tm_scope.specs.Numbers.{known_template};
+ghost use Rattle.tm_syntax.specs.Scopes.Calls.{known_template};
 
 use crate::context::BodyName;
 use crate::scopes::body_names::BodyNames;

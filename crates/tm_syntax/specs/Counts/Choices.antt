@@ -8,9 +8,8 @@ use Rattle.tm_syntax.specs.Tree.{star, result, plain, StmtTree, assign, invoke, 
 use Rattle.tm_syntax.specs.Scopes.Pauses.{call_depth}
 use Rattle.tm_syntax.specs.Scopes.Context.{Context}
 use Rattle.tm_syntax.specs.Scopes.Types.{named_type}
-use Rattle.tm_syntax.specs.Scopes.Parts.{BodyAt}
+use Rattle.tm_syntax.specs.Scopes.Parts.{BodyAt, body_stmts}
 use Rattle.tm_syntax.specs.Scopes.Calls.{callee}
-use Rattle.tm_syntax.specs.Design.Work.{body_stmts}
 use Rattle.tm_syntax.specs.Design.Sizes.{type_bits, bits_of_number}
 use Rattle.tm_syntax.specs.Counts.Instances.{greatest_of}
 use Rattle.tm_syntax.specs.Counts.Bodies.{step_bodies}

@@ -116,18 +116,27 @@ same_atom (a_cast m a) (a_cast n b) = nat_eq m n && same_atom a b
 same_atom (an_element m a) (an_element n b) = nat_eq m n && same_atom a b
 same_atom _ _ = false
 
+-- an atom: an expression in its scope
+pub record Atom : Type 0 where
+  pub scope : Scope
+  pub expr : ExprTree
+
+-- the expression of an atom, resolved
+abbrev pub resolved_atom : DesignTree → Atom → Resolved
+resolved_atom d a = resolved d a.scope a.expr
+
 -- whether two expressions that are compared are bools
 abbrev pub compares_bools : Option Ty → Bool
 compares_bools (Some types.Bool) = true
 compares_bools _ = false
 
 -- the atoms of a comparison for equality: those of both sides where they are bools, else itself
-abbrev pub equality_atoms : Bool → Resolved → List Resolved → List Resolved
+abbrev pub equality_atoms : Bool → Atom → List Atom → List Atom
 equality_atoms true whole within = within
 equality_atoms false whole within = whole ∷ []
 
 -- the atoms of an operator between two expressions, given the type of these
-abbrev pub operator_atoms : BinaryOperator → Option Ty → Resolved → List Resolved → List Resolved
+abbrev pub operator_atoms : BinaryOperator → Option Ty → Atom → List Atom → List Atom
 operator_atoms operator.AndAlso ty whole within = within
 operator_atoms operator.OrElse ty whole within = within
 operator_atoms operator.Equal ty whole within = equality_atoms (compares_bools ty) whole within
@@ -135,19 +144,20 @@ operator_atoms operator.NotEqual ty whole within = equality_atoms (compares_bool
 operator_atoms _ ty whole within = whole ∷ []
 
 -- the atoms of a bool expression
-abbrev pub expr_atoms : DesignTree → Scope → ExprTree → List Resolved
+abbrev pub expr_atoms : DesignTree → Scope → ExprTree → List Atom
 expr_atoms d scope (truth _ _) = []
 expr_atoms d scope (number _) = []
-expr_atoms d scope (path names) = resolved d scope (path names) ∷ []
+expr_atoms d scope (path names) = record { scope = scope; expr = path names } ∷ []
 expr_atoms d scope (group _ e) = expr_atoms d scope e
 expr_atoms d scope (unary _ _ e) = expr_atoms d scope e
 expr_atoms d scope (binary at op a b) =
-    operator_atoms op (either_type (type_in d scope a) (type_in d scope b)) (resolved d scope (binary at op a b))
+    operator_atoms op (either_type (type_in d scope a) (type_in d scope b))
+    (record { scope = scope; expr = binary at op a b })
     (expr_atoms d scope a ++ expr_atoms d scope b)
 expr_atoms d scope (shift _ _ _ _) = []
 expr_atoms d scope (conditional _ e a b) = expr_atoms d scope e ++ expr_atoms d scope a ++ expr_atoms d scope b
 expr_atoms d scope (cast _ _ _) = []
-expr_atoms d scope (element names e) = resolved d scope (element names e) ∷ []
+expr_atoms d scope (element names e) = record { scope = scope; expr = element names e } ∷ []
 
 -- the condition of a statement
 abbrev pub stmt_conditions : StmtTree → List ExprTree
@@ -160,7 +170,7 @@ stmt_conditions _ = []
 
 -- the atoms of the conditions of a body in text order, with called bodies at the place of the call, where calls nest at
 -- most so deep
-abbrev pub body_atoms : ℕ → DesignTree → Scope → BodyTree → List Resolved
+abbrev pub body_atoms : ℕ → DesignTree → Scope → BodyTree → List Atom
 body_atoms zero d scope body = []
 body_atoms (suc depth) d scope body =
     flat_map (λ s. flat_map (expr_atoms d scope) (stmt_conditions s)
@@ -174,20 +184,20 @@ in_template d f item =
     (slice_get d.spec.templates node.template) []) (slice_get d.instances item.instance) []
 
 -- the atoms of a goal or a fairness condition
-abbrev pub named_atoms : DesignTree → (TemplateTree → List NamedTree) → Item → List Resolved
+abbrev pub named_atoms : DesignTree → (TemplateTree → List NamedTree) → Item → List Atom
 named_atoms d sort item =
     in_template d (λ t i k. option_map_or (λ n.
     expr_atoms d (record { instance = i; body = outside }) n.expr) (slice_get (sort t) k) []) item
 
 -- the atoms of a process
-abbrev pub process_atoms : DesignTree → Item → List Resolved
+abbrev pub process_atoms : DesignTree → Item → List Atom
 process_atoms d item =
     in_template d (λ t i k. option_map_or (λ p.
     body_atoms (suc (call_depth d.spec)) d (record { instance = i; body = process_body k }) p.body)
     (slice_get t.processes k) []) item
 
 -- the atoms of a controllable task
-abbrev pub task_atoms : DesignTree → Item → List Resolved
+abbrev pub task_atoms : DesignTree → Item → List Atom
 task_atoms d item =
     in_template d (λ t i k. option_map_or (λ task.
     body_atoms (suc (call_depth d.spec)) d (record { instance = i; body = task_body k }) task.body)
@@ -199,17 +209,19 @@ without_repeats same [] = []
 without_repeats same (x ∷ xs) = x ∷ filter (λ y. not (same x y)) (without_repeats same xs)
 
 -- atoms of the pool: without those that live for one step, and without repeats
-abbrev pub pooled : List Resolved → List Resolved
-pooled atoms = without_repeats same_atom (filter is_lasting atoms)
+abbrev pub pooled : DesignTree → List Atom → List Atom
+pooled d atoms =
+    without_repeats (λ a b. same_atom (resolved_atom d a) (resolved_atom d b))
+    (filter (λ a. is_lasting (resolved_atom d a)) atoms)
 
 -- the atoms of goals and declared fairness conditions, with repeats
-abbrev pub claim_atoms : DesignTree → List Resolved
+abbrev pub claim_atoms : DesignTree → List Atom
 claim_atoms d = flat_map (named_atoms d (λ t. t.goals)) d.goals ++ flat_map (named_atoms d (λ t. t.fairs)) d.fairs
 
 -- how many predicates the abstraction begins with
 abbrev pub first_atoms : DesignTree → ℕ
-first_atoms d = length (pooled (claim_atoms d))
+first_atoms d = length (pooled d (claim_atoms d))
 
 -- the atoms of the pool: those of goals, fairness conditions, processes and controllable tasks, in order
-abbrev pub pool_atoms : DesignTree → List Resolved
-pool_atoms d = pooled (claim_atoms d ++ flat_map (process_atoms d) d.processes ++ flat_map (task_atoms d) d.tasks)
+abbrev pub pool_atoms : DesignTree → List Atom
+pool_atoms d = pooled d (claim_atoms d ++ flat_map (process_atoms d) d.processes ++ flat_map (task_atoms d) d.tasks)

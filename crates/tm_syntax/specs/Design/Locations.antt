@@ -11,7 +11,8 @@ use Rattle.tm_syntax.specs.Scopes.Context.{process_body}
 use Rattle.tm_syntax.specs.Scopes.Pauses.{call_depth}
 use Rattle.tm_syntax.specs.Design.Scope.{Scope, site}
 use Rattle.tm_syntax.specs.Design.Cells.{called}
-use Rattle.tm_syntax.specs.Design.Work.{WorkItem, perform, performs, body_stmts, call_place}
+use Rattle.tm_syntax.specs.Design.Work.{WorkItem, perform, performs, call_place}
+use Rattle.tm_syntax.specs.Scopes.Parts.{body_stmts}
 
 -- a location, told apart by its place and its trail, and what is left after it
 pub record Location : Type 0 where

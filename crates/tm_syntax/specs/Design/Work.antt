@@ -1,8 +1,9 @@
 -- Work items: what is to be done of the bodies of a design, by the text alone.
-use Rattle.std.specs.Prelude.{Option, None, List, [], ◌∷◌, ◌++◌, map}
+use Rattle.std.specs.Prelude.{Option, List, [], ◌∷◌, map}
 use Rattle.tm_base.specs.declared.place.Place.{Place}
 use Rattle.tm_syntax.specs.declared.tree.Ident.{Ident}
-use Rattle.tm_syntax.specs.Tree.{ExprTree, StmtTree, assign, StmtRow, stmts_of, BodyTree}
+use Rattle.tm_syntax.specs.Tree.{ExprTree, StmtTree, StmtRow, stmts_of, BodyTree}
+use Rattle.tm_syntax.specs.Scopes.Parts.{body_stmts}
 use Rattle.tm_syntax.specs.Design.Scope.{Scope}
 use Rattle.tm_syntax.specs.Design.Cells.{Cell}
 
@@ -15,10 +16,6 @@ pub data WorkItem : Type 0 where
 -- the statements of a row
 abbrev pub performs : Scope → List Place → StmtRow → List WorkItem
 performs scope trail row = map (perform scope trail) (stmts_of row)
-
--- a local's declaration is an assignment that stands before the statements of its body
-abbrev pub body_stmts : BodyTree → List StmtTree
-body_stmts body = map (λ l. assign (l.name ∷ []) None l.value) body.locals ++ body.stmts
 
 -- the items of a body
 abbrev pub body_items : Scope → List Place → BodyTree → List WorkItem

@@ -2,12 +2,13 @@
 use Rattle.std.specs.Prelude.{ℕ, List, map}
 use Rattle.std.specs.List.{flat_map, enumerate_from}
 use Rattle.tm_syntax.specs.Tree.{TaskTree, TemplateTree, SpecTree}
-use Rattle.tm_syntax.specs.Scopes.Calls.{TaskNumber, Reaches, ReachesTemplate}
+use Rattle.tm_syntax.specs.declared.member.Member.{Member}
+use Rattle.tm_syntax.specs.Scopes.Calls.{Reaches, ReachesTemplate}
 use Rattle.tm_syntax.specs.Faults.Marks.{Mark, named}
 
 -- a task or procedure, with the fault that it is if it reaches itself
 pub record TaskMark : Type 0 where
-  pub number : TaskNumber
+  pub number : Member
   pub mark : Mark
 
 -- the tasks and procedures of a template

@@ -1,6 +1,6 @@
 -- The grammar of expressions. Precedence and grouping are said by how strongly a form binds: the left operand of a sum
 -- is a sum or binds more strongly, and its right operand binds more strongly.
-use Rattle.std.specs.Prelude.{◌≡◌, ℕ, ◌+◌, ◌≤◌, max, true, false, List, [], ◌∷◌}
+use Rattle.std.specs.Prelude.{◌≡◌, ℕ, ◌+◌, ◌≤◌, max, true, false, List}
 use Rattle.tm_base.specs.declared.place.Place.{Place}
 use Rattle.tm_syntax.specs.declared.token.Token.{Token}
 use Rattle.tm_syntax.specs.declared.token.TokenKind.TheVariants as token

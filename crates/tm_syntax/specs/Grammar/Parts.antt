@@ -3,7 +3,7 @@
 --
 -- Where a rule opens a level, it asks `May`: may the first of these tokens stand so deep? The grammar itself sets no
 -- limit; `depth` is the number of levels that are open where a form begins.
-use Rattle.std.specs.Prelude.{◌≡◌, ℕ, ◌+◌, ◌*◌, ◌^◌, ◌==◌, Option, Some, None, List, [], ◌∷◌, ◌++◌, drop, get_or, slice_range, nat_lt, if◌then◌else◌}
+use Rattle.std.specs.Prelude.{◌≡◌, ℕ, ◌+◌, ◌^◌, ◌==◌, Option, Some, None, List, [], ◌∷◌, ◌++◌, drop, get_or, slice_range, nat_lt, if◌then◌else◌}
 use Rattle.std.specs.Str.Parse.{digits_value}
 use Rattle.tm_base.specs.declared.place.Place.{Place}
 use Rattle.tm_syntax.specs.declared.token.Token.{Token}

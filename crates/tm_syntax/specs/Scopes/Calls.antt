@@ -3,19 +3,15 @@ use Rattle.std.specs.Prelude.{◌≡◌, ℕ, Option, Some, List, [], ◌∷◌,
 use Rattle.std.specs.Bool.{then_some}
 use Rattle.std.specs.Option.{option_map, option_and_then}
 use Rattle.std.specs.List.{filter_map, flat_map}
+use Rattle.tm_syntax.specs.declared.member.Member.{Member}
 use Rattle.tm_syntax.specs.declared.tree.Ident.{Ident}
 use Rattle.tm_syntax.specs.Tree.{BodyTree, InstanceTree, TaskTree, TemplateTree, SpecTree}
 use Rattle.tm_syntax.specs.Scopes.Names.{is_spelled, template_number, template_along, last_name}
 use Rattle.tm_syntax.specs.Scopes.Context.{Context, task_body}
 use Rattle.tm_syntax.specs.Scopes.Parts.{BodyAt, stmts_in, own_calls}
 
--- a task or procedure: the number of its template, and its own number there
-pub record TaskNumber : Type 0 where
-  pub template : ℕ
-  pub index : ℕ
-
 -- the task or procedure of a number
-abbrev pub numbered_task : SpecTree → TaskNumber → Option TaskTree
+abbrev pub numbered_task : SpecTree → Member → Option TaskTree
 numbered_task spec m = option_and_then (λ t. slice_get t.tasks m.index) (slice_get spec.templates m.template)
 
 -- the name of the template of the instance or port of this name
@@ -38,7 +34,7 @@ number_along spec from (name ∷ next ∷ names) =
     option_and_then (λ n. number_along spec n (next ∷ names)) (neighbor_number spec from name.text)
 
 -- the task or procedure that a path leads to, from the template of a number
-abbrev pub task_number : SpecTree → ℕ → List Ident → Option TaskNumber
+abbrev pub task_number : SpecTree → ℕ → List Ident → Option Member
 task_number spec from path =
     option_and_then (λ n. option_and_then (λ t. option_map (λ k. record { template = n; index = k })
     (position (λ task. is_spelled (last_name path) task.name) t.tasks)) (slice_get spec.templates n))
@@ -49,7 +45,7 @@ abbrev pub body_calls : BodyTree → List (List Ident)
 body_calls body = flat_map own_calls (stmts_in body)
 
 -- a task calls another one: a path that its body calls leads to it
-pub record Calls (spec : SpecTree) (caller callee : TaskNumber) : Type 0 where
+pub record Calls (spec : SpecTree) (caller callee : Member) : Type 0 where
   pub task : TaskTree
   pub path : List Ident
   pub is : numbered_task spec caller ≡ Some task
@@ -57,9 +53,9 @@ pub record Calls (spec : SpecTree) (caller callee : TaskNumber) : Type 0 where
   pub leads : task_number spec caller.template path ≡ Some callee
 
 -- a task reaches another one by calls
-pub data Reaches (spec : SpecTree) : TaskNumber → TaskNumber → Type 0 where
-  at_once : {a b : TaskNumber} → Calls spec a b → Reaches spec a b
-  through : {a b c : TaskNumber} → Calls spec a b → Reaches spec b c → Reaches spec a c
+pub data Reaches (spec : SpecTree) : Member → Member → Type 0 where
+  at_once : {a b : Member} → Calls spec a b → Reaches spec a b
+  through : {a b c : Member} → Calls spec a b → Reaches spec b c → Reaches spec a c
 
 -- a template holds an instance of another one
 pub record Holds (spec : SpecTree) (holder held : ℕ) : Type 0 where

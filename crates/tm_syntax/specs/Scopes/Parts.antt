@@ -14,7 +14,6 @@ use Rattle.tm_syntax.specs.Scopes.Names.{type_of}
 use Rattle.tm_syntax.specs.Scopes.Pauses.{task_reached}
 use Rattle.tm_syntax.specs.Scopes.Context.{Context, BodyName, process_body, task_body, outside}
 use Rattle.tm_syntax.specs.Scopes.Types.{named_type}
-use Rattle.tm_syntax.specs.Design.Work.{body_stmts}
 
 -- a body, and where it stands
 pub record BodyAt : Type 0 where
@@ -61,6 +60,10 @@ abbrev mutual
   pub block_stmts : BlockRow → List StmtTree
   block_stmts nowhere = []
   block_stmts (or_else first others) = row_stmts first ++ block_stmts others
+
+-- a local's declaration is an assignment that stands before the statements of its body
+abbrev pub body_stmts : BodyTree → List StmtTree
+body_stmts body = map (λ l. assign (l.name ∷ []) None l.value) body.locals ++ body.stmts
 
 -- statements with those within them, in text order
 abbrev pub all_stmts : List StmtTree → List StmtTree

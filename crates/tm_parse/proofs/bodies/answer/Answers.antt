@@ -1,4 +1,4 @@
-use Rattle.std.proofs.Common.{is_some, refl, arith, rules, sym, ap, ◌∙◌, subst, [], ◌∷◌, ◌++◌, ◌+◌, List}
+use Rattle.std.proofs.Common.{is_some, rules, ap}
 use Rattle.tm_parse.proofs.Braces.{taken_no_answer, taken_answer, no_answer_expr, no_answer_end}
 use Rattle.tm_parse.proofs.bodies.answer.Goals as goal
 

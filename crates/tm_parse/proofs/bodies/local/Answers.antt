@@ -1,4 +1,4 @@
-use Rattle.std.proofs.Common.{is_some, refl, arith, rules, sym, ap, ◌∙◌, subst, [], ◌∷◌, ◌++◌, ◌+◌, List}
+use Rattle.std.proofs.Common.{rules}
 use Rattle.tm_parse.proofs.Locals.{taken_local, no_local_type, no_local_name, no_local_assign, no_local_value, no_local_end}
 use Rattle.tm_parse.proofs.bodies.local.Goals as goal
 

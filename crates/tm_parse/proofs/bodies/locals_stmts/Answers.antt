@@ -1,4 +1,4 @@
-use Rattle.std.proofs.Common.{is_some, refl, arith, rules, sym, ap, ◌∙◌, subst, [], ◌∷◌, ◌++◌, ◌+◌, List}
+use Rattle.std.proofs.Common.{arith, rules, sym, ap, ◌∙◌, subst, List}
 use Rattle.std.proofs.Common.{map}
 use Rattle.std.proofs.lemmas.List.{map_push}
 use Rattle.tm_syntax.specs.Tree.{LocalTree}

@@ -1,20 +1,20 @@
-use Rattle.std.proofs.Common.{is_some, refl, arith, rules, sym, ap, ◌∙◌, subst, [], ◌∷◌, ◌++◌, ◌+◌, List}
-use Rattle.tm_parse.proofs.Braces.{no_braced_0, no_braced_1, no_braced_2, taken_braced}
+use Rattle.std.proofs.Common.{rules}
+use Rattle.tm_parse.proofs.Braces.{no_braced_opening, no_braced_body, no_braced_closing, taken_braced}
 use Rattle.tm_parse.proofs.bodies.silent_body.Goals as goal
 
 pub returns-in_err-rest-clause-refused : goal.returns-in_err-rest-clause-refused
 returns-in_err-rest-clause-refused c =
-    let h = no_braced_0 c.args.text.now c.args.depth c.args.tokens.now _ c.in_err-rest.ensures.refused in
+    let h = no_braced_opening c.args.text.now c.args.depth c.args.tokens.now _ c.in_err-rest.ensures.refused in
     search rules
 
 pub returns-in_err-body-clause-refused : goal.returns-in_err-body-clause-refused
 returns-in_err-body-clause-refused c =
-    let h = no_braced_1 c.args.text.now c.args.depth c.in_ok-rest.ensures.taken _ c.in_err-body.ensures.refused in
+    let h = no_braced_body c.args.text.now c.args.depth c.in_ok-rest.ensures.taken _ c.in_err-body.ensures.refused in
     search rules
 
 pub returns-in_err-rest-2-clause-refused : goal.returns-in_err-rest-2-clause-refused
 returns-in_err-rest-2-clause-refused c =
-    let h = no_braced_2 c.args.text.now c.args.depth c.in_ok-rest.ensures.taken c.in_ok-body.ensures.taken _
+    let h = no_braced_closing c.args.text.now c.args.depth c.in_ok-rest.ensures.taken c.in_ok-body.ensures.taken _
     c.in_err-rest-2.ensures.refused in
     search rules
 

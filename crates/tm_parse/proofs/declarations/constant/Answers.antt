@@ -1,4 +1,4 @@
-use Rattle.std.proofs.Common.{List, [], ◌∷◌, ◌++◌, ap, ◌∙◌}
+use Rattle.std.proofs.Common.{[], ◌∷◌, ◌++◌, ap, ◌∙◌}
 use Rattle.tm_syntax.specs.Tree.{path}
 use Rattle.tm_parse.proofs.declarations.constant.Goals as goal
 

@@ -1,4 +1,4 @@
-use Rattle.std.proofs.Common.{arith, rules, sym, ap, ◌∙◌}
+use Rattle.std.proofs.Common.{arith, rules, sym, ◌∙◌}
 use Rattle.tm_parse.proofs.Digits.{large_product, large_sum, one_digit, all_digits}
 use Rattle.tm_parse.proofs.leaves.digits_value.Goals as goal
 

@@ -1,4 +1,3 @@
-use Rattle.std.proofs.Common.{rules}
 use Rattle.tm_parse.proofs.Terminals.{taken_mark}
 use Rattle.tm_parse.proofs.marks.mark.Goals as goal
 

@@ -1,4 +1,4 @@
-use Rattle.std.proofs.Common.{is_some, ap, rules, arith}
+use Rattle.std.proofs.Common.{is_some, ap, arith}
 use Rattle.tm_parse.proofs.Terminals.{no_level, no_opening, taken_opening}
 use Rattle.tm_parse.proofs.marks.open.Goals as goal
 

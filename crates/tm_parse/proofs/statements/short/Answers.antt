@@ -1,8 +1,5 @@
 use Rattle.std.proofs.Common.{rules}
 use Rattle.tm_parse.proofs.Commands.{taken_short, no_short_mark, no_short_end}
-use Rattle.tm_parse.proofs.Blocks.{taken_block}
-use Rattle.tm_parse.proofs.Sorts.{no_stmts}
-use Rattle.tm_parse.proofs.Locals.{taken_body}
 use Rattle.tm_parse.proofs.statements.short.Goals as goal
 
 pub returns-in_err-at-clause-refused : goal.returns-in_err-at-clause-refused

@@ -2,7 +2,7 @@ use Rattle.std.proofs.Common.{◌≡◌, ◌+◌, ◌<◌, Some, length, get_or,
 use Rattle.std.proofs.lemmas.Option.{slice_get-get_or, slice_get_within}
 use Rattle.tm_syntax.specs.Tree.View.{spec_tree}
 use Rattle.tm_scope.specs.Marks.{crosses_at}
-use Rattle.tm_scope.specs.declared.members.Member.{Member}
+use Rattle.tm_syntax.specs.declared.member.Member.{Member}
 use Rattle.tm_scope.proofs.TaskSets.{AreMarked, nothing_marked, marked_more, unmarked_more, crosses_so}
 use Rattle.tm_scope.proofs.calls.ordered.crossing_tasks.Goals as goal
 use Rattle.tm_scope.proofs.calls.ordered.crossing_tasks.Goals.{then-task_crosses+in_ok-insert, else-task_crosses}

@@ -3,7 +3,7 @@ use Rattle.std.proofs.lemmas.Option.{slice_get_read}
 use Rattle.std.specs.Option.{option_copied}
 use Rattle.tm_syntax.specs.Scopes.Names.{is_spelled}
 use Rattle.tm_syntax.specs.Tree.View.{template_tree}
-use Rattle.tm_scope.specs.Numbers.{known_template}
+use Rattle.tm_syntax.specs.Scopes.Calls.{known_template}
 use Rattle.tm_scope.proofs.FirstNames.{instance_index, port_index, known_at_instance, known_at_port, known_nowhere}
 use Rattle.tm_scope.proofs.Positions.{position-below}
 use Rattle.tm_scope.proofs.scopes.neighbors.Neighbors.known_template.Goals as goal

@@ -1,6 +1,6 @@
 use Rattle.std.proofs.Common.{◌≡◌, ◌-◌, ◌<◌, length, drop}
 use Rattle.tm_syntax.specs.Tree.View.{spec_tree}
-use Rattle.tm_scope.specs.Numbers.{number_along}
+use Rattle.tm_syntax.specs.Scopes.Calls.{number_along}
 use Rattle.tm_scope.proofs.scopes.scope.Scopes.number_along.Given as goal
 
 abbrev pub invariant-loop-next : goal.invariant-loop-next

@@ -4,7 +4,7 @@ use Rattle.std.specs.Option.{option_map}
 use Rattle.std.specs.Prelude.{IfSome}
 use Rattle.tm_syntax.specs.Scopes.Names.{is_spelled}
 use Rattle.tm_syntax.specs.Tree.View.{spec_tree, template_tree}
-use Rattle.tm_scope.specs.Numbers.{number_along}
+use Rattle.tm_syntax.specs.Scopes.Calls.{number_along}
 use Rattle.tm_scope.proofs.PathSteps.{task_number-read}
 use Rattle.tm_scope.proofs.scopes.scope.Scopes.task_number.Goals as goal
 

@@ -1,8 +1,8 @@
 //! What each path means in a text whose names stand in several scopes.
-use crate::{BodyName, ExprType, Scopes, Sites};
 use std::alloc::{AllocError, Global};
 use std::test::Fail;
 use tm_base::{Name, Place};
+use tm_scope::{BodyName, ExprType, Scopes, Sites};
 use tm_syntax::design::Instance;
 use tm_syntax::tree::{
     Body, EnumDef, Expr, Ident, InstanceDef, LocalDef, Num, Path, ProcessDef, Spec, Template,
