@@ -6,6 +6,8 @@
 mod answers;
 mod draw;
 mod sample;
+#[cfg(test)]
+mod tests;
 
 use anyhow::{Context, Result};
 use std::alloc::Global;

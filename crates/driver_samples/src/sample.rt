@@ -10,7 +10,7 @@ use tm_cprint::print;
 use tm_small::read_small;
 
 /// The specification over which drivers are drawn.
-const SPECIFICATION: &[u8] = b"template main
+pub const SPECIFICATION: &[u8] = b"template main
 bool a = false;
 bool b = false;
 bool c = false;
