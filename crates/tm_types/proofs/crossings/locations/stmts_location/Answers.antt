@@ -1,0 +1,13 @@
+use Rattle.std.proofs.Common.{rules}
+use Rattle.tm_syntax.specs.Tree.View.{stmt_tree, stmt_trees}
+use Rattle.tm_syntax.specs.Scopes.Parts.{all_stmts}
+use Rattle.tm_scope.specs.Marks.{is_marked}
+use Rattle.tm_types.specs.Inner.Crossings.{locations_of}
+use Rattle.tm_types.proofs.ListedStmts.{first_of_listed}
+use Rattle.tm_types.proofs.crossings.locations.stmts_location.Goals as goal
+
+pub returns : goal.returns
+returns c =
+    first_of_listed (locations_of (is_marked c.args.calls.now)) c.as_slice.result.now c.in_ok-stmts.stmts.items
+    (all_stmts (stmt_trees c.args.stmts.now)) c.first_in.result c.as_slice.ensures.value c.in_ok-stmts.ensures
+    (c.first_in.ensures (λ s. locations_of (is_marked c.args.calls.now) (stmt_tree s.now)) (λ s r is. search rules))

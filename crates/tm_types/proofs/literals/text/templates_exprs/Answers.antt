@@ -1,0 +1,30 @@
+use Rattle.std.proofs.Common.{◌≡◌, Some, get_or, slice_get, sym, ap, ◌∙◌, arith}
+use Rattle.std.specs.List.{flat_map}
+use Rattle.std.proofs.lemmas.List.{take_all}
+use Rattle.std.proofs.lemmas.Option.{slice_get-get_or}
+use Rattle.tm_base.specs.declared.place.Place.{Place}
+use Rattle.tm_syntax.specs.declared.tree.Template.{Template}
+use Rattle.tm_syntax.specs.Scopes.Parts.{template_exprs}
+use Rattle.tm_syntax.specs.Tree.View.{spec_tree, template_tree}
+use Rattle.tm_syntax.specs.Faults.Literals.{asked_numbers}
+use Rattle.tm_types.specs.Firsts.{first_of}
+use Rattle.tm_types.proofs.TextExprs.{text_split}
+use Rattle.tm_types.proofs.FirstFaults.{first_more}
+use Rattle.tm_types.proofs.literals.text.templates_exprs.Goals as goal
+
+pub loop-number-preserved : goal.loop-number-preserved
+loop-number-preserved c =
+    first_more (λ (at : Place). at)
+    (λ (t : Template). flat_map asked_numbers (template_exprs (spec_tree c.args.names.now) (template_tree t)))
+    c.args.templates.now c.loop-number.number c.index-templates-number.result c.loop-number.first
+    c.in_ok-template_numbers.field-0 c.earlier_place-first.result (omega (arith, c.loop-number-test.true))
+    c.index-templates-number.is c.in_ok-template_numbers.ensures c.earlier_place-first.ensures.earlier c.loop-number.invariant
+
+pub returns : goal.returns
+returns c =
+    let numbers = λ (t : Template).
+    flat_map asked_numbers (template_exprs (spec_tree c.args.names.now) (template_tree t)) in
+    c.loop-number.invariant
+    ∙ ap (λ ts. first_of (flat_map numbers ts))
+    (take_all c.loop-number.number c.args.templates.now (omega (arith, c.loop-number-test.false)) ∙ c.requires)
+    ∙ ap first_of (text_split asked_numbers c.args.names.now)

@@ -1,0 +1,12 @@
+use Rattle.tm_syntax.specs.declared.fault.FaultKind.TheVariants as kind
+use Rattle.tm_syntax.specs.Tree.{SpecTree}
+use Rattle.tm_syntax.specs.Tree.View.{spec_tree}
+use Rattle.tm_syntax.specs.Faults.Literals.{misfit_numbers}
+use Rattle.tm_types.proofs.FirstOfKinds.{of_places}
+use Rattle.tm_types.proofs.stages.literal_fault.Goals as goal
+
+pub returns : goal.returns
+returns c =
+    let spec : SpecTree = spec_tree c.args.spec.now in
+    of_places kind.Literal spec (misfit_numbers spec) (λ e. e) (λ m e. e) c.in_ok-first.first c.in_ok-first.ensures
+    c.placed.result c.placed.ensures

@@ -1,0 +1,67 @@
+//! The fault of a specification among `F4` to `F10`: of the earliest kind that holds, at its first place.
+ghost use Rattle.std.specs.Prelude.{◌≡◌, IfErr, IfOk, MatchResult};
+ghost use Rattle.tm_syntax.specs.declared.fault.Faulty as fault;
+ghost use Rattle.tm_syntax.specs.Tree.View.{spec_tree};
+ghost use Rattle.tm_syntax.specs.Faults.{IsOfText};
+ghost use Rattle.tm_types.specs.Answer.{HasTypeFault, IsFirstOf, IsMemoryOr, type_kinds};
+ghost use Rattle.tm_types.specs.TextScopes.{AreTextScopes};
+
+use crate::names::TextNames;
+use crate::stages::{call_fault, name_fault, value_fault};
+use crate::twice::TextScopes;
+use std::alloc::{AllocError, Global};
+use tm_scope::Scopes;
+use tm_syntax::fault::{Faulty, FrontError};
+use tm_syntax::tree::Spec;
+use tm_syntax::typed::Typed;
+
+/// Judges the names, types, calls and loops of a specification whose tree is that of a text.
+///
+/// `Faulty` is one of `F4` to `F10`: the earliest kind that holds anywhere in the text, at its first place, with its
+/// detail; the specification is dropped then. `Memory` is want of memory. `Ok` gives the specification, of which none
+/// of these faults holds. Near linear in the text.
+pub fn check_types(alloc: Global, spec: Spec) -> Result<Typed, FrontError>
+    requires { IsOfText (spec_tree spec) }
+    ensures checked { IfOk result (λ typed. typed.spec ≡ spec) }
+    ensures faulty { IfErr result (IsMemoryOr (HasTypeFault (spec_tree spec))) }
+
+    // Where there is such a fault, nothing else is told but want of memory.
+    ensures told { (f : fault.Faulty) → HasTypeFault (spec_tree spec) f
+        → MatchResult result (λ _. ⊥) (IsMemoryOr (λ g. g ≡ f)) }
+{
+    match first_fault(alloc, &spec) {
+        Ok(None) => Ok(Typed { spec }),
+        Ok(Some(fault)) => Err(FrontError::Faulty(fault)),
+        Err(_) => Err(FrontError::Memory),
+    }
+}
+
+// The fault of a specification, if it has one of `F4` to `F10`.
+fn first_fault(alloc: Global, spec: &Spec) -> Result<Option<Faulty>, AllocError>
+    ensures { IfOk result (IsFirstOf type_kinds (spec_tree spec.now)) }
+{
+    let scopes = TextScopes::new(alloc, spec)?;
+    let tables = Scopes::new(alloc, spec)?;
+    fault_by_tables(alloc, spec, &scopes, &tables)
+}
+
+// The same, given the scopes and the tables of the specification.
+fn fault_by_tables(
+    alloc: Global,
+    spec: &Spec,
+    scopes: &TextScopes,
+    tables: &Scopes,
+) -> Result<Option<Faulty>, AllocError>
+    requires scopes { AreTextScopes (spec_tree spec.now) scopes.now }
+    requires tables { tables.now ≡ spec.now }
+    ensures { IfOk result (IsFirstOf type_kinds (spec_tree spec.now)) }
+{
+    let names = TextNames::new(alloc, spec, tables, scopes)?;
+    if let Some(fault) = name_fault(alloc, &names, scopes, spec)? {
+        return Ok(Some(fault));
+    }
+    if let Some(fault) = value_fault(alloc, &names, spec)? {
+        return Ok(Some(fault));
+    }
+    call_fault(alloc, tables, spec)
+}

@@ -1,0 +1,78 @@
+//! The first of several faults by their places: the parts of a text may be judged in any order.
+ghost use Rattle.std.specs.Prelude.{◌≡◌, ◌++◌, List, Option, Ok, IfOk};
+ghost use Rattle.std.specs.List.{flat_map};
+ghost use Rattle.std.specs.Fn.{FnReturnsAt};
+ghost use Rattle.tm_base.specs.declared.place.Place as stands;
+ghost use Rattle.tm_syntax.specs.Places.{earliest_of, is_before};
+ghost use Rattle.tm_syntax.specs.Faults.Marks.{place_unless};
+ghost use Rattle.tm_types.specs.Firsts.{first_of};
+
+use std::alloc::AllocError;
+use tm_base::Place;
+
+// Whether a place stands before another one.
+pub(crate) fn is_before(a: Place, b: Place) -> bool
+    ensures { result ≡ is_before a b }
+{
+    a.line < b.line || (a.line == b.line && a.column < b.column)
+}
+
+// The earlier of two places that may be there: the first place of what both are the first of.
+pub(crate) fn earlier_place(first: Option<Place>, second: Option<Place>) -> Option<Place>
+    ensures earlier { result ≡ earliest_of (λ (at : stands.Place). at) first second }
+    ensures joined { (xs ys : List stands.Place) → first ≡ first_of xs → second ≡ first_of ys
+        → result ≡ first_of (xs ++ ys) }
+{
+    choose_earlier(first, second)
+}
+
+// The earlier of two places that may be there.
+fn choose_earlier(first: Option<Place>, second: Option<Place>) -> Option<Place>
+    ensures { result ≡ earliest_of (λ (at : stands.Place). at) first second }
+{
+    let Some(x) = first else {
+        return second;
+    };
+    let Some(y) = second else {
+        return first;
+    };
+    if is_before(y, x) { second } else { first }
+}
+
+// The first of the faults at a place: the place, unless all is well there.
+pub(crate) fn place_unless(fits: bool, at: Place) -> Option<Place>
+    ensures { result ≡ first_of (place_unless fits at) }
+{
+    if fits { None } else { Some(at) }
+}
+
+// The first place of the faults of some parts, given how the first one of a part is found.
+pub(crate) fn first_in<T, F: Fn(&T) -> Option<Place>>(parts: &[T], find: F) -> Option<Place>
+    requires { F.IsAlwaysCallable find }
+    ensures { (faults : T → List stands.Place)
+        → ((x : T) (r : Option stands.Place) → FnReturnsAt F.Fn find x r → r ≡ first_of (faults x))
+        → result ≡ first_of (flat_map faults parts.now) }
+{
+    let mut first = None;
+    for part in parts {
+        first = earlier_place(first, find(part));
+    }
+    first
+}
+
+// The first place of the faults of some parts, where finding the first one of a part takes memory.
+pub(crate) fn try_first_in<T, F: Fn(&T) -> Result<Option<Place>, AllocError>>(
+    parts: &[T],
+    find: F,
+) -> Result<Option<Place>, AllocError>
+    requires { F.IsAlwaysCallable find }
+    ensures { (faults : T → List stands.Place)
+        → ((x : T) (r : Option stands.Place) → FnReturnsAt F.Fn find x (Ok r) → r ≡ first_of (faults x))
+        → IfOk result (λ r. r ≡ first_of (flat_map faults parts.now)) }
+{
+    let mut first = None;
+    for part in parts {
+        first = earlier_place(first, find(part)?);
+    }
+    Ok(first)
+}

@@ -1,0 +1,18 @@
+//! Judges the names, types, calls and loops of a specification: finds the first of the faults `F4` to `F10`.
+#![tactic(auto)]
+
+mod check;
+mod crossings;
+mod cycles;
+mod firsts;
+mod firsts_named;
+mod literals;
+mod mismatches;
+mod names;
+mod parts;
+mod sorts;
+mod stages;
+mod twice;
+mod unknown;
+
+pub use check::check_types;

@@ -1,0 +1,145 @@
+//! The first number of a text that does not fit.
+ghost use Rattle.std.specs.Prelude.{◌≡◌, IfOk, Some, map, slice_get};
+ghost use Rattle.std.specs.List.{flat_map};
+ghost use Rattle.tm_syntax.specs.Tree.View.{named_tree, spec_tree, template_tree};
+ghost use Rattle.tm_syntax.specs.Scopes.Parts as text;
+ghost use Rattle.tm_syntax.specs.Faults.Literals.{asked_numbers, misfit_numbers};
+ghost use Rattle.tm_scope.specs.Context.{context_of};
+ghost use Rattle.tm_types.specs.Asked.{asked_of};
+ghost use Rattle.tm_types.specs.Bodies.{body_at};
+ghost use Rattle.tm_types.specs.Firsts.{first_of};
+ghost use Rattle.tm_types.specs.Inner.Numbers.{
+  asked_numbers_in,
+  body_numbers,
+  condition_numbers,
+  declared_numbers,
+  outside_numbers,
+};
+
+use crate::firsts::{earlier_place, first_in, try_first_in};
+use crate::literals::declared::declared_numbers;
+use crate::literals::exprs::{expr_numbers, index_numbers};
+use crate::names::TextNames;
+use crate::parts::{Asked, BodyPart, ExprPart, Site, body_exprs, template_bodies};
+use std::alloc::{AllocError, Global};
+use tm_base::Place;
+use tm_scope::{BodyName, ExprType};
+use tm_syntax::tree::{Named, Spec, Template};
+
+// The first number of an expression that does not fit, valued in the type that its place asks for.
+fn asked_numbers(site: &Site, asked: &Asked) -> Option<Place>
+    ensures { result ≡ first_of (asked_numbers_in (context_of site.now) (asked_of asked.now)) }
+{
+    let types = site.types();
+    match asked.expr {
+        ExprPart::Whole(e) => expr_numbers(types, asked.ty.unwrap_or(ExprType::Bool), e),
+        ExprPart::Element(path, index) => {
+            let within = expr_numbers(types, ExprType::Bool, index);
+            index_numbers(types, path.names.as_slice(), index, within)
+        }
+    }
+}
+
+// The first one of a body.
+fn body_numbers(alloc: Global, part: &BodyPart) -> Result<Option<Place>, AllocError>
+    ensures { IfOk result (λ first. first ≡ first_of (body_numbers (body_at part.now))) }
+{
+    let asked = body_exprs(alloc, part)?;
+    Ok(first_in(asked.as_slice(), |e| asked_numbers(&part.site, e)))
+}
+
+// The first one of goals or fairness conditions.
+fn conditions_numbers(site: &Site, conditions: &[Named]) -> Option<Place>
+    ensures { result
+        ≡ first_of (flat_map (condition_numbers (context_of site.now)) (map named_tree conditions.now)) }
+{
+    first_in(
+        conditions,
+        |named| expr_numbers(site.types(), ExprType::Bool, &named.expr),
+    )
+}
+
+// The first one of the goals and fairness conditions of the template of a number.
+fn outside_numbers<'s>(
+    names: &'s TextNames<'s, '_>,
+    number: usize,
+    template: &Template,
+) -> Option<Place>
+    requires { slice_get names.now.templates.items number ≡ Some template.now }
+    ensures { result ≡ first_of (outside_numbers (spec_tree names.now) (template_tree template.now)) }
+{
+    let outside = Site::new(names, number, BodyName::Outside);
+    let in_goals = conditions_numbers(&outside, template.goals.as_slice());
+    let in_fairs = conditions_numbers(&outside, template.fairs.as_slice());
+    earlier_place(in_goals, in_fairs)
+}
+
+// The first one in the bodies of the template of a number.
+fn bodies_numbers<'s, 'a>(
+    alloc: Global,
+    names: &'s TextNames<'s, 'a>,
+    number: usize,
+    template: &'a Template,
+) -> Result<Option<Place>, AllocError>
+    requires { slice_get names.now.templates.items number ≡ Some template.now }
+    ensures { IfOk result (λ first. first ≡ first_of (flat_map body_numbers
+        (text.template_bodies (spec_tree names.now) (template_tree template.now)))) }
+{
+    let bodies = template_bodies(alloc, names, number, template)?;
+    try_first_in(bodies.as_slice(), |part| body_numbers(alloc, part))
+}
+
+// The first one in the expressions of the template of a number.
+fn template_numbers<'s, 'a>(
+    alloc: Global,
+    names: &'s TextNames<'s, 'a>,
+    number: usize,
+    template: &'a Template,
+) -> Result<Option<Place>, AllocError>
+    requires { slice_get names.now.templates.items number ≡ Some template.now }
+    ensures { IfOk result (λ first. first ≡ first_of (flat_map asked_numbers
+        (text.template_exprs (spec_tree names.now) (template_tree template.now)))) }
+{
+    let in_bodies = bodies_numbers(alloc, names, number, template)?;
+    let outside = outside_numbers(names, number, template);
+    Ok(earlier_place(in_bodies, outside))
+}
+
+// The first one in the declarations of templates.
+fn templates_declared(alloc: Global, templates: &[Template]) -> Result<Option<Place>, AllocError>
+    ensures { IfOk result (λ first. first
+        ≡ first_of (flat_map declared_numbers (map template_tree templates.now))) }
+{
+    try_first_in(templates, |template| declared_numbers(alloc, template))
+}
+
+// The first one in the expressions of templates.
+fn templates_exprs<'s, 'a>(
+    alloc: Global,
+    names: &'s TextNames<'s, 'a>,
+    templates: &'a [Template],
+) -> Result<Option<Place>, AllocError>
+    requires { templates.now ≡ names.now.templates.items }
+    ensures { IfOk result (λ first. first
+        ≡ first_of (flat_map asked_numbers (text.exprs (spec_tree names.now)))) }
+{
+    let mut first = None;
+    for (number, template) in templates.iter().enumerate() {
+        first = earlier_place(first, template_numbers(alloc, names, number, template)?);
+    }
+    Ok(first)
+}
+
+/// The first number of a text that does not fit its type or its place. `AllocError` is want of memory.
+pub(crate) fn first_misfit<'s, 'a>(
+    alloc: Global,
+    names: &'s TextNames<'s, 'a>,
+    spec: &'a Spec,
+) -> Result<Option<Place>, AllocError>
+    requires { names.now ≡ spec.now }
+    ensures { IfOk result (λ first. first ≡ first_of (misfit_numbers (spec_tree spec.now))) }
+{
+    let in_declarations = templates_declared(alloc, spec.templates.as_slice())?;
+    let in_exprs = templates_exprs(alloc, names, spec.templates.as_slice())?;
+    Ok(earlier_place(in_declarations, in_exprs))
+}

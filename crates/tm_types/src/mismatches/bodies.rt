@@ -1,0 +1,110 @@
+//! `F6` of the targets and calls in a body.
+ghost use Rattle.std.specs.Prelude.{◌≡◌, ◌++◌, ◌∷◌, [], IfOk, None, map};
+ghost use Rattle.std.specs.List.{flat_map};
+ghost use Rattle.std.specs.Option.{option_map};
+ghost use Rattle.tm_syntax.specs.Tree as tree;
+ghost use Rattle.tm_syntax.specs.Tree.View.{expr_tree, local_tree, stmt_tree, stmt_trees, value_tree};
+ghost use Rattle.tm_syntax.specs.Scopes.Parts.{all_stmts};
+ghost use Rattle.tm_syntax.specs.Faults.Mismatches.{body_faults};
+ghost use Rattle.tm_scope.specs.Context.{context_of};
+ghost use Rattle.tm_types.specs.Bodies.{body_at};
+ghost use Rattle.tm_types.specs.Firsts.{first_of};
+ghost use Rattle.tm_types.specs.Inner.LocalStmts.{declaration};
+ghost use Rattle.tm_types.specs.Inner.StmtFaults.{stmt_faults};
+
+use crate::firsts::{earlier_place, first_in};
+use crate::mismatches::calls::{call_faults, value_call_faults};
+use crate::mismatches::exprs::wrong_path;
+use crate::mismatches::wanted::Wanted;
+use crate::parts::{BodyPart, Site, all_stmts};
+use std::alloc::{AllocError, Global};
+use std::slice;
+use tm_base::Place;
+use tm_syntax::tree::{Expr, Ident, LocalDef, Stmt, Value};
+
+// The first fault of the target and the call of an assignment to a name that stands without an index.
+fn bare_faults<'a>(at: &Site<'_, 'a>, path: &'a [Ident], value: &'a Value) -> Option<Place>
+    ensures { result ≡ first_of
+        (stmt_faults (context_of at.now) (tree.assign path.now None (value_tree value.now))) }
+{
+    let of_target = wrong_path(at, Wanted::Target, path);
+    earlier_place(
+        of_target,
+        value_call_faults(at, at.types().named_type(path), value),
+    )
+}
+
+// The first fault of the target and the call of an assignment.
+fn assign_faults<'a>(
+    at: &Site<'_, 'a>,
+    path: &'a [Ident],
+    index: &Option<Expr>,
+    value: &'a Value,
+) -> Option<Place>
+    ensures { result ≡ first_of (stmt_faults (context_of at.now)
+        (tree.assign path.now (option_map expr_tree index.now) (value_tree value.now))) }
+{
+    match index {
+        None => bare_faults(at, path, value),
+        Some(_) => value_call_faults(at, at.types().named_type(path), value),
+    }
+}
+
+// The first fault of the target and the call that stand in a statement itself, apart from the statements within it.
+#[tactic(auto, using(tm_syntax::proofs::Views::views))]
+fn stmt_faults<'a>(at: &Site<'_, 'a>, stmt: &'a Stmt) -> Option<Place>
+    ensures { result ≡ first_of (stmt_faults (context_of at.now) (stmt_tree stmt.now)) }
+{
+    match stmt {
+        Stmt::Assign(path, index, value) => {
+            assign_faults(at, path.names.as_slice(), index, value)
+        }
+        Stmt::Call(path, args) => call_faults(at, path.names.as_slice(), args.as_slice()),
+        Stmt::If(_, _, _) => None,
+        Stmt::While(_, _, _) => None,
+        Stmt::Forever(_, _) => None,
+        Stmt::Choice(_, _) => None,
+        Stmt::Assert(_, _) => None,
+        Stmt::Assume(_, _) => None,
+        Stmt::Pause(_) => None,
+        Stmt::Wait(_, _) => None,
+        Stmt::Magic(_) => None,
+    }
+}
+
+// The first fault of a local's declaration.
+fn local_faults<'a>(at: &Site<'_, 'a>, local: &'a LocalDef) -> Option<Place>
+    ensures { result ≡ first_of (stmt_faults (context_of at.now) (declaration (local_tree local.now))) }
+{
+    bare_faults(at, slice::from_ref(&local.name), &local.value)
+}
+
+// The first fault of the declarations of locals.
+fn locals_faults<'a>(at: &Site<'_, 'a>, locals: &'a [LocalDef]) -> Option<Place>
+    ensures { result ≡ first_of (flat_map
+        (λ l. stmt_faults (context_of at.now) (declaration l)) (map local_tree locals.now)) }
+{
+    first_in(locals, |local| local_faults(at, local))
+}
+
+// The first fault of some statements, with those within them.
+fn stmts_faults<'a>(
+    alloc: Global,
+    at: &Site<'_, 'a>,
+    stmts: &'a [Stmt],
+) -> Result<Option<Place>, AllocError>
+    ensures { IfOk result (λ first. first
+        ≡ first_of (flat_map (stmt_faults (context_of at.now)) (all_stmts (stmt_trees stmts.now)))) }
+{
+    let stmts = all_stmts(alloc, stmts)?;
+    Ok(first_in(stmts.as_slice(), |stmt| stmt_faults(at, *stmt)))
+}
+
+/// The first fault of the targets and calls in a body. `AllocError` is want of memory.
+pub(crate) fn body_faults(alloc: Global, part: &BodyPart) -> Result<Option<Place>, AllocError>
+    ensures { IfOk result (λ first. first ≡ first_of (body_faults (body_at part.now))) }
+{
+    let in_locals = locals_faults(&part.site, part.body.locals.as_slice());
+    let in_stmts = stmts_faults(alloc, &part.site, part.body.stmts.as_slice())?;
+    Ok(earlier_place(in_locals, in_stmts))
+}
