@@ -10,7 +10,7 @@ use Rattle.tm_cparse.specs.declared.bad.BadDriver.{BadDriver}
 use Rattle.tm_cparse.specs.declared.bad.BadDriver.TheVariants.{TooLong, Text, UnknownName, BackwardGoto}
 use Rattle.tm_cparse.specs.declared.bad.ReadDriverError.{ReadDriverError}
 use Rattle.tm_cparse.specs.declared.bad.ReadDriverError.TheVariants.{Bad, Memory}
-use Rattle.tm_cparse.specs.declared.names.Place.{Place}
+use Rattle.tm_cparse.specs.declared.names.TokenPlace.{TokenPlace}
 use Rattle.tm_cparse.specs.declared.reader.TheConstants.{MOST_BYTES}
 use Rattle.tm_cparse.specs.declared.spot.Spot.{Spot}
 use Rattle.tm_cparse.specs.View.{token_tree, tokens_of}
@@ -92,11 +92,11 @@ name_fault d line text body spots last whole ws bad scan is written behind at =
           (subst (λ (n : ℕ). IsNameFault d n before s rest other) (sym count) fault));
     }
 
-never_long : (d : DesignTree) {count line : ℕ} {at : Place} {t : Token} {known : Bool} {others : List Token} →
+never_long : (d : DesignTree) {count line : ℕ} {at : TokenPlace} {t : Token} {known : Bool} {others : List Token} →
     IsFaultAt d count at t known line others TooLong → ⊥
 never_long d fault = of refl fault
   where
-    of : {count line : ℕ} {at : Place} {t : Token} {known : Bool} {others : List Token} {bad : BadDriver} →
+    of : {count line : ℕ} {at : TokenPlace} {t : Token} {known : Bool} {others : List Token} {bad : BadDriver} →
         bad ≡ TooLong → IsFaultAt d count at t known line others bad → ⊥
     of is (unknown item off) = cc
     of is (no_process before here none) = cc
@@ -232,7 +232,7 @@ behind_short text body line behind short =
     omega (arith, ap length behind.whole, length-append behind.front body, short)
 
 pub behind_low : (text body : List ℕ) (line : ℕ) → IsBehindInclude text body line → length text ≤ MOST_BYTES →
-    line ≤ 2 ^ 32
+    line ≤ 2 ^ 31
 behind_low text body line behind short =
     omega (
       arith,

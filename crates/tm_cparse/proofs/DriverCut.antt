@@ -6,7 +6,7 @@ use Rattle.tm_cir.specs.Text.Spelling.{token_text, AreTokens}
 use Rattle.tm_cir.specs.Text.Spelling as spelling
 use Rattle.tm_cparse.specs.declared.names.Before.{Before}
 use Rattle.tm_cparse.specs.declared.names.Before.TheVariants.{Goto, Leave, Process, Other}
-use Rattle.tm_cparse.specs.declared.names.Place.{Place}
+use Rattle.tm_cparse.specs.declared.names.TokenPlace.{TokenPlace}
 use Rattle.tm_cparse.specs.declared.spot.Spot.{Spot}
 use Rattle.tm_cparse.specs.View.{word_tree, sign_tree, token_tree, tokens_of}
 use Rattle.tm_cparse.specs.Cut.{Standing, BeginsToken, BeginsSpot, MayStand, MayAllStand, IsCut, open_behind, line_behind}
@@ -48,12 +48,12 @@ labels_few n b (task k) = omega arith
 labels_few n b (constant k) = omega arith
 labels_few n b (sign s) = omega arith
 
-pub places_grow : (at : Place) (ts : List Token) → at.labels ≤ (place_after at ts).labels
+pub places_grow : (at : TokenPlace) (ts : List Token) → at.labels ≤ (place_after at ts).labels
 places_grow at [] = omega arith
 places_grow at (t ∷ ts) =
     omega (arith, labels_grow at.labels at.before t, places_grow (place_behind at t) ts)
 
-pub places_few : (at : Place) (ts : List Token) → (place_after at ts).labels ≤ at.labels + length ts
+pub places_few : (at : TokenPlace) (ts : List Token) → (place_after at ts).labels ≤ at.labels + length ts
 places_few at [] = omega arith
 places_few at (t ∷ ts) =
     omega (arith, labels_few at.labels at.before t, places_few (place_behind at t) ts)
@@ -70,8 +70,8 @@ low_label count n k Leave d others right grow few = omega (arith, right, grow, f
 low_label count n k Process d others right grow few = omega (arith, right, grow, few)
 low_label count n k Other d others right grow few = omega (arith, right, grow, few)
 
-low_token : (d : DesignTree) (count : ℕ) (at : Place) (t : Token) (others : List Token) → IsRight d count at t others →
-    labels_behind at.labels at.before t ≤ count → count < 4294967295 → IsLow t
+low_token : (d : DesignTree) (count : ℕ) (at : TokenPlace) (t : Token) (others : List Token) →
+    IsRight d count at t others → labels_behind at.labels at.before t ≤ count → count < 4294967295 → IsLow t
 low_token d count at (word w) others right grow few = tt
 low_token d count at (label k) others right grow few =
     low_label count at.labels k at.before d others right grow few
@@ -82,7 +82,7 @@ low_token d count at (constant k) others right grow few = tt
 low_token d count at (sign s) others right grow few = tt
 
 -- right labels have 32 bits
-pub right_low : (d : DesignTree) (count : ℕ) (at : Place) (ts : List Token) → AreRight d count at ts →
+pub right_low : (d : DesignTree) (count : ℕ) (at : TokenPlace) (ts : List Token) → AreRight d count at ts →
     (place_after at ts).labels ≤ count → count < 4294967295 → AreLow ts
 right_low d count at [] right grow few = tt
 right_low d count at (t ∷ ts) right grow few = (

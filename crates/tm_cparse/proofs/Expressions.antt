@@ -56,7 +56,8 @@ can_end root (first_part ∷ ps) x fit is =
       word = sign question ∷ constant 0 ∷ sign colon ∷ constant 0 ∷ sign close_parenthesis ∷ rest.word;
       tree = rest.tree;
       fills = λ after.
-          begins {p = then_part x} {y = num (trees.constant 0)} {s = question} refl refl (zero_expression sorts.Number _)
+          begins {p = then_part x} {y = num (trees.constant 0)} {s = question} refl refl
+          (zero_expression sorts.Number _)
           (goes_on {y = num (trees.constant 0)} {a = trees.constant 0} refl refl (zero_expression sorts.Number _)
           (closes refl refl (rest.fills after)));
     }
@@ -138,8 +139,8 @@ no_operand root ps here fit none =
     ))
     (λ x other rest first is.
     true≢false
-    (sym (starts is.operand is.next) ∙ ap (λ (l : List Token). is_start (first_of l)) (sym is.is.are) ∙ ap is_start first
-    ∙ none))
+    (sym (starts is.operand is.next) ∙ ap (λ (l : List Token). is_start (first_of l)) (sym is.is.are)
+    ∙ ap is_start first ∙ none))
 
 -- an operand of one token
 leaf_tokens : (t : Token) (a : NumTree) → leaf_of t ≡ Some a → num_tokens a ≡ t ∷ []

@@ -59,9 +59,14 @@ if_asked sorts.Number p q is = absurd (cc)
 
 -- a first operand, before an operator that begins a part
 first_operand : {root : Sort} {ps : List PartTree} {t : TruthTree} {other after : List Token} (y : TruthTree)
-    (next : List Token) → TruthInRange y → other ≡ truth_tokens y ++ next → Fills root (first_part ∷ ps) y next t after →
-    IsAwaited root (first_part ∷ ps) t other after
-first_operand y next fits are fills = record { operand = y; next = next; is = record { fits = (tt, fits); are = are }; fills = fills }
+    (next : List Token) → TruthInRange y → other ≡ truth_tokens y ++ next →
+    Fills root (first_part ∷ ps) y next t after → IsAwaited root (first_part ∷ ps) t other after
+first_operand y next fits are fills = record {
+  operand = y;
+  next = next;
+  is = record { fits = (tt, fits); are = are };
+  fills = fills;
+}
 
 -- what stands behind a parenthesis that opens an operand, where no sign in front follows
 pub unrolled : (root : Sort) (ps : List PartTree) (x t : TruthTree) (other next after : List Token) →
@@ -100,7 +105,8 @@ unrolled root ps (trees.negation u) t other next after fits are no_tilde no_bang
     absurd (no_bang wants (ap first_of (same_tail are)))
 unrolled root ps (trees.compare op a b) t other next after fits are no_tilde no_bang fills =
     let s = sign (comparing op) in
-    let wants : wanted root ps ≡ sorts.Truth = wants_truth (wanted root ps) (trees.compare op a b) (λ a. λ e. cc) fits.0 in
+    let wants : wanted root ps ≡ sorts.Truth =
+    wants_truth (wanted root ps) (trees.compare op a b) (λ a. λ e. cc) fits.0 in
     first_operand (num a) (s ∷ (num_tokens b ++ close ∷ next)) fits.1.0
     (same_tail are ∙ two_parts (num_tokens a) (num_tokens b) next s close)
     (begins {p = compare_part op a} {y = num b} {s = comparing op} {behind = num_tokens b ++ close ∷ next}
@@ -133,7 +139,8 @@ rolled_binary : (root : Sort) (ps : List PartTree) (a : NumTree) (op : NumOperat
     (other behind next after : List Token) → NumInRange a → other ≡ num_tokens a ++ (sign (arithmetic op) ∷ behind) →
     IsExpression sorts.Number y behind next → Fills root (binary_part op a ∷ ps) y next t after →
     IsAwaited root ps t (left ∷ other) after
-rolled_binary root ps a op y t other behind next after fits are is (closes {y = z} {behind = rest} closed tokens fills) =
+rolled_binary root ps a op y t other behind next after fits are is
+    (closes {y = z} {behind = rest} closed tokens fills) =
     let n = as_number y is.fits.0 in
     closed_operand (binary_part op a) y z (num (trees.binary op a n.0)) closed (ap (closed_by (binary_part op a)) n.1)
     tokens (num_of (wanted root ps) _, (fits, subst TruthInRange n.1 is.fits.1))

@@ -6,7 +6,7 @@ use Rattle.tm_cparse.specs.declared.bad.BadDriver.{BadDriver}
 use Rattle.tm_cparse.specs.declared.bad.BadDriver.TheVariants.{Text, UnknownName, BackwardGoto}
 use Rattle.tm_cparse.specs.declared.names.Before.{Before}
 use Rattle.tm_cparse.specs.declared.names.Before.TheVariants.{Goto, Leave, Process, Other}
-use Rattle.tm_cparse.specs.declared.names.Place.{Place}
+use Rattle.tm_cparse.specs.declared.names.TokenPlace.{TokenPlace}
 use Rattle.tm_cparse.specs.declared.spot.Spot.{Spot}
 use Rattle.tm_cparse.specs.View.{token_tree, tokens_of}
 use Rattle.tm_cparse.specs.Faults.{label_count, EndsWithGoto, names_item, IsNameFault}
@@ -57,7 +57,7 @@ right_label count n k Process other right = right
 right_label count n k Other other right = right
 
 -- a token that is right is at no fault
-pub right_no_fault : (d : DesignTree) (count : ℕ) (at : Place) (t : Token) (known : Bool) (line : ℕ)
+pub right_no_fault : (d : DesignTree) (count : ℕ) (at : TokenPlace) (t : Token) (known : Bool) (line : ℕ)
     (others : List Token) (bad : BadDriver) → (names_item t ≡ true → known ≡ true) → IsRight d count at t others →
     IsFaultAt d count at t known line others bad → ⊥
 right_no_fault d count at t known line others bad item right (unknown names unknown_is) =
@@ -91,7 +91,7 @@ right_no_fault d count at t known line others bad item right (wrong_count args r
     wrong ((subst (λ (u : Token). IsRight d count at u others) is right) args rest behind)
 
 -- where the first fault stands
-pub record IsSplit (d : DesignTree) (count : ℕ) (at : Place) (spots : List Spot) (bad : BadDriver) : Type 0 where
+pub record IsSplit (d : DesignTree) (count : ℕ) (at : TokenPlace) (spots : List Spot) (bad : BadDriver) : Type 0 where
   pub front : List Spot
   pub spot : Spot
   pub others : List Spot
@@ -103,7 +103,7 @@ pub record IsSplit (d : DesignTree) (count : ℕ) (at : Place) (spots : List Spo
       ¬ IsFaultAt d count (place_after at (tokens_of before)) (token_tree s.token) s.known s.line (tokens_of behind)
       other
 
-pub split : (d : DesignTree) (count : ℕ) {at : Place} {spots : List Spot} {bad : BadDriver} →
+pub split : (d : DesignTree) (count : ℕ) {at : TokenPlace} {spots : List Spot} {bad : BadDriver} →
     IsFirstFault d count at spots bad → IsSplit d count at spots bad
 split d count (here {s = s} {others = others} fault) = record {
   front = [];
@@ -146,7 +146,7 @@ split d count {bad = bad} (later {at = at} {s = s} {others = others} item right 
         t.known t.line (tokens_of behind) other) same fault)
 
 -- what all tokens are, each is
-pub right_at : (d : DesignTree) (count : ℕ) (at : Place) (front : List Spot) (s : Spot) (others : List Spot) →
+pub right_at : (d : DesignTree) (count : ℕ) (at : TokenPlace) (front : List Spot) (s : Spot) (others : List Spot) →
     AreRight d count at (tokens_of (front ++ s ∷ others)) →
     IsRight d count (place_after at (tokens_of front)) (token_tree s.token) (tokens_of others)
 right_at d count at [] s others right = right.0
@@ -171,12 +171,12 @@ abbrev task_bad : Bool → ℕ → BadDriver
 task_bad true line = Text line
 task_bad false line = UnknownName line
 
-abbrev pub bad_of : Place → Token → Bool → ℕ → BadDriver
+abbrev pub bad_of : TokenPlace → Token → Bool → ℕ → BadDriver
 bad_of at (label k) known line = label_bad at.labels at.before k line
 bad_of at (task k) known line = task_bad known line
 bad_of at t known line = UnknownName line
 
-unknown_is : (at : Place) (t : Token) (known : Bool) (line : ℕ) → names_item t ≡ true → known ≡ false →
+unknown_is : (at : TokenPlace) (t : Token) (known : Bool) (line : ℕ) → names_item t ≡ true → known ≡ false →
     UnknownName line ≡ bad_of at t known line
 unknown_is at (variable k) known line item off = refl
 unknown_is at (location k) known line item off = refl
@@ -199,8 +199,8 @@ plain_label labels k line Leave other = refl
 plain_label labels k line Process other = refl
 plain_label labels k line Other other = refl
 
-pub fault_is : (d : DesignTree) (count : ℕ) (at : Place) (t : Token) (known : Bool) (line : ℕ) (others : List Token)
-    (bad : BadDriver) → at.labels ≤ count → IsFaultAt d count at t known line others bad →
+pub fault_is : (d : DesignTree) (count : ℕ) (at : TokenPlace) (t : Token) (known : Bool) (line : ℕ)
+    (others : List Token) (bad : BadDriver) → at.labels ≤ count → IsFaultAt d count at t known line others bad →
     bad ≡ bad_of at t known line
 fault_is d count at t known line others bad few (unknown item off) = unknown_is at t known line item off
 fault_is d count at t known line others bad few (no_process before is none) =

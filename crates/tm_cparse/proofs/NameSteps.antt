@@ -8,7 +8,7 @@ use Rattle.tm_cir.specs.Text.Grammar.{parenthesized, num_tokens, argument_tokens
 use Rattle.tm_cparse.specs.declared.bad.BadDriver.{BadDriver}
 use Rattle.tm_cparse.specs.declared.bad.BadDriver.TheVariants.{Text, UnknownName}
 use Rattle.tm_cparse.specs.declared.names.Before.TheVariants.{Process}
-use Rattle.tm_cparse.specs.declared.names.Place.{Place}
+use Rattle.tm_cparse.specs.declared.names.TokenPlace.{TokenPlace}
 use Rattle.tm_cparse.specs.declared.spot.Spot.{Spot}
 use Rattle.tm_cparse.specs.View.{token_tree, tokens_of}
 use Rattle.tm_cparse.specs.Faults.{names_item, TakesArguments}
@@ -19,7 +19,7 @@ use Rattle.tm_cparse.proofs.Walks.{more_tokens, count_arguments}
 use Rattle.tm_cparse.proofs.DriverCut.{labels_few}
 
 -- what is found in the rest is found in the whole
-pub record IsSoFar (d : DesignTree) (count : ℕ) (spots : List Spot) (at : Place) (rest : List Spot) : Type 0 where
+pub record IsSoFar (d : DesignTree) (count : ℕ) (spots : List Spot) (at : TokenPlace) (rest : List Spot) : Type 0 where
   pub have : HaveArguments (tokens_of rest)
   pub known : AreKnown rest → AreKnown spots
   pub right : AreRight d count at (tokens_of rest) → AreRight d count first_place (tokens_of spots)
@@ -44,7 +44,7 @@ have_tail (constant n) ts have = have
 have_tail (sign s) ts have = have
 
 -- a token that is right
-pub goes_on : (d : DesignTree) (count : ℕ) (spots : List Spot) (at : Place) (rest behind : List Spot) (s : Spot) →
+pub goes_on : (d : DesignTree) (count : ℕ) (spots : List Spot) (at : TokenPlace) (rest behind : List Spot) (s : Spot) →
     IsSoFar d count spots at rest → rest ≡ s ∷ behind →
     (names_item (token_tree s.token) ≡ true → s.known ≡ true)
     × IsRight d count at (token_tree s.token) (tokens_of behind) →
@@ -59,27 +59,28 @@ goes_on d count spots at rest behind s so_far is right =
       fault = λ bad fault. here_is.fault bad (later right.0 right.1 fault);
     }
 
-pub have_here : (d : DesignTree) (count : ℕ) (spots : List Spot) (at : Place) (rest behind : List Spot) (s : Spot) →
-    IsSoFar d count spots at rest → rest ≡ s ∷ behind → HaveArguments (token_tree s.token ∷ tokens_of behind)
+pub have_here : (d : DesignTree) (count : ℕ) (spots : List Spot) (at : TokenPlace) (rest behind : List Spot)
+    (s : Spot) → IsSoFar d count spots at rest → rest ≡ s ∷ behind →
+    HaveArguments (token_tree s.token ∷ tokens_of behind)
 have_here d count spots at rest behind s so_far is =
     subst (λ (l : List Spot). HaveArguments (tokens_of l)) is so_far.have
 
 -- labels are at most the tokens before
-pub step_few : (spots rest behind : List Spot) (s : Spot) (at next : Place) → rest ≡ s ∷ behind →
+pub step_few : (spots rest behind : List Spot) (s : Spot) (at next : TokenPlace) → rest ≡ s ∷ behind →
     next ≡ place_behind at (token_tree s.token) → at.labels + length rest ≤ length spots →
     next.labels + length behind ≤ length spots
 step_few spots rest behind s at next is goes few =
     omega (
       arith,
       ap length is,
-      ap (λ (p : Place). p.labels) goes,
+      ap (λ (p : TokenPlace). p.labels) goes,
       labels_few at.labels at.before (token_tree
           s.token),
       few,
     )
 
 -- a token at fault
-pub ends_here : (d : DesignTree) (count : ℕ) (spots : List Spot) (at : Place) (rest behind : List Spot) (s : Spot)
+pub ends_here : (d : DesignTree) (count : ℕ) (spots : List Spot) (at : TokenPlace) (rest behind : List Spot) (s : Spot)
     (bad : BadDriver) → IsSoFar d count spots at rest → rest ≡ s ∷ behind →
     IsFaultAt d count at (token_tree s.token) s.known s.line (tokens_of behind) bad →
     IsFirstFault d count first_place spots bad
@@ -87,12 +88,14 @@ ends_here d count spots at rest behind s bad so_far is fault =
     so_far.fault bad (subst (λ (l : List Spot). IsFirstFault d count at l bad) (sym is) (here fault))
 
 -- no token was at fault
-pub all_right : (d : DesignTree) (count : ℕ) (spots : List Spot) (at : Place) (rest : List Spot) →
+pub all_right : (d : DesignTree) (count : ℕ) (spots : List Spot) (at : TokenPlace) (rest : List Spot) →
     IsSoFar d count spots at rest → rest ≡ [] →
     AreKnown spots × AreRight d count first_place (tokens_of spots)
 all_right d count spots at rest so_far is =
     let here_is : IsSoFar d count spots at [] = subst (λ (l : List Spot). IsSoFar d count spots at l) is so_far in
     (here_is.known tt, here_is.right tt)
+
+pub ruleset first_fault_steps = (begins, have_here, ends_here, all_right)
 
 pub not_low : (p n : ℕ) → ltb p n ≡ false → n ≤ p
 not_low p n high = grind (arith, nat_tests)
@@ -106,7 +109,7 @@ not_both p n m none = of (ltb p n) (ltb p m) refl refl
     of false w high few = inl (not_low p n high)
     of true false low high = inr (not_low p m high)
 
-pub no_process_there : (d : DesignTree) (count : ℕ) (at : Place) (p : ℕ) (known : Bool) (line : ℕ)
+pub no_process_there : (d : DesignTree) (count : ℕ) (at : TokenPlace) (p : ℕ) (known : Bool) (line : ℕ)
     (others : List Token) → at.before ≡ Process → ¬ IsRightConstant d Process p →
     IsFaultAt d count at (constant p) known line others (UnknownName line)
 no_process_there d count at p known line others before none =
@@ -166,14 +169,14 @@ HasArguments ts =
     (args : List NumTree) × (rest : List Token) × (ts ≡ parenthesized (argument_tokens args) ++ sign semicolon ∷ rest)
 
 pub right_count : (d : DesignTree) (k n : ℕ) (others : List Token) → HasArguments others → Counts others n →
-    TakesArguments d k n → (count : ℕ) (at : Place) → IsRight d count at (task k) others
+    TakesArguments d k n → (count : ℕ) (at : TokenPlace) → IsRight d count at (task k) others
 right_count d k n others have counts takes count at args rest is =
     let same : have.0 ≡ args = one_list have.0 args others (sign semicolon ∷ have.1) rest have.2 is in
     subst (λ (l : List NumTree). TakesArguments d k (length l)) same
     (subst (λ (m : ℕ). TakesArguments d k m) (counts have.0 have.1 have.2) takes)
 
 pub wrong_count_there : (d : DesignTree) (k n line : ℕ) (others : List Token) → HasArguments others → Counts others n →
-    ¬ TakesArguments d k n → (count : ℕ) (at : Place) →
+    ¬ TakesArguments d k n → (count : ℕ) (at : TokenPlace) →
     IsFaultAt d count at (task k) true line others (Text line)
 wrong_count_there d k n line others have counts wrong count at =
     wrong_count have.0 (sign semicolon ∷ have.1) refl refl have.2

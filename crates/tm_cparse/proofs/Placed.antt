@@ -5,7 +5,7 @@ use Rattle.tm_cir.specs.Tree.{NumTree, TruthTree, BlockTree, test, call, leave, 
 use Rattle.tm_cir.specs.Text.Token.{Token, word, label, task, sign, void, driver_turn, if_word, else_word, goto, return_word, open_parenthesis, close_parenthesis, open_brace, close_brace, colon, semicolon}
 use Rattle.tm_cir.specs.Text.Grammar.{parenthesized, truth_tokens, argument_tokens, statement_tokens, block_tokens, driver_tokens}
 use Rattle.tm_cparse.specs.declared.names.Before.TheVariants.{Goto, Process}
-use Rattle.tm_cparse.specs.declared.names.Place.{Place}
+use Rattle.tm_cparse.specs.declared.names.TokenPlace.{TokenPlace}
 use Rattle.tm_cparse.specs.Written.{WrittenBlock, written_tokens, function_tokens, AreWritten}
 use Rattle.tm_cparse.specs.Faults.{TakesArguments}
 use Rattle.tm_cparse.specs.Inner.Names.{place_after, first_place, IsRightLabel, IsRightConstant, AreRight, HaveArguments}
@@ -195,7 +195,7 @@ right_function d count ws right = (tt, (tt, (tt, (tt, (tt, (tt, right_blocks d c
 
 pub label_count_is : (ws : List WrittenBlock) → (place_after first_place (function_tokens ws)).labels ≡ length ws
 label_count_is ws =
-    let same : 0 + length ws ≡ length ws = omega arith in ap (λ (p : Place). p.labels) (place_blocks 0 ws) ∙ same
+    let same : 0 + length ws ≡ length ws = omega arith in ap (λ (p : TokenPlace). p.labels) (place_blocks 0 ws) ∙ same
 
 pub written_have : (tokens : List Token) → (bs : List WrittenBlock) × AreWritten tokens bs → HaveArguments tokens
 written_have tokens w = subst HaveArguments (sym w.1.are) (have_blocks w.0)

@@ -3,17 +3,17 @@ use Rattle.std.proofs.Common.{◌≡◌, ◌≢◌, ℕ, ◌+◌, List, [], ◌�
 use Rattle.tm_cir.specs.Text.Token.{Token, word, label, variable, location, task, constant, sign, Word, void, driver_turn, if_word, else_word, goto, return_word, termite_leave, termite_goal, termite_last, Sign, open_parenthesis}
 use Rattle.tm_cparse.specs.declared.names.Before.{Before}
 use Rattle.tm_cparse.specs.declared.names.Before.TheVariants.{Goto, Leave, Process, Other}
-use Rattle.tm_cparse.specs.declared.names.Place.{Place}
+use Rattle.tm_cparse.specs.declared.names.TokenPlace.{TokenPlace}
 use Rattle.tm_cparse.specs.Faults.{label_count, EndsWithGoto}
 use Rattle.tm_cparse.specs.Inner.Names.{before_of_word, before_of_sign, before_behind, labels_of_label, place_behind, place_after, first_place}
 
 -- one token more
-pub after_more : (at : Place) (ts : List Token) (t : Token) →
+pub after_more : (at : TokenPlace) (ts : List Token) (t : Token) →
     place_after at (ts ++ t ∷ []) ≡ place_behind (place_after at ts) t
 after_more at [] t = refl
 after_more at (u ∷ ts) t = after_more (place_behind at u) ts t
 
-pub after_both : (at : Place) (xs ys : List Token) → place_after at (xs ++ ys) ≡ place_after (place_after at xs) ys
+pub after_both : (at : TokenPlace) (xs ys : List Token) → place_after at (xs ++ ys) ≡ place_after (place_after at xs) ys
 after_both at [] ys = refl
 after_both at (x ∷ xs) ys = after_both (place_behind at x) xs ys
 
@@ -117,7 +117,7 @@ abbrev before_after : List Token → Before
 before_after ts = (place_after first_place ts).before
 
 before_more : (ts : List Token) (t : Token) → before_after (ts ++ t ∷ []) ≡ before_behind (before_after ts) t
-before_more ts t = ap (λ (p : Place). p.before) (after_more first_place ts t)
+before_more ts t = ap (λ (p : TokenPlace). p.before) (after_more first_place ts t)
 
 -- a jump stands last
 pub goto_last : (ts : List Token) → EndsWithGoto ts → (place_after first_place ts).before ≡ Goto

@@ -81,7 +81,8 @@ pub moved_colon : (root : Sort) (ps : List PartTree) (u x : TruthTree) (a : NumT
     Moves (IsLeft root (then_part u ∷ ps) (Some x)) (IsLeft root (else_part u a ∷ ps) None) tokens rest
 moved_colon root ps u x a tokens rest same is =
     subst
-    (λ (y : TruthTree). Moves (IsLeft root (then_part u ∷ ps) (Some y)) (IsLeft root (else_part u a ∷ ps) None) tokens rest)
+    (λ (y : TruthTree).
+    Moves (IsLeft root (then_part u ∷ ps) (Some y)) (IsLeft root (else_part u a ∷ ps) None) tokens rest)
     same
     (subst
     (λ (l : List Token).
@@ -163,8 +164,8 @@ pub moved_operator : (root : Sort) (ps : List PartTree) (s : Sign) (x : TruthTre
     (tokens rest : List Token) → begun_by (wanted root ps) s x ≡ Some p → tokens ≡ sign s ∷ rest →
     Moves (IsLeft root (first_part ∷ ps) (Some x)) (IsLeft root (p ∷ ps) None) tokens rest
 moved_operator root ps s x p tokens rest begun is =
-    subst (λ (l : List Token). Moves (IsLeft root (first_part ∷ ps) (Some x)) (IsLeft root (p ∷ ps) None) l rest) (sym is)
-    (moves_operator root ps s x p rest begun)
+    subst (λ (l : List Token). Moves (IsLeft root (first_part ∷ ps) (Some x)) (IsLeft root (p ∷ ps) None) l rest)
+    (sym is) (moves_operator root ps s x p rest begun)
 
 begun_truth : (s : Sort) (p q : PartTree) → (s ≡ sorts.Truth → FitsPart s p) → if_truth s p ≡ Some q → FitsPart s q
 begun_truth sorts.Truth p q fits is = subst (FitsPart sorts.Truth) (same_inside is) (fits refl)
@@ -183,7 +184,8 @@ pub no_sign_there : (root : Sort) (ps : List PartTree) (x : TruthTree) (tokens :
     IsFitting sorts.Truth x → ((s : Sign) → first_of tokens ≢ Some (sign s)) →
     IsBlocked (IsLeft root (first_part ∷ ps) (Some x)) tokens tokens
 no_sign_there root ps x tokens fit fits none =
-    no_operator root ps x tokens (tt, fit) fits (λ s p is. absurd (none s is)) (λ op a is. absurd (none (shifting op) is))
+    no_operator root ps x tokens (tt, fit) fits (λ s p is. absurd (none s is))
+    (λ op a is. absurd (none (shifting op) is))
 
 not_begun : {s r : Sign} {rest here : List Token} → here ≡ sign s ∷ rest → first_of here ≡ Some (sign r) → r ≡ s
 not_begun is first = let both : Some (sign _) ≡ Some (sign _) = sym first ∙ ap first_of is in cc
@@ -213,16 +215,18 @@ pub moved_shift : (root : Sort) (ps : List PartTree) (op : ShiftOperator) (a : N
     (tokens rest : List Token) → x ≡ num a → tokens ≡ sign (shifting op) ∷ rest →
     Moves (IsLeft root (first_part ∷ ps) (Some x)) (IsAmount root ps op a) tokens rest
 moved_shift root ps op a x tokens rest same is =
-    subst (λ (y : TruthTree). Moves (IsLeft root (first_part ∷ ps) (Some y)) (IsAmount root ps op a) tokens rest) (sym same)
-    (subst (λ (l : List Token). Moves (IsLeft root (first_part ∷ ps) (Some (num a))) (IsAmount root ps op a) l rest) (sym is)
-    (moves_shift root ps op a rest))
+    subst (λ (y : TruthTree). Moves (IsLeft root (first_part ∷ ps) (Some y)) (IsAmount root ps op a) tokens rest)
+    (sym same)
+    (subst (λ (l : List Token). Moves (IsLeft root (first_part ∷ ps) (Some (num a))) (IsAmount root ps op a) l rest)
+    (sym is) (moves_shift root ps op a rest))
 
 pub moved_amount : (root : Sort) (ps : List PartTree) (op : ShiftOperator) (a : NumTree) (by : ℕ) (y : TruthTree)
     (tokens middle rest : List Token) → by < 64 → y ≡ num (trees.shift op a by) → tokens ≡ constant by ∷ middle →
     middle ≡ close ∷ rest → Moves (IsAmount root ps op a) (IsLeft root ps (Some y)) tokens rest
 moved_amount root ps op a by y tokens middle rest low same is ends =
     subst (λ (z : TruthTree). Moves (IsAmount root ps op a) (IsLeft root ps (Some z)) tokens rest) (sym same)
-    (subst (λ (l : List Token). Moves (IsAmount root ps op a) (IsLeft root ps (Some (num (trees.shift op a by)))) l rest)
+    (subst
+    (λ (l : List Token). Moves (IsAmount root ps op a) (IsLeft root ps (Some (num (trees.shift op a by)))) l rest)
     (sym (is ∙ ap (λ (l : List Token). constant by ∷ l) ends))
     (moves_then (moves_amount root ps op a by (close ∷ rest) low)
     (moves_end root ps (num (trees.shift op a by)) rest)))

@@ -54,8 +54,8 @@ taken_behind old new others all n put is =
     is ∙ ap (λ (l : List ℕ). l ++ others) put ∙ append_assoc old (n ∷ []) others
 
 -- a token of a row was read
-pub moves_slot : (slot : Slot) (ss : List Slot) (old new : List ℕ) (ts rest : List Token) → IsSlot slot old new ts rest →
-    Moves (IsRowLeft (slot ∷ ss) old) (IsRowLeft ss new) ts rest
+pub moves_slot : (slot : Slot) (ss : List Slot) (old new : List ℕ) (ts rest : List Token) →
+    IsSlot slot old new ts rest → Moves (IsRowLeft (slot ∷ ss) old) (IsRowLeft ss new) ts rest
 moves_slot (slots.Given t) ss old new ts rest slot =
     subst (λ (l : List Token). Moves (IsRowLeft (slots.Given t ∷ ss) old) (IsRowLeft ss new) l rest) (sym slot.1)
     (moves_one (token_tree t) rest
@@ -212,7 +212,8 @@ moves_next ss i slot old new ts rest next is =
     (moves_slot slot (drop (i + 1) ss) old new ts rest is)
 
 pub no_next : (ss : List Slot) (i : ℕ) (slot : Slot) (old : List ℕ) (spots : List Spot) (e : Stop) →
-    drop i ss ≡ slot ∷ drop (i + 1) ss → IsNoSlot slot spots e → IsRefused (IsRowLeft (drop i ss) old) (tokens_of spots) e
+    drop i ss ≡ slot ∷ drop (i + 1) ss → IsNoSlot slot spots e →
+    IsRefused (IsRowLeft (drop i ss) old) (tokens_of spots) e
 no_next ss i slot old spots e next is =
     subst (λ (l : List Slot). IsRefused (IsRowLeft l old) (tokens_of spots) e) (sym next)
     (no_slot slot (drop (i + 1) ss) old spots e is)

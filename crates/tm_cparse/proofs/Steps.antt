@@ -78,7 +78,8 @@ moves_colon root ps u a rest =
     moves_one (sign colon) rest (λ t other after first fills. of fills)
     (λ t other after is. goes_on refl refl is.is is.fills)
   where
-    of : {t : TruthTree} {other after : List Token} → Fills root (then_part u ∷ ps) (num a) (sign colon ∷ other) t after →
+    of : {t : TruthTree} {other after : List Token} →
+        Fills root (then_part u ∷ ps) (num a) (sign colon ∷ other) t after →
         IsAwaited root (else_part u a ∷ ps) t other after
     of (closes closed tokens fills) = absurd (cc)
     of {t = t} {after = after} (goes_on {y = y} {a = b} {next = next} same tokens operand fills) =

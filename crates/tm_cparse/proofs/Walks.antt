@@ -8,7 +8,7 @@ use Rattle.tm_cir.specs.Text.Token.{Token, word, label, variable, location, task
 use Rattle.tm_cir.specs.Text.Grammar.{num_tokens, truth_tokens, argument_tokens}
 use Rattle.tm_cparse.specs.declared.names.Before.{Before}
 use Rattle.tm_cparse.specs.declared.names.Before.TheVariants.{Other}
-use Rattle.tm_cparse.specs.declared.names.Place.{Place}
+use Rattle.tm_cparse.specs.declared.names.TokenPlace.{TokenPlace}
 use Rattle.tm_cparse.specs.Inner.Names.{before_behind, place_behind, place_after, IsRight, AreRight, HaveArguments, is_comma, is_semicolon, comma_count}
 
 abbrev close_mark : Token
@@ -83,7 +83,7 @@ mutual
   )
 
 -- the place behind so many labels, with nothing before it that tells what is named
-abbrev pub outside : ℕ → Place
+abbrev pub outside : ℕ → TokenPlace
 outside n = record { labels = n; before = Other }
 
 -- such a token, or a comma or a semicolon
@@ -168,7 +168,7 @@ pub plain_places : (n : ℕ) (xs ys : List Token) → ArePlain xs →
     place_after (outside n) (xs ++ ys) ≡ place_after (outside n) ys
 plain_places n [] ys plain = refl
 plain_places n (x ∷ xs) ys plain =
-    ap (λ (p : Place). place_after p (xs ++ ys)) (plain_place n x plain.0) ∙ plain_places n xs ys plain.1
+    ap (λ (p : TokenPlace). place_after p (xs ++ ys)) (plain_place n x plain.0) ∙ plain_places n xs ys plain.1
 
 plain_right : (d : DesignTree) (count n : ℕ) (t : Token) (others : List Token) → is_plain t ≡ true →
     IsRight d count (outside n) t others
@@ -186,14 +186,14 @@ pub right_behind : (d : DesignTree) (count n : ℕ) (xs ys : List Token) → Are
 right_behind d count n [] ys plain right = right
 right_behind d count n (x ∷ xs) ys plain right =
     right_behind d count n xs ys plain.1
-    (subst (λ (p : Place). AreRight d count p (xs ++ ys)) (plain_place n x plain.0) right.1)
+    (subst (λ (p : TokenPlace). AreRight d count p (xs ++ ys)) (plain_place n x plain.0) right.1)
 
 pub right_before : (d : DesignTree) (count n : ℕ) (xs ys : List Token) → ArePlain xs →
     AreRight d count (outside n) ys → AreRight d count (outside n) (xs ++ ys)
 right_before d count n [] ys plain right = right
 right_before d count n (x ∷ xs) ys plain right = (
   plain_right d count n x (xs ++ ys) plain.0,
-  subst (λ (p : Place). AreRight d count p (xs ++ ys)) (sym (plain_place n x plain.0))
+  subst (λ (p : TokenPlace). AreRight d count p (xs ++ ys)) (sym (plain_place n x plain.0))
       (right_before d count n xs ys plain.1 right),
 )
 

@@ -8,13 +8,13 @@ ghost use Rattle.tm_cparse.specs.declared.part.Sort.{Sort};
 ghost use Rattle.tm_cparse.specs.View.{token_tree, sign_tree, tokens_of};
 ghost use Rattle.tm_cparse.specs.Written.{NumInRange};
 ghost use Rattle.tm_cparse.specs.Inner.Reading.{IsRefused, Moves};
-ghost use Rattle.tm_cparse.specs.Inner.Parts.{PartTree, part_tree, part_trees, IsOf, IsExpression, sort_of, wanted, leaf_of, Opens, FitParts, FitsOperand, IsFitting, IsLeft, IsAmount, Closes, first_part, then_part, sign_in};
+ghost use Rattle.tm_cparse.specs.Inner.Parts.{PartTree, part_tree, part_trees, IsOf, IsExpression, sort_of, leaf_of, Opens, FitParts, FitsOperand, IsFitting, IsLeft, IsAmount, Closes, first_part, then_part, sign_in};
 
-use crate::part::{Part, Sort, begun, closed, number_in, number_of, part_sort, shifted};
+use crate::part::{Part, Sort, begun, closed, number_in, number_of, shifted};
 use crate::spot::{Read, Spot, Stop, amount, need_sign, parted, taken};
 use crate::token::{Sign, Token, Word};
+use crate::waiting::WaitingParts;
 use std::alloc::Global;
-use std::collections::LinkedList;
 use tm_bits::ShiftOperator;
 use tm_cir::{Num64, Truth};
 
@@ -48,13 +48,13 @@ fn expression(alloc: Global, sort: Sort, spots: &[Spot]) -> Read<'_, Truth>
     ensures shorter { IfOk result (λ r. length r.1.now < length spots.now) }
     ensures refused { IfErr result (IsRefused (IsExpression sort) (tokens_of spots.now)) }
 {
-    let mut parts = LinkedList::new(alloc);
+    let mut parts = WaitingParts::new(alloc);
     let mut operand = None;
     let mut rest = spots;
     loop {
         let step = match operand {
             None => down(sort, &mut parts, rest)?,
-            Some(truth) => match parts.pop_front() {
+            Some(truth) => match parts.pop() {
                 None => return Ok((truth, rest)),
                 Some(part) => up(alloc, sort, &mut parts, part, truth, rest)?,
             },
@@ -64,18 +64,8 @@ fn expression(alloc: Global, sort: Sort, spots: &[Spot]) -> Read<'_, Truth>
     }
 }
 
-/// What the place before these parts asks for.
-fn wanted(sort: Sort, parts: &LinkedList<Part>) -> Sort
-    ensures { result ≡ wanted sort (part_trees parts.now) }
-{
-    match parts.front() {
-        Some(part) => part_sort(part),
-        None => sort,
-    }
-}
-
 /// Reads an operand of one token, or what begins one in parentheses.
-fn down<'a>(sort: Sort, parts: &mut LinkedList<Part>, spots: &'a [Spot]) -> Step<'a>
+fn down<'a>(sort: Sort, parts: &mut WaitingParts, spots: &'a [Spot]) -> Step<'a>
     requires { FitParts sort (part_trees parts.old) }
     ensures moved { IfOk result (λ r. Moves (IsLeft sort (part_trees parts.old) None)
         (IsLeft sort (part_trees parts.new) (option_map truth_tree r.0)) (tokens_of spots.now) (tokens_of r.1.now)) }
@@ -85,8 +75,8 @@ fn down<'a>(sort: Sort, parts: &mut LinkedList<Part>, spots: &'a [Spot]) -> Step
     ensures refused { IfErr result (IsRefused (IsLeft sort (part_trees parts.old) None) (tokens_of spots.now)) }
 {
     if let Some(rest) = taken(spots, Token::Sign(Sign::OpenParenthesis)) {
-        let (part, rest) = opening(wanted(sort, parts), rest);
-        parts.push_front(part)?;
+        let (part, rest) = opening(parts.wanted(sort), rest);
+        parts.push(part)?;
         return Ok((None, rest));
     }
     match parted(spots) {
@@ -132,7 +122,7 @@ fn opening(sort: Sort, spots: &[Spot]) -> (Part, &[Spot])
 fn up<'a>(
     alloc: Global,
     sort: Sort,
-    parts: &mut LinkedList<Part>,
+    parts: &mut WaitingParts,
     part: Part,
     operand: Truth,
     spots: &'a [Spot],
@@ -158,7 +148,7 @@ fn up<'a>(
 /// Reads `:` behind the first number of `? :`.
 fn second<'a>(
     sort: Sort,
-    parts: &mut LinkedList<Part>,
+    parts: &mut WaitingParts,
     test: Truth,
     operand: Truth,
     spots: &'a [Spot],
@@ -176,7 +166,7 @@ fn second<'a>(
         (tokens_of spots.now)) }
 {
     let rest = need_sign(spots, Sign::Colon)?;
-    parts.push_front(Part::Else(test, number_of(operand)))?;
+    parts.push(Part::Else(test, number_of(operand)))?;
     Ok((None, rest))
 }
 
@@ -201,7 +191,7 @@ fn close(alloc: Global, part: Part, operand: Truth, spots: &[Spot]) -> Step<'_>
 fn operator<'a>(
     alloc: Global,
     sort: Sort,
-    parts: &mut LinkedList<Part>,
+    parts: &mut WaitingParts,
     operand: Truth,
     spots: &'a [Spot],
 ) -> Step<'a>
@@ -228,10 +218,10 @@ fn operator<'a>(
         };
         return shift(alloc, op, a, rest);
     }
-    let Some(part) = begun(wanted(sort, parts), sign, operand) else {
+    let Some(part) = begun(parts.wanted(sort), sign, operand) else {
         return Err(Stop::Unexpected(spots));
     };
-    parts.push_front(part)?;
+    parts.push(part)?;
     Ok((None, rest))
 }
 

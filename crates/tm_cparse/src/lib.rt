@@ -16,6 +16,7 @@ mod sign;
 mod spot;
 mod statement;
 mod token;
+mod waiting;
 
 pub use bad::{BadDriver, ReadDriverError};
 pub use laws::sound_designs_have_names;

@@ -31,7 +31,7 @@ enum Before {
 
 /// Where a token of a driver stands: behind the labels of so many blocks, and behind what.
 #[derive(Clone, Copy, Debug)]
-struct Place {
+struct TokenPlace {
     labels: usize,
     before: Before,
 }
@@ -62,13 +62,13 @@ fn label_count(spots: &[Spot]) -> usize
 }
 
 /// The place of a driver's first token.
-const FIRST_PLACE: Place = Place {
+const FIRST_PLACE: TokenPlace = TokenPlace {
     labels: 0,
     before: Before::Other,
 };
 
 /// The first token at fault of a driver with so many blocks.
-#[tactic(auto, using(crate::proofs::NameSteps::begins, crate::proofs::NameSteps::have_here, crate::proofs::NameSteps::ends_here, crate::proofs::NameSteps::all_right))]
+#[tactic(auto, using(crate::proofs::NameSteps::first_fault_steps))]
 fn fault_within(design: &Design, count: usize, spots: &[Spot]) -> Option<BadDriver>
     requires { HaveArguments (tokens_of spots.now) }
     ensures { MatchOption result
@@ -88,11 +88,11 @@ fn fault_within(design: &Design, count: usize, spots: &[Spot]) -> Option<BadDriv
 }
 
 /// The place behind a token.
-fn place_behind(place: Place, token: Token) -> Place
+fn place_behind(place: TokenPlace, token: Token) -> TokenPlace
     requires { place.labels + 1 < 2 ^ 64 }
     ensures { result ≡ place_behind place (token_tree token) }
 {
-    Place {
+    TokenPlace {
         labels: labels_behind(place.labels, place.before, token),
         before: before_behind(place.before, token),
     }
@@ -123,7 +123,7 @@ fn before_behind(before: Before, token: Token) -> Before
 fn fault_at(
     design: &Design,
     count: usize,
-    place: Place,
+    place: TokenPlace,
     spot: Spot,
     others: &[Spot],
 ) -> Option<BadDriver>
@@ -134,13 +134,14 @@ fn fault_at(
         (IsFaultAt (design_tree design.now) count place (token_tree spot.token) spot.known spot.line
         (tokens_of others.now)) }
 {
+    let line = spot.line as u64;
     if names_item(spot.token) && !spot.known {
-        return Some(BadDriver::UnknownName(spot.line));
+        return Some(BadDriver::UnknownName(line));
     }
     match spot.token {
-        Token::Label(number) => label_fault(count, place, number as usize, spot.line),
-        Token::Constant(number) => constant_fault(design, place, number, spot.line),
-        Token::Task(task) => arguments_fault(design, task, others, spot.line),
+        Token::Label(number) => label_fault(count, place, number as usize, line),
+        Token::Constant(number) => constant_fault(design, place, number, line),
+        Token::Task(task) => arguments_fault(design, task, others, line),
         _ => None,
     }
 }
@@ -155,7 +156,7 @@ fn names_item(token: Token) -> bool
 }
 
 /// The fault of a label: of a target that is no later block, or of a block's label that is not its number.
-fn label_fault(count: usize, place: Place, number: usize, line: u64) -> Option<BadDriver>
+fn label_fault(count: usize, place: TokenPlace, number: usize, line: u64) -> Option<BadDriver>
     ensures { (d : DesignTree) (known : Bool) (others : TokenList)
         → MatchOption result (IsRight d count place (label number) others)
         (IsFaultAt d count place (label number) known line others) }
@@ -176,7 +177,7 @@ fn label_fault(count: usize, place: Place, number: usize, line: u64) -> Option<B
 }
 
 /// The fault of a constant: of the number of no process where a process leaves.
-fn constant_fault(design: &Design, place: Place, number: u64, line: u64) -> Option<BadDriver>
+fn constant_fault(design: &Design, place: TokenPlace, number: u64, line: u64) -> Option<BadDriver>
     ensures { (count : ℕ) (known : Bool) (others : TokenList)
         → MatchOption result (IsRight (design_tree design.now) count place (constant number) others)
         (IsFaultAt (design_tree design.now) count place (constant number) known line others) }
@@ -199,7 +200,7 @@ fn is_process(design: &Design, number: u64) -> bool
 fn arguments_fault(design: &Design, number: u32, others: &[Spot], line: u64) -> Option<BadDriver>
     requires { (args : List NumTree) × (rest : TokenList) ×
         (tokens_of others.now ≡ parenthesized (argument_tokens args) ++ sign semicolon ∷ rest) }
-    ensures { (count : ℕ) (place : Place)
+    ensures { (count : ℕ) (place : TokenPlace)
         → MatchOption result (IsRight (design_tree design.now) count place (task number) (tokens_of others.now))
         (IsFaultAt (design_tree design.now) count place (task number) true line (tokens_of others.now)) }
 {

@@ -34,8 +34,8 @@ pub const MOST_BYTES: usize = 16_777_216;
 /// the order of the text, `UnknownName`, `BackwardGoto`, or `Text` for a `goto` beyond the last block, a label out of
 /// order or a wrong number of arguments. `Memory` is want of memory.
 ///
-/// Over a design whose items have names in C (each path a name with `_` for each dot, fewer than 2^32 of a sort) this is
-/// exact. Linear in the text, and as deep as parentheses nest, 2,048 at most.
+/// Over a design whose items have names in C (each path a name with `_` for each dot, fewer than 2^32 of a sort) this
+/// is exact. Linear in the text, and as deep as parentheses nest, 2,048 at most.
 pub fn read_driver(alloc: Global, design: &Design, text: &[u8]) -> Result<Blocks, ReadDriverError>
     ensures read { IfOk result (λ blocks. IsDriverFile (design_tree design.now) text.now (trees_of blocks)) }
     ensures faulty { IfErr result (IsFaultOf (design_tree design.now) text.now) }
@@ -74,7 +74,7 @@ fn driver_behind(
     line: u64,
 ) -> Result<Blocks, ReadDriverError>
     requires short { length body.now ≤ MOST_BYTES }
-    requires low { line ≤ 2 ^ 32 }
+    requires low { line ≤ 2 ^ 31 }
     ensures read { IfOk result (λ blocks. IsBody (design_tree design.now) line body.now (trees_of blocks)) }
     ensures faulty { IfErr result (IsBodyFault (design_tree design.now) line body.now) }
 {
@@ -136,7 +136,7 @@ fn line_at(scan: &Scan, place: usize) -> u64
     ensures { IsTextLine scan.now.spots.items scan.now.line scan.now.is_whole result }
 {
     match scan.spots.get(place) {
-        Some(spot) => spot.line,
+        Some(spot) => spot.line as u64,
         None => scan.line,
     }
 }

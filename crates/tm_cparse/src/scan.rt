@@ -31,7 +31,7 @@ pub struct Scan {
 
 /// The tokens of a text, which begins on this line.
 pub fn tokens_of(alloc: Global, design: &Design, text: &[u8], line: u64) -> Result<Scan, AllocError>
-    requires { line + length text.now < 2 ^ 64 }
+    requires { line + length text.now < 2 ^ 32 }
     ensures { IfOk result (λ scan.
         IsScan (design_tree design.now) line text.now scan.spots.items scan.line scan.is_whole) }
 {
@@ -100,7 +100,8 @@ pub fn line_behind(line: u64, byte: u8) -> u64
 
 /// The token in front, where so many parentheses are open, and the number of its bytes.
 fn next_spot(design: &Design, text: &[u8], open_count: u32, line: u64) -> Option<(Spot, usize)>
-    requires { BeginsNoBlank text.now }
+    requires no_blank { BeginsNoBlank text.now }
+    requires low { line < 2 ^ 32 }
     ensures { MatchOption result (IsNoSpot open_count line text.now)
         (λ r. IsNextSpot (design_tree design.now) open_count line text.now r.0 r.1) }
 {
@@ -111,7 +112,7 @@ fn next_spot(design: &Design, text: &[u8], open_count: u32, line: u64) -> Option
     let spot = Spot {
         token: found.token,
         known: found.known,
-        line,
+        line: line as u32,
     };
     Some((spot, len))
 }

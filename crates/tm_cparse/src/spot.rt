@@ -7,13 +7,13 @@ ghost use Rattle.tm_cparse.specs.Inner.Reading.{first_of, label_number, constant
 use crate::token::{Sign, Token, Word};
 use std::alloc::{AllocError, AllocFailed};
 
-/// A token in a text: whether it is spelled so over the design (a name of no item is not, nor is a label of more than 32
-/// bits), and its line.
+/// A token in a text: whether it is spelled so over the design (a name of no item is not, nor is a label of more than
+/// 32 bits), and its line. There is one for each token of a text, so it is kept small.
 #[derive(Clone, Copy, Debug)]
 pub struct Spot {
     pub token: Token,
     pub known: bool,
-    pub line: u64,
+    pub line: u32,
 }
 
 /// The first of these tokens continues no driver, or none is left where one is needed; or memory is wanting.

@@ -23,8 +23,8 @@ pub struct Labelled {
     pub statement: Statement,
 }
 
-/// A statement of the function: a test with the labels of both branches, a call of a task with its arguments, a leave of a
-/// process's magic block, or nothing.
+/// A statement of the function: a test with the labels of both branches, a call of a task with its arguments, a leave
+/// of a process's magic block, or nothing.
 #[derive(Drop)]
 pub enum Statement {
     Test(Truth, u64, u64),

@@ -9,7 +9,7 @@ use Rattle.tm_cparse.specs.declared.bad.BadDriver.TheVariants.{Text, UnknownName
 use Rattle.tm_cparse.specs.declared.spot.Spot.{Spot}
 use Rattle.tm_cparse.specs.declared.names.Before.{Before}
 use Rattle.tm_cparse.specs.declared.names.Before.TheVariants.{Goto, Leave, Process, Other}
-use Rattle.tm_cparse.specs.declared.names.Place.{Place}
+use Rattle.tm_cparse.specs.declared.names.TokenPlace.{TokenPlace}
 use Rattle.tm_cparse.specs.View.{token_tree, tokens_of}
 use Rattle.tm_cparse.specs.Faults.{names_item, TakesArguments}
 
@@ -42,15 +42,15 @@ labels_behind labels before (label k) = labels_of_label labels before
 labels_behind labels before t = labels
 
 -- the place behind a token, and behind several
-abbrev pub place_behind : Place → Token → Place
+abbrev pub place_behind : TokenPlace → Token → TokenPlace
 place_behind at t = record { labels = labels_behind at.labels at.before t; before = before_behind at.before t }
 
-abbrev pub place_after : Place → List Token → Place
+abbrev pub place_after : TokenPlace → List Token → TokenPlace
 place_after at [] = at
 place_after at (t ∷ ts) = place_after (place_behind at t) ts
 
 -- the place of a driver's first token
-abbrev pub first_place : Place
+abbrev pub first_place : TokenPlace
 first_place = record { labels = 0; before = Other }
 
 -- a target is a later block; any other label is the number of the block before which it stands
@@ -64,7 +64,7 @@ IsRightConstant d Process p = (p < length d.processes) × (p < 2 ^ 32)
 IsRightConstant d before p = Unit {0}
 
 -- a token of a driver with so many blocks names what there is, as far as its number tells; behind it stand `others`
-abbrev pub IsRight : DesignTree → ℕ → Place → Token → List Token → Type 0
+abbrev pub IsRight : DesignTree → ℕ → TokenPlace → Token → List Token → Type 0
 IsRight d count at (label k) others = IsRightLabel count at.labels at.before k
 IsRight d count at (constant p) others = IsRightConstant d at.before p
 IsRight d count at (task k) others =
@@ -73,7 +73,7 @@ IsRight d count at (task k) others =
 IsRight d count at t others = Unit {0}
 
 -- the same of all tokens from a place on
-abbrev pub AreRight : DesignTree → ℕ → Place → List Token → Type 0
+abbrev pub AreRight : DesignTree → ℕ → TokenPlace → List Token → Type 0
 AreRight d count at [] = Unit {0}
 AreRight d count at (t ∷ ts) = IsRight d count at t ts × AreRight d count (place_behind at t) ts
 
@@ -83,7 +83,7 @@ AreKnown [] = Unit {0}
 AreKnown (s ∷ ss) = (names_item (token_tree s.token) ≡ true → s.known ≡ true) × AreKnown ss
 
 -- the token is at fault
-pub data IsFaultAt (d : DesignTree) (count : ℕ) (at : Place) (t : Token) (known : Bool) (line : ℕ)
+pub data IsFaultAt (d : DesignTree) (count : ℕ) (at : TokenPlace) (t : Token) (known : Bool) (line : ℕ)
     (others : List Token) : BadDriver → Type 0 where
   unknown : names_item t ≡ true → known ≡ false → IsFaultAt d count at t known line others (UnknownName line)
   no_process : {p : ℕ} → at.before ≡ Process → t ≡ constant p → (length d.processes ≤ p) ⊎ (2 ^ 32 ≤ p) →
@@ -98,11 +98,11 @@ pub data IsFaultAt (d : DesignTree) (count : ℕ) (at : Place) (t : Token) (know
       IsFaultAt d count at t known line others (Text line)
 
 -- the first token at fault from a place on
-pub data IsFirstFault (d : DesignTree) (count : ℕ) : Place → List Spot → BadDriver → Type 0 where
-  here : {at : Place} {s : Spot} {others : List Spot} {bad : BadDriver} →
+pub data IsFirstFault (d : DesignTree) (count : ℕ) : TokenPlace → List Spot → BadDriver → Type 0 where
+  here : {at : TokenPlace} {s : Spot} {others : List Spot} {bad : BadDriver} →
       IsFaultAt d count at (token_tree s.token) s.known s.line (tokens_of others) bad →
       IsFirstFault d count at (s ∷ others) bad
-  later : {at : Place} {s : Spot} {others : List Spot} {bad : BadDriver} →
+  later : {at : TokenPlace} {s : Spot} {others : List Spot} {bad : BadDriver} →
       (names_item (token_tree s.token) ≡ true → s.known ≡ true) →
       IsRight d count at (token_tree s.token) (tokens_of others) →
       IsFirstFault d count (place_behind at (token_tree s.token)) others bad → IsFirstFault d count at (s ∷ others) bad

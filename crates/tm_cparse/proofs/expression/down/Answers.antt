@@ -7,9 +7,9 @@ use Rattle.tm_cparse.specs.Inner.Reading.{Moves}
 use Rattle.tm_cparse.specs.Inner.Parts.{part_tree, part_trees, wanted, Opens, FitParts, IsLeft}
 use Rattle.tm_cparse.proofs.Readings.{moved_opening, opening_fits, moved_leaf, no_leaf, no_token}
 use Rattle.tm_cparse.proofs.expression.down.Goals as goal
-use Rattle.tm_cparse.proofs.expression.down.Goals.{In_ok-push_front}
+use Rattle.tm_cparse.proofs.expression.down.Goals.{In_ok-push}
 
-opens : (c : In_ok-push_front) →
+opens : (c : In_ok-push) →
     Opens (wanted c.args.sort (part_trees c.args.parts.now)) (part_tree c.opening-part.result.0)
     (tokens_of c.in-Some.rest.now) (tokens_of c.opening-part.result.1.now)
 opens c =
@@ -24,14 +24,14 @@ returns-in-Some-clause-moved c =
     (λ (l : List Part).
     Moves (IsLeft c.args.sort (part_trees c.args.parts.now) None) (IsLeft c.args.sort (part_trees l) None)
     (tokens_of c.args.spots.now) (tokens_of c.opening-part.result.1.now))
-    (sym c.in_ok-push_front.ensures.items)
+    (sym c.in_ok-push.ensures)
     (moved_opening c.args.sort (part_trees c.args.parts.now) (part_tree c.opening-part.result.0)
     (tokens_of c.args.spots.now) (tokens_of c.in-Some.rest.now) (tokens_of c.opening-part.result.1.now)
     c.in-Some.ensures.whole (opens c))
 
 pub returns-in-Some-clause-fit : goal.returns-in-Some-clause-fit
 returns-in-Some-clause-fit c =
-    subst (λ (l : List Part). FitParts c.args.sort (part_trees l)) (sym c.in_ok-push_front.ensures.items)
+    subst (λ (l : List Part). FitParts c.args.sort (part_trees l)) (sym c.in_ok-push.ensures)
     (opening_fits _ _ (opens c), c.requires)
 
 pub returns-in-Some-leaf-clause-moved : goal.returns-in-Some-leaf-clause-moved

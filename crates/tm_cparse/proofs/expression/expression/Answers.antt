@@ -7,7 +7,7 @@ use Rattle.tm_cparse.specs.Inner.Parts.{part_trees}
 use Rattle.tm_cparse.proofs.Loop.{SoFar, cost_small, so_far_begins, so_far_then}
 use Rattle.tm_cparse.proofs.Readings.{refused_behind, expression_read, expression_stops}
 use Rattle.tm_cparse.proofs.expression.expression.Goals as goal
-use Rattle.tm_cparse.proofs.expression.expression.Goals.{in-None+in_ok-step-in-None, in-Some+in-Some-pop_front+in_ok-step-in-Some-pop_front}
+use Rattle.tm_cparse.proofs.expression.expression.Goals.{in-None+in_ok-step-in-None, in-Some+in-Some-pop+in_ok-step-in-Some-pop}
 
 pub loop-operand-init : goal.loop-operand-init
 loop-operand-init c = (
@@ -31,7 +31,7 @@ loop-operand-preserved c =
                 w.in_ok-step-in-None.ensures.operand,
             omega (arith, w.in_ok-step-in-None.ensures.shorter, cost_small),
           )
-      | in-Some+in-Some-pop_front+in_ok-step-in-Some-pop_front w ↦
+      | in-Some+in-Some-pop+in_ok-step-in-Some-pop w ↦
           let so_far = subst
           (λ (o : Option Truth).
           SoFar c.args.sort (tokens_of c.args.spots.now) (part_trees c.loop-operand.parts) (option_map truth_tree o)
@@ -39,11 +39,11 @@ loop-operand-preserved c =
           let popped = subst
           (λ (l : List Part).
           SoFar c.args.sort (tokens_of c.args.spots.now) (part_trees l) (Some (truth_tree w.in-Some.truth))
-          (tokens_of c.loop-operand.rest.now)) w.in-Some-pop_front.ensures.items so_far in
+          (tokens_of c.loop-operand.rest.now)) w.in-Some-pop.ensures so_far in
           rw (w.step-is, w.parts-is) (
-            so_far_then popped w.in_ok-step-in-Some-pop_front.ensures.moved
-                w.in_ok-step-in-Some-pop_front.ensures.fit w.in_ok-step-in-Some-pop_front.ensures.operand,
-            omega (arith, w.in_ok-step-in-Some-pop_front.ensures.shorter, cost_small),
+            so_far_then popped w.in_ok-step-in-Some-pop.ensures.moved
+                w.in_ok-step-in-Some-pop.ensures.fit w.in_ok-step-in-Some-pop.ensures.operand,
+            omega (arith, w.in_ok-step-in-Some-pop.ensures.shorter, cost_small),
           )
     ]
 
@@ -52,9 +52,9 @@ loop-operand-smaller c =
     elim c.match-operand.branch [
       | in-None+in_ok-step-in-None w ↦
           rw (w.step-is, w.in-None.is) (omega (arith, w.in_ok-step-in-None.ensures.shorter, cost_small))
-      | in-Some+in-Some-pop_front+in_ok-step-in-Some-pop_front w ↦
+      | in-Some+in-Some-pop+in_ok-step-in-Some-pop w ↦
           rw (w.step-is, w.in-Some.is)
-          (omega (arith, w.in_ok-step-in-Some-pop_front.ensures.shorter, cost_small))
+          (omega (arith, w.in_ok-step-in-Some-pop.ensures.shorter, cost_small))
     ]
 
 pub returns-in_err-step-in-None-clause-refused : goal.returns-in_err-step-in-None-clause-refused
@@ -67,8 +67,8 @@ returns-in_err-step-in-None-clause-refused c =
     (refused_behind so_far.moved _ c.in_err-step-in-None.ensures.refused) in
     search rules
 
-pub returns-in-None-pop_front-clause-taken : goal.returns-in-None-pop_front-clause-taken
-returns-in-None-pop_front-clause-taken c =
+pub returns-in-None-pop-clause-taken : goal.returns-in-None-pop-clause-taken
+returns-in-None-pop-clause-taken c =
     let so_far = subst
     (λ (o : Option Truth).
     SoFar c.args.sort (tokens_of c.args.spots.now) (part_trees c.loop-operand.parts) (option_map truth_tree o)
@@ -76,13 +76,13 @@ returns-in-None-pop_front-clause-taken c =
     let popped = subst
     (λ (l : List Part).
     SoFar c.args.sort (tokens_of c.args.spots.now) (part_trees l) (Some (truth_tree c.in-Some.truth))
-    (tokens_of c.loop-operand.rest.now)) c.in-None-pop_front.ensures.cases.0 so_far in
+    (tokens_of c.loop-operand.rest.now)) c.in-None-pop.ensures so_far in
     expression_read c.args.sort (truth_tree c.in-Some.truth) (tokens_of c.args.spots.now)
     (tokens_of c.loop-operand.rest.now) popped.moved
 
-pub returns-in_err-step-in-Some-pop_front-clause-refused :
-    goal.returns-in_err-step-in-Some-pop_front-clause-refused
-returns-in_err-step-in-Some-pop_front-clause-refused c =
+pub returns-in_err-step-in-Some-pop-clause-refused :
+    goal.returns-in_err-step-in-Some-pop-clause-refused
+returns-in_err-step-in-Some-pop-clause-refused c =
     let so_far = subst
     (λ (o : Option Truth).
     SoFar c.args.sort (tokens_of c.args.spots.now) (part_trees c.loop-operand.parts) (option_map truth_tree o)
@@ -90,7 +90,7 @@ returns-in_err-step-in-Some-pop_front-clause-refused c =
     let popped = subst
     (λ (l : List Part).
     SoFar c.args.sort (tokens_of c.args.spots.now) (part_trees l) (Some (truth_tree c.in-Some.truth))
-    (tokens_of c.loop-operand.rest.now)) c.in-Some-pop_front.ensures.items so_far in
+    (tokens_of c.loop-operand.rest.now)) c.in-Some-pop.ensures so_far in
     let h = expression_stops c.args.sort (tokens_of c.args.spots.now) _
-    (refused_behind popped.moved _ c.in_err-step-in-Some-pop_front.ensures.refused) in
+    (refused_behind popped.moved _ c.in_err-step-in-Some-pop.ensures.refused) in
     search rules

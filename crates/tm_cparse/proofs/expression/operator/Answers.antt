@@ -83,7 +83,7 @@ returns-clause-moved c =
     (λ (l : List Part).
     Moves (IsLeft c.args.sort (first_part ∷ part_trees c.args.parts.now) (Some (truth_tree c.args.operand)))
     (IsLeft c.args.sort (part_trees l) None) (tokens_of c.args.spots.now) (tokens_of c.in-Some.rest.now))
-    (sym c.in_ok-push_front.ensures.items)
+    (sym c.in_ok-push.ensures)
     (moved_operator c.args.sort (part_trees c.args.parts.now) (sign_tree c.in-Some-sign_in.sign)
     (truth_tree c.args.operand) (part_tree c.in-Some-begun.part) (tokens_of c.args.spots.now)
     (tokens_of c.in-Some.rest.now)
@@ -95,11 +95,12 @@ returns-clause-moved c =
 
 pub returns-clause-fit : goal.returns-clause-fit
 returns-clause-fit c =
-    subst (λ (l : List Part). FitParts c.args.sort (part_trees l)) (sym c.in_ok-push_front.ensures.items) (
+    subst (λ (l : List Part). FitParts c.args.sort (part_trees l)) (sym c.in_ok-push.ensures) (
       begun_fits _ (sign_tree c.in-Some-sign_in.sign) (truth_tree c.args.operand) (part_tree c.in-Some-begun.part)
           c.requires.operand.1
           (sym
           (c.in-Some-begun.ensures
-          ∙ ap (λ (s : Sort). begun_by s (sign_tree c.in-Some-sign_in.sign) (truth_tree c.args.operand)) c.wanted.ensures)),
+          ∙ ap (λ (s : Sort). begun_by s (sign_tree c.in-Some-sign_in.sign) (truth_tree c.args.operand))
+          c.wanted.ensures)),
       c.requires.fit,
     )

@@ -21,13 +21,13 @@ returns-clause-moved c =
     (IsLeft c.args.sort (then_part (truth_tree c.args.test) ∷ part_trees c.args.parts.now)
     (Some (truth_tree c.args.operand))) (IsLeft c.args.sort (part_trees l) None) (tokens_of c.args.spots.now)
     (tokens_of c.in_ok-rest.rest.now))
-    (sym c.in_ok-push_front.ensures.items)
+    (sym c.in_ok-push.ensures)
     (moved_colon c.args.sort (part_trees c.args.parts.now) (truth_tree c.args.test) (truth_tree c.args.operand)
     (num_tree c.number_of.result) (tokens_of c.args.spots.now) (tokens_of c.in_ok-rest.rest.now)
     c.number_of.ensures c.in_ok-rest.ensures.taken)
 
 pub returns-clause-fit : goal.returns-clause-fit
 returns-clause-fit c =
-    subst (λ (l : List Part). FitParts c.args.sort (part_trees l)) (sym c.in_ok-push_front.ensures.items)
+    subst (λ (l : List Part). FitParts c.args.sort (part_trees l)) (sym c.in_ok-push.ensures)
     (colon_fits c.args.sort (part_trees c.args.parts.now) (truth_tree c.args.test) (truth_tree c.args.operand)
     (num_tree c.number_of.result) c.number_of.ensures c.requires.fit c.requires.operand)

@@ -9,8 +9,11 @@ loop-spot-init c =
     so_far_begins (design_tree c.args.design.now) c.args.line c.behind_blanks-behind_line.result.1 c.args.text.now
     c.behind_blanks-behind_line.result.0.now _ c.new-spots.ensures.items c.behind_blanks-behind_line.ensures
 
-pub next_spot-requires : goal.next_spot-requires
-next_spot-requires c = c.loop-spot.invariant.no_blank
+pub next_spot-requires-clause-no_blank : goal.next_spot-requires-clause-no_blank
+next_spot-requires-clause-no_blank c = c.loop-spot.invariant.no_blank
+
+pub next_spot-requires-clause-low : goal.next_spot-requires-clause-low
+next_spot-requires-clause-low c = omega (arith, c.requires, c.loop-spot.invariant.low)
 
 pub behind_blanks-behind_line-requires-in-Some : goal.behind_blanks-behind_line-requires-in-Some
 behind_blanks-behind_line-requires-in-Some c =

@@ -17,7 +17,8 @@ returns-in-Some-Test-clause-taken c =
     ok_map
     (λ r h.
     begun_read (token_tree c.in-Some.token) (word if_word) (statement_tree r.0) (tokens_of c.args.spots.now)
-    (tokens_of c.in-Some.rest.now) (tokens_of r.1.now) c.in-Some.ensures.whole (rw c.in-Some-Test.field-0-is at c.in-Some-Test.ensures) h)
+    (tokens_of c.in-Some.rest.now) (tokens_of r.1.now)
+    c.in-Some.ensures.whole (rw c.in-Some-Test.field-0-is at c.in-Some-Test.ensures) h)
     c.test.result c.test.ensures.taken
 
 pub returns-in-Some-Test-clause-refused : goal.returns-in-Some-Test-clause-refused
@@ -33,8 +34,10 @@ pub returns-in-Some-Call-clause-taken : goal.returns-in-Some-Call-clause-taken
 returns-in-Some-Call-clause-taken c =
     ok_map
     (λ r h.
-    begun_read (token_tree c.in-Some.token) (task c.in-Some-Call.number) (statement_tree r.0) (tokens_of c.args.spots.now)
-    (tokens_of c.in-Some.rest.now) (tokens_of r.1.now) c.in-Some.ensures.whole (rw c.in-Some-Call.field-0-is at c.in-Some-Call.ensures) h)
+    begun_read (token_tree c.in-Some.token) (task c.in-Some-Call.number) (statement_tree r.0)
+    (tokens_of c.args.spots.now)
+    (tokens_of c.in-Some.rest.now) (tokens_of r.1.now)
+    c.in-Some.ensures.whole (rw c.in-Some-Call.field-0-is at c.in-Some-Call.ensures) h)
     c.call.result c.call.ensures.taken
 
 pub returns-in-Some-Call-clause-refused : goal.returns-in-Some-Call-clause-refused
@@ -42,7 +45,8 @@ returns-in-Some-Call-clause-refused c =
     err_map
     (λ e h.
     refused_behind
-    (begun_with (token_tree c.in-Some.token) (task c.in-Some-Call.number) (tokens_of c.args.spots.now) (tokens_of c.in-Some.rest.now)
+    (begun_with (token_tree c.in-Some.token) (task c.in-Some-Call.number) (tokens_of c.args.spots.now)
+    (tokens_of c.in-Some.rest.now)
     c.in-Some.ensures.whole (rw c.in-Some-Call.field-0-is at c.in-Some-Call.ensures)) e h)
     c.call.result c.call.ensures.refused
 
@@ -51,7 +55,8 @@ returns-in-Some-Leave-clause-taken c =
     ok_map
     (λ r h.
     begun_read (token_tree c.in-Some.token) (word termite_leave) (statement_tree r.0) (tokens_of c.args.spots.now)
-    (tokens_of c.in-Some.rest.now) (tokens_of r.1.now) c.in-Some.ensures.whole (rw c.in-Some-Leave.field-0-is at c.in-Some-Leave.ensures) h)
+    (tokens_of c.in-Some.rest.now) (tokens_of r.1.now)
+    c.in-Some.ensures.whole (rw c.in-Some-Leave.field-0-is at c.in-Some-Leave.ensures) h)
     c.leave.result c.leave.ensures.taken
 
 pub returns-in-Some-Leave-clause-refused : goal.returns-in-Some-Leave-clause-refused
@@ -59,7 +64,8 @@ returns-in-Some-Leave-clause-refused c =
     err_map
     (λ e h.
     refused_behind
-    (begun_with (token_tree c.in-Some.token) (word termite_leave) (tokens_of c.args.spots.now) (tokens_of c.in-Some.rest.now)
+    (begun_with (token_tree c.in-Some.token) (word termite_leave) (tokens_of c.args.spots.now)
+    (tokens_of c.in-Some.rest.now)
     c.in-Some.ensures.whole (rw c.in-Some-Leave.field-0-is at c.in-Some-Leave.ensures)) e h)
     c.leave.result c.leave.ensures.refused
 
@@ -68,7 +74,8 @@ returns-in-Some-Idle-clause-taken c =
     ok_map
     (λ r h.
     begun_read (token_tree c.in-Some.token) (word return_word) (statement_tree r.0) (tokens_of c.args.spots.now)
-    (tokens_of c.in-Some.rest.now) (tokens_of r.1.now) c.in-Some.ensures.whole (rw c.in-Some-Idle.field-0-is at c.in-Some-Idle.ensures) h)
+    (tokens_of c.in-Some.rest.now) (tokens_of r.1.now)
+    c.in-Some.ensures.whole (rw c.in-Some-Idle.field-0-is at c.in-Some-Idle.ensures) h)
     c.idle.result c.idle.ensures.taken
 
 pub returns-in-Some-Idle-clause-refused : goal.returns-in-Some-Idle-clause-refused
@@ -76,6 +83,7 @@ returns-in-Some-Idle-clause-refused c =
     err_map
     (λ e h.
     refused_behind
-    (begun_with (token_tree c.in-Some.token) (word return_word) (tokens_of c.args.spots.now) (tokens_of c.in-Some.rest.now)
+    (begun_with (token_tree c.in-Some.token) (word return_word) (tokens_of c.args.spots.now)
+    (tokens_of c.in-Some.rest.now)
     c.in-Some.ensures.whole (rw c.in-Some-Idle.field-0-is at c.in-Some-Idle.ensures)) e h)
     c.idle.result c.idle.ensures.refused
