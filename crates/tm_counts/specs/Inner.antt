@@ -1,0 +1,4 @@
+-- What contracts of private functions alone cite.
+pub mod Cycles
+pub mod PathSums
+pub mod Weights

@@ -1,0 +1,11 @@
+pub mod Amount
+pub mod FirstLimit
+pub mod Firsts
+pub mod Inner
+pub mod LongNames
+pub mod Orders
+pub mod Shares
+pub mod TaskBodies
+pub mod TemplateOrders
+pub mod Templates
+pub mod Totals
