@@ -1,0 +1,12 @@
+pub mod CallerLaws
+pub mod Deciding
+pub mod Either
+pub mod Extended
+pub mod GameSets
+pub mod Leading
+pub mod Lists
+pub mod Remembered
+pub mod Rising
+pub mod Sets
+pub mod StateSets
+pub mod StepSets
