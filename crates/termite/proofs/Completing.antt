@@ -8,15 +8,16 @@ use Rattle.tm_small.proofs.Determined.{one_design}
 use Rattle.tm_cir.specs.Tree.{BlockTree}
 use Rattle.tm_cir.specs.SmallText.{IsSmallDriverText}
 use Rattle.tm_cir.proofs.DriverTexts.{one_driver}
-use Rattle.termite.specs.declared.status.Status.{Status}
-use Rattle.termite.specs.declared.status.Status.TheVariants.{Played, Usage, ReadFault, WriteFault, Memory, BadText, Stopped, Unbuilt}
-use Rattle.termite.specs.declared.status.Bad.TheVariants.{Choices}
+use Rattle.termite.specs.declared.ending.Ending.{Ending}
+use Rattle.termite.specs.declared.ending.Ending.TheVariants.{BadText}
+use Rattle.termite.specs.declared.ending.Bad.TheVariants.{Choices}
 use Rattle.termite.specs.Script.{ScriptData}
 use Rattle.termite.specs.Words.{Command, run}
 use Rattle.termite.specs.Choices.{reading_of}
-use Rattle.termite.specs.Inputs.{TellsDesign, TellsNoDesign, TellsBlocks, TellsNoBlocks, TellsScript, TellsBadLine, Refused, unbuilt_spec, unbuilt_driver, long_driver, long_choices, bad_line, Loads}
+use Rattle.termite.specs.Inputs.{TellsDesign, TellsNoDesign, TellsBlocks, TellsNoBlocks, TellsScript, TellsBadLine, NoDesign, unread_spec, NoBlocks, unread_driver, long_driver, NoScript, long_choices, bad_choices}
+use Rattle.termite.specs.Run.{Loads, Refused, no_design, no_blocks, no_script, RunEnds, refused, ended}
+use Rattle.termite.specs.Commands.{CommandEnds}
 use Rattle.termite.specs.Played.{Ends}
-use Rattle.termite.specs.Answer.{RunEnds, refused, ended, CommandEnds, Explains, AnswersEnd}
 use Rattle.termite.proofs.OneEnd.{one_end}
 
 -- a text within the limit is not longer
@@ -64,100 +65,104 @@ module _ (contents : List ℕ → Option (List ℕ)) where
       IsLonger (contents driver) file_limit → ⊥
   driver_short driver d bs p long = not_longer (contents driver) p.text p.told p.spelled.short long
 
-  no_design : (spec : List ℕ) (d : DesignTree) → TellsNoDesign contents spec → TellsDesign contents spec d → ⊥
-  no_design spec d p q = p.none d
+  no_design_told : (spec : List ℕ) (d : DesignTree) → TellsNoDesign contents spec → TellsDesign contents spec d → ⊥
+  no_design_told spec d p q = p.none d
       (subst (λ (t : List ℕ). IsSmallText t d) (one_text spec p.text q.text p.told q.told) q.spelled)
 
-  no_blocks : (driver : List ℕ) (d : DesignTree) (bs : List BlockTree) → TellsNoBlocks contents driver d →
+  no_blocks_told : (driver : List ℕ) (d : DesignTree) (bs : List BlockTree) → TellsNoBlocks contents driver d →
       TellsBlocks contents driver d bs → ⊥
-  no_blocks driver d bs p q =
+  no_blocks_told driver d bs p q =
       p.none bs (subst (λ (t : List ℕ). IsSmallDriverText d t bs) (one_text driver p.text q.text p.told q.told)
       q.spelled)
 
-  -- a driver that tells no blocks over the design tells none over one that the file tells beside it
-  no_others : (spec driver : List ℕ) (d e : DesignTree) (bs : List BlockTree) → TellsDesign contents spec d →
-      TellsDesign contents spec e →
-      TellsNoBlocks contents driver d → TellsBlocks contents driver e bs → ⊥
-  no_others spec driver d e bs p q none blocks =
-      no_blocks driver d bs none
-      (subst (λ (x : DesignTree). TellsBlocks contents driver x bs) (told_design spec e d q p) blocks)
+  -- a file that tells a design is no reason to stop
+  design_read : (spec : List ℕ) (d : DesignTree) (ending : Ending) → TellsDesign contents spec d →
+      NoDesign contents spec ending → ⊥
+  design_read spec d ending design (unread_spec none) = no_design_told spec d none design
 
-  -- the line of a bad text is the first one
-  same_line : (spec choices : List ℕ) (d e : DesignTree) (n k : ℕ) → TellsDesign contents spec d →
-      TellsDesign contents spec e →
-      TellsBadLine contents choices d n → TellsBadLine contents choices e k → n ≡ k
-  same_line spec choices d e n k p q line other =
-      told_line choices d n k line
-      (subst (λ (x : DesignTree). TellsBadLine contents choices x k) (told_design spec e d q p) other)
+  blocks_read : (driver : List ℕ) (d : DesignTree) (bs : List BlockTree) (ending : Ending) →
+      TellsBlocks contents driver d bs → NoBlocks contents driver d ending → ⊥
+  blocks_read driver d bs ending blocks (unread_driver none) = no_blocks_told driver d bs none blocks
+  blocks_read driver d bs ending blocks (long_driver long) = driver_short driver d bs blocks long
+
+  script_read : (choices : List ℕ) (d : DesignTree) (c : ScriptData) (ending : Ending) →
+      TellsScript contents choices d c → NoScript contents choices d ending → ⊥
+  script_read choices d c ending script (long_choices long) =
+      not_longer (contents choices) script.text script.told script.short long
+  script_read choices d c ending script (bad_choices {n = n} line) = no_bad_line choices d c n script line
+
+  -- a file is refused for one cause
+  one_no_design : (spec : List ℕ) (one other : Ending) → NoDesign contents spec one → NoDesign contents spec other →
+      one ≡ other
+  one_no_design spec one other (unread_spec p) (unread_spec q) = refl
+
+  one_no_blocks : (driver : List ℕ) (d : DesignTree) (one other : Ending) → NoBlocks contents driver d one →
+      NoBlocks contents driver d other → one ≡ other
+  one_no_blocks driver d one other (unread_driver p) (unread_driver q) = refl
+  one_no_blocks driver d one other (unread_driver p) (long_driver q) =
+      absurd (not_longer (contents driver) p.text p.told p.short q)
+  one_no_blocks driver d one other (long_driver p) (unread_driver q) =
+      absurd (not_longer (contents driver) q.text q.told q.short p)
+  one_no_blocks driver d one other (long_driver p) (long_driver q) = refl
+
+  one_no_script : (choices : List ℕ) (d : DesignTree) (one other : Ending) → NoScript contents choices d one →
+      NoScript contents choices d other → one ≡ other
+  one_no_script choices d one other (long_choices p) (long_choices q) = refl
+  one_no_script choices d one other (long_choices p) (bad_choices q) =
+      absurd (not_longer (contents choices) q.text q.told q.short p)
+  one_no_script choices d one other (bad_choices p) (long_choices q) =
+      absurd (not_longer (contents choices) p.text p.told p.short q)
+  one_no_script choices d one other (bad_choices {n = n} p) (bad_choices {n = k} q) =
+      ap (λ (i : ℕ). BadText choices (Choices i)) (told_line choices d n k p q)
 
   module _ (spec driver choices : List ℕ) where
+    -- what files tell over the design that SPEC tells, they tell over any other that it tells
+    blocks_of : (d e : DesignTree) (bs : List BlockTree) → TellsDesign contents spec d → TellsDesign contents spec e →
+        TellsBlocks contents driver e bs → TellsBlocks contents driver d bs
+    blocks_of d e bs p q blocks =
+        subst (λ (x : DesignTree). TellsBlocks contents driver x bs) (told_design spec e d q p) blocks
+
+    no_blocks_of : (d e : DesignTree) (ending : Ending) → TellsDesign contents spec d → TellsDesign contents spec e →
+        NoBlocks contents driver e ending → NoBlocks contents driver d ending
+    no_blocks_of d e ending p q blocks =
+        subst (λ (x : DesignTree). NoBlocks contents driver x ending) (told_design spec e d q p) blocks
+
+    no_script_of : (d e : DesignTree) (ending : Ending) → TellsDesign contents spec d → TellsDesign contents spec e →
+        NoScript contents choices e ending → NoScript contents choices d ending
+    no_script_of d e ending p q script =
+        subst (λ (x : DesignTree). NoScript contents choices x ending) (told_design spec e d q p) script
+
     -- files that load are not refused
-    not_refused : (d : DesignTree) (bs : List BlockTree) (c : ScriptData) (status : Status) →
-        Loads contents spec driver choices d bs c →
-        Refused contents spec driver choices status → ⊥
-    not_refused d bs c status loads (unbuilt_spec none) = no_design spec d none loads.design
-    not_refused d bs c status loads (unbuilt_driver {d = e} design none) =
-        no_others spec driver e d bs design loads.design none loads.blocks
-    not_refused d bs c status loads (long_driver design long) = driver_short driver d bs loads.blocks long
-    not_refused d bs c status loads (long_choices design blocks long) =
-        not_longer (contents choices) loads.script.text loads.script.told loads.script.short long
-    not_refused d bs c status loads (bad_line {d = e} {n = n} design blocks line) =
-        no_bad_line choices d c n loads.script
-        (subst (λ (x : DesignTree). TellsBadLine contents choices x n) (told_design spec e d design loads.design)
-        line)
+    not_refused : (d : DesignTree) (bs : List BlockTree) (c : ScriptData) (ending : Ending) →
+        Loads contents spec driver choices d bs c → Refused contents spec driver choices ending → ⊥
+    not_refused d bs c ending loads (no_design none) = design_read spec d ending loads.design none
+    not_refused d bs c ending loads (no_blocks {d = e} design none) =
+        blocks_read driver d bs ending loads.blocks (no_blocks_of d e ending loads.design design none)
+    not_refused d bs c ending loads (no_script {d = e} design blocks none) =
+        script_read choices d c ending loads.script (no_script_of d e ending loads.design design none)
 
     -- files are refused for one cause
-    one_refusal : (one other : Status) → Refused contents spec driver choices one →
+    one_refusal : (one other : Ending) → Refused contents spec driver choices one →
         Refused contents spec driver choices other → one ≡ other
-    one_refusal one other (unbuilt_spec none) (unbuilt_spec nones) = refl
-    one_refusal one other (unbuilt_spec none) (unbuilt_driver {d = d} design nones) =
-        absurd (no_design spec d none design)
-    one_refusal one other (unbuilt_spec none) (long_driver {d = d} design long) = absurd (no_design spec d none design)
-    one_refusal one other (unbuilt_spec none) (long_choices {d = d} design blocks long) =
-        absurd (no_design spec d none design)
-    one_refusal one other (unbuilt_spec none) (bad_line {d = d} design blocks line) =
-        absurd (no_design spec d none design)
-    one_refusal one other (unbuilt_driver {d = d} design none) (unbuilt_spec nones) =
-        absurd (no_design spec d nones design)
-    one_refusal one other (unbuilt_driver design none) (unbuilt_driver designs nones) = refl
-    one_refusal one other (unbuilt_driver design none) (long_driver designs long) =
-        absurd (not_longer (contents driver) none.text none.told none.short long)
-    one_refusal one other (unbuilt_driver {d = d} design none) (long_choices {d = e} {bs = bs} designs blocks long) =
-        absurd (no_others spec driver d e bs design designs none blocks)
-    one_refusal one other (unbuilt_driver {d = d} design none) (bad_line {d = e} {bs = bs} designs blocks line) =
-        absurd (no_others spec driver d e bs design designs none blocks)
-    one_refusal one other (long_driver {d = d} design long) (unbuilt_spec none) = absurd (no_design spec d none design)
-    one_refusal one other (long_driver design long) (unbuilt_driver designs none) =
-        absurd (not_longer (contents driver) none.text none.told none.short long)
-    one_refusal one other (long_driver design long) (long_driver designs longs) = refl
-    one_refusal one other (long_driver design long) (long_choices {d = d} {bs = bs} designs blocks longs) =
-        absurd (driver_short driver d bs blocks long)
-    one_refusal one other (long_driver design long) (bad_line {d = d} {bs = bs} designs blocks line) =
-        absurd (driver_short driver d bs blocks long)
-    one_refusal one other (long_choices {d = d} design blocks long) (unbuilt_spec none) =
-        absurd (no_design spec d none design)
-    one_refusal one other (long_choices {d = d} {bs = bs} design blocks long) (unbuilt_driver {d = e} designs none) =
-        absurd (no_others spec driver e d bs designs design none blocks)
-    one_refusal one other (long_choices {d = d} {bs = bs} design blocks long) (long_driver designs longs) =
-        absurd (driver_short driver d bs blocks longs)
-    one_refusal one other (long_choices design blocks long) (long_choices designs others longs) = refl
-    one_refusal one other (long_choices design blocks long) (bad_line designs others line) =
-        absurd (not_longer (contents choices) line.text line.told line.short long)
-    one_refusal one other (bad_line {d = d} design blocks line) (unbuilt_spec none) =
-        absurd (no_design spec d none design)
-    one_refusal one other (bad_line {d = d} {bs = bs} design blocks line) (unbuilt_driver {d = e} designs none) =
-        absurd (no_others spec driver e d bs designs design none blocks)
-    one_refusal one other (bad_line {d = d} {bs = bs} design blocks line) (long_driver designs longs) =
-        absurd (driver_short driver d bs blocks longs)
-    one_refusal one other (bad_line design blocks line) (long_choices designs others longs) =
-        absurd (not_longer (contents choices) line.text line.told line.short longs)
-    one_refusal one other (bad_line {d = d} {n = n} design blocks line)
-        (bad_line {d = e} {n = k} designs others lines) =
-        ap (λ (i : ℕ). BadText choices (Choices i)) (same_line spec choices d e n k design designs line lines)
+    one_refusal one other (no_design p) (no_design q) = one_no_design spec one other p q
+    one_refusal one other (no_design p) (no_blocks {d = d} design q) = absurd (design_read spec d one design p)
+    one_refusal one other (no_design p) (no_script {d = d} design blocks q) =
+        absurd (design_read spec d one design p)
+    one_refusal one other (no_blocks {d = d} design p) (no_design q) = absurd (design_read spec d other design q)
+    one_refusal one other (no_blocks {d = d} design p) (no_blocks {d = e} others q) =
+        one_no_blocks driver d one other p (no_blocks_of d e other design others q)
+    one_refusal one other (no_blocks {d = d} design p) (no_script {d = e} {bs = bs} others blocks q) =
+        absurd (blocks_read driver d bs one (blocks_of d e bs design others blocks) p)
+    one_refusal one other (no_script {d = d} design blocks p) (no_design q) =
+        absurd (design_read spec d other design q)
+    one_refusal one other (no_script {d = d} {bs = bs} design blocks p) (no_blocks {d = e} others q) =
+        absurd (blocks_read driver d bs other blocks (no_blocks_of d e other design others q))
+    one_refusal one other (no_script {d = d} design blocks p) (no_script {d = e} others more q) =
+        one_no_script choices d one other p (no_script_of d e other design others q)
 
     -- two plays of the files are one
     same_end : (d e : DesignTree) (bs cs : List BlockTree) (c f : ScriptData) (text other_text : List ℕ)
-        (one other : Status) →
+        (one other : Ending) →
         Loads contents spec driver choices d bs c → Ends d bs c text one → Loads contents spec driver choices e cs f →
         Ends e cs f other_text other → one ≡ other
     same_end d e bs cs c f text other_text one other p ends q others =
@@ -177,7 +182,7 @@ module _ (contents : List ℕ → Option (List ℕ)) where
         (one_end d bs c text other_text one other ends moved).1
 
     -- `run` has one end
-    one_run_end : (text other_text : List ℕ) (one other : Status) → RunEnds contents spec driver choices text one →
+    one_run_end : (text other_text : List ℕ) (one other : Ending) → RunEnds contents spec driver choices text one →
         RunEnds contents spec driver choices other_text other → one ≡ other
     one_run_end text other_text one other (refused p) (refused q) = one_refusal one other p q
     one_run_end text other_text one other (refused p) (ended {d = d} {bs = bs} {c = c} loads ends) =
@@ -189,24 +194,8 @@ module _ (contents : List ℕ → Option (List ℕ)) where
         same_end d e bs cs c f text other_text one other p ends q others
 
   -- a command has one end
-  one_command_end : (command : Option Command) (text other_text : List ℕ) (one other : Status) →
+  pub one_command_end : (command : Option Command) (text other_text : List ℕ) (one other : Ending) →
       CommandEnds contents command text one → CommandEnds contents command other_text other → one ≡ other
   one_command_end None text other_text one other p q = p.1 ∙ sym q.1
   one_command_end (Some (run spec driver choices)) text other_text one other p q =
       one_run_end spec driver choices text other_text one other p q
-
-  -- so a status with its cause is the end that the command has
-  pub answers_end : (command : Option Command) (result : Status) → Explains (CommandEnds contents command) result →
-      AnswersEnd (CommandEnds contents command) result
-  answers_end command Memory cause = tt
-  answers_end command (ReadFault name) cause = tt
-  answers_end command (WriteFault name) cause = tt
-  answers_end command (Unbuilt name) cause =
-      λ text end ends. one_command_end command cause.0 text (Unbuilt name) end cause.1 ends
-  answers_end command (Played n) cause =
-      λ text end ends. one_command_end command cause.0 text (Played n) end cause.1 ends
-  answers_end command Usage cause = λ text end ends. one_command_end command cause.0 text Usage end cause.1 ends
-  answers_end command (BadText name why) cause =
-      λ text end ends. one_command_end command cause.0 text (BadText name why) end cause.1 ends
-  answers_end command (Stopped n why) cause =
-      λ text end ends. one_command_end command cause.0 text (Stopped n why) end cause.1 ends

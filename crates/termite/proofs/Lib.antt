@@ -5,6 +5,7 @@ mod Numbering
 mod OneEnd
 mod Playing
 mod Reaching
+mod Reporting
 mod Running
 mod ReadNumbers
 mod SplitLines

@@ -1,36 +1,37 @@
 -- Why files are not loaded.
-use Rattle.std.proofs.Common.{◌≡◌, ℕ, ◌≤◌, Bool, Option, None, Some, List, [], ◌∷◌, refl, sym, subst, arith}
+use Rattle.std.proofs.Common.{◌≡◌, ℕ, zero, suc, ◌+◌, ◌≤◌, Option, None, Some, List, [], ◌∷◌, refl, sym, subst, ◌∙◌, arith}
 use Rattle.std.specs.Prelude.{IsTrue, Contains, length}
-use Rattle.tm_syntax.specs.Limits.{file_limit}
-use Rattle.tm_base.specs.Count.{Rose}
+use Rattle.tm_syntax.specs.Limits.{file_limit, specification_limit}
 use Rattle.tm_base.specs.Files.{IsLonger}
+use Rattle.tm_base.specs.Count.{Rose, RoseBy}
+use Rattle.tm_base.specs.declared.files.Files.{Ghosts as FilesGhosts}
 use Rattle.tm_syntax.specs.Design.{DesignTree}
 use Rattle.tm_small.specs.SmallText.{IsSmallText}
 use Rattle.tm_cir.specs.Tree.{BlockTree}
 use Rattle.tm_cir.specs.SmallText.{IsSmallDriverText}
-use Rattle.termite.specs.declared.status.Status.{Status}
-use Rattle.termite.specs.declared.status.Status.TheVariants.{Played, Usage, ReadFault, WriteFault, Memory, BadText, Stopped, Unbuilt}
-use Rattle.termite.specs.declared.status.Bad.TheVariants.{TooLong, Choices}
-use Rattle.termite.specs.Inputs.{TellsDesign, TellsNoDesign, TellsBlocks, TellsNoBlocks, TellsBadLine, IsLoadRefusal, IsNamed, IsNoBadText, Refused, unbuilt_spec, unbuilt_driver, long_driver, long_choices, bad_line, IsUnloaded}
+use Rattle.termite.specs.declared.ending.Ending.{Ending}
+use Rattle.termite.specs.declared.ending.Failure.TheVariants.{ReadFault, WriteFault, Memory}
+use Rattle.termite.specs.declared.ending.Stop.{Stop}
+use Rattle.termite.specs.declared.ending.Stop.TheVariants.{Ends, Fails}
+use Rattle.termite.specs.World.{FilesData, files_data, OnlyReads, HasFailedRead}
+use Rattle.termite.specs.Inputs.{TellsNoDesign, TellsNoBlocks, RefusesOne, bad_one, unbuilt_one}
+use Rattle.termite.specs.Headline.{IsLongShown}
+use Rattle.termite.specs.Inner.Stopping.{StopsBy, IsReadFailure, IsMemory, IsRefusal}
 
 -- a count that rose later rose before
 pub rose_later : (last : Option ℕ) (a b c : ℕ) → a ≤ b → Rose last b c → Rose last a c
 rose_later None a b c le rose = omega arith
 rose_later (Some l) a b c le rose = omega arith
 
--- a file that is there but has no reading is refused
-pub named_refused : (tells : Bool) (last : Option ℕ) (old new : ℕ) (contents : List ℕ → Option (List ℕ)) (name : List ℕ)
-    (IsUnread : Type 0) (IsBadLine : ℕ → Type 0) (status : Status) →
-    (IsTrue tells → IsUnread) → IsNamed name status →
-    IsLoadRefusal tells last old new contents name IsUnread IsBadLine status
-named_refused tells last old new contents name IsUnread IsBadLine Memory why named = tt
-named_refused tells last old new contents name IsUnread IsBadLine (Unbuilt n) why named = (named, why)
-named_refused tells last old new contents name IsUnread IsBadLine (ReadFault n) why named = elim named [ ]
-named_refused tells last old new contents name IsUnread IsBadLine (BadText n bad) why named = elim named [ ]
-named_refused tells last old new contents name IsUnread IsBadLine (Played k) why named = elim named [ ]
-named_refused tells last old new contents name IsUnread IsBadLine Usage why named = elim named [ ]
-named_refused tells last old new contents name IsUnread IsBadLine (WriteFault n) why named = elim named [ ]
-named_refused tells last old new contents name IsUnread IsBadLine (Stopped k stop) why named = elim named [ ]
+-- a file that is refused by this end stops a command
+pub refused_by : {C : Ending → Type 0} {names : List (List ℕ)} {old new : FilesData} (ending : Ending) (stop : Stop) →
+    IsRefusal C names old new ending → StopsBy (λ e. e ≡ ending) IsMemory stop →
+    StopsBy (IsRefusal C names old new) (IsReadFailure names old new) stop
+refused_by {C} {names} {old} {new} ending (Ends e) refusal is =
+    subst (λ (x : Ending). IsRefusal C names old new x) (sym is) refusal
+refused_by ending (Fails Memory) refusal is = tt
+refused_by ending (Fails (ReadFault name)) refusal is = elim is [ ]
+refused_by ending (Fails (WriteFault name)) refusal is = elim is [ ]
 
 -- a file whose text spells no design
 pub spells_no_design : (contents : List ℕ → Option (List ℕ)) (spec text read : List ℕ) → contents spec ≡ Some text →
@@ -41,6 +42,20 @@ spells_no_design contents spec text read is same none =
       told = is;
       none =
           λ d spelled. none d (subst (λ (t : List ℕ). IsSmallText t d) (sym same) spelled);
+    }
+
+-- a file that is longer than a specification may be tells no design
+pub long_spec : (contents : List ℕ → Option (List ℕ)) (spec : List ℕ) → IsLonger (contents spec) specification_limit →
+    TellsNoDesign contents spec
+long_spec contents spec long = of_told (contents spec) refl long
+  where
+    of_told : (told : Option (List ℕ)) → contents spec ≡ told → IsLonger told specification_limit →
+        TellsNoDesign contents spec
+    of_told None is long = elim long [ ]
+    of_told (Some text) is long = record {
+      text = text;
+      told = is;
+      none = λ d spelled. absurd (omega (arith, spelled.size));
     }
 
 -- a file within the limit whose text spells no blocks
@@ -56,67 +71,74 @@ spells_no_blocks contents driver d text read is short same none =
           λ bs spelled. none bs (subst (λ (t : List ℕ). IsSmallDriverText d t bs) (sym same) spelled);
     }
 
-module _ (tells : Bool) (last : Option ℕ) (contents : List ℕ → Option (List ℕ)) (spec driver choices : List ℕ) where
-  -- the design's file was not loaded
-  pub spec_refused : (old new : List ℕ → ℕ) (status : Status) →
-      IsLoadRefusal tells last (old spec) (new spec) contents spec (TellsNoDesign contents spec) (λ _. ⊥) status →
-      IsNoBadText status → IsUnloaded tells last old new contents spec driver choices status
-  spec_refused old new Memory r n = tt
-  spec_refused old new (ReadFault name) r n =
-      subst (λ x. Contains (spec ∷ driver ∷ choices ∷ []) x × Rose last (old x) (new x)) (sym r.0)
-      ((0, omega arith, refl), r.1)
-  spec_refused old new (Unbuilt name) r n =
-      λ told. subst (λ x. Refused contents spec driver choices (Unbuilt x)) (sym r.0) (unbuilt_spec (r.1 told))
-  spec_refused old new (BadText name why) r n = elim n [ ]
-  spec_refused old new (Played k) r n = elim r [ ]
-  spec_refused old new Usage r n = elim r [ ]
-  spec_refused old new (WriteFault name) r n = elim r [ ]
-  spec_refused old new (Stopped k why) r n = elim r [ ]
+-- a read of this file failed
+pub read_failed : (old new : FilesData) (name given : List ℕ) → given ≡ name → HasFailedRead old new name →
+    Contains (name ∷ []) given × HasFailedRead old new given
+read_failed old new name given is rose =
+    subst (λ (x : List ℕ). Contains (name ∷ []) x × HasFailedRead old new x) (sym is) ((0, omega arith, refl), rose)
 
-  -- the blocks' file was not loaded
-  pub driver_refused : (old mid new : List ℕ → ℕ) (before : List ℕ → Option (List ℕ)) (d : DesignTree)
-      (status : Status) →
-      (IsTrue tells → TellsDesign contents spec d) → before ≡ contents → ((n : List ℕ) → old n ≤ mid n) →
-      IsLoadRefusal tells last (mid driver) (new driver) before driver (TellsNoBlocks before driver d) (λ _. ⊥) status →
-      IsUnloaded tells last old new contents spec driver choices status
-  driver_refused old mid new before d Memory design same later r = tt
-  driver_refused old mid new before d (ReadFault name) design same later r =
-      subst (λ x. Contains (spec ∷ driver ∷ choices ∷ []) x × Rose last (old x) (new x)) (sym r.0)
-      ((1, omega arith, refl), rose_later last (old driver) (mid driver) (new driver) (later driver) r.1)
-  driver_refused old mid new before d (Unbuilt name) design same later r = λ told.
-      subst (λ x. Refused contents spec driver choices (Unbuilt x)) (sym r.0)
-      (unbuilt_driver (design told)
-      (subst (λ (f : List ℕ → Option (List ℕ)). TellsNoBlocks f driver d) same (r.1 told)))
-  driver_refused old mid new before d (BadText name TooLong) design same later r = λ told.
-      subst (λ x. Refused contents spec driver choices (BadText x TooLong)) (sym r.0)
-      (long_driver (design told)
-      (subst (λ (f : List ℕ → Option (List ℕ)). IsLonger (f driver) file_limit) same (r.1 told)))
-  driver_refused old mid new before d (BadText name (Choices k)) design same later r = λ told. absurd (r.1 told)
-  driver_refused old mid new before d (Played k) design same later r = elim r [ ]
-  driver_refused old mid new before d Usage design same later r = elim r [ ]
-  driver_refused old mid new before d (WriteFault name) design same later r = elim r [ ]
-  driver_refused old mid new before d (Stopped k why) design same later r = elim r [ ]
+-- a list of one element holds it alone
+only : (one name : List ℕ) → Contains (one ∷ []) name → one ≡ name
+only one name (zero, below, is) = is
+only one name (suc k, below, is) = absurd (omega arith)
 
-  -- the choices' file was not loaded
-  pub choices_refused : (old mid new : List ℕ → ℕ) (before : List ℕ → Option (List ℕ)) (d : DesignTree)
-      (bs : List BlockTree) (status : Status) →
-      (IsTrue tells → TellsDesign contents spec d) → (IsTrue tells → TellsBlocks contents driver d bs) →
-      before ≡ contents → ((n : List ℕ) → old n ≤ mid n) →
-      IsLoadRefusal tells last (mid choices) (new choices) before choices ⊥ (TellsBadLine before choices d) status →
-      IsUnloaded tells last old new contents spec driver choices status
-  choices_refused old mid new before d bs Memory design blocks same later r = tt
-  choices_refused old mid new before d bs (ReadFault name) design blocks same later r =
-      subst (λ x. Contains (spec ∷ driver ∷ choices ∷ []) x × Rose last (old x) (new x)) (sym r.0)
-      ((2, omega arith, refl), rose_later last (old choices) (mid choices) (new choices) (later choices) r.1)
-  choices_refused old mid new before d bs (Unbuilt name) design blocks same later r = λ told. absurd (r.1 told)
-  choices_refused old mid new before d bs (BadText name TooLong) design blocks same later r = λ told.
-      subst (λ x. Refused contents spec driver choices (BadText x TooLong)) (sym r.0)
-      (long_choices (design told) (blocks told)
-      (subst (λ (f : List ℕ → Option (List ℕ)). IsLonger (f choices) file_limit) same (r.1 told)))
-  choices_refused old mid new before d bs (BadText name (Choices k)) design blocks same later r = λ told.
-      subst (λ x. Refused contents spec driver choices (BadText x (Choices k))) (sym r.0)
-      (bad_line (design told) (blocks told) (subst (λ f. TellsBadLine f choices d k) same (r.1 told)))
-  choices_refused old mid new before d bs (Played k) design blocks same later r = elim r [ ]
-  choices_refused old mid new before d bs Usage design blocks same later r = elim r [ ]
-  choices_refused old mid new before d bs (WriteFault name) design blocks same later r = elim r [ ]
-  choices_refused old mid new before d bs (Stopped k why) design blocks same later r = elim r [ ]
+-- a name that stands in a list of one is among several, where that one is
+lifted : (names : List (List ℕ)) (one name : List ℕ) → Contains names one → Contains (one ∷ []) name →
+    Contains names name
+lifted names one name among is = subst (λ (x : List ℕ). Contains names x) (only one name is) among
+
+named_later : (names : List (List ℕ)) (one : List ℕ) (ending : Ending) → Contains names one →
+    RefusesOne (one ∷ []) ending → RefusesOne names ending
+named_later names one ending among (bad_one {file = file} named) = bad_one (lifted names one file among named)
+named_later names one ending among (unbuilt_one {file = file} named) = unbuilt_one (lifted names one file among named)
+
+-- a count that rose later by so much rose before by so much
+rose_by_later : (last : Option ℕ) (k a b c : ℕ) → a ≤ b → RoseBy last k b c → RoseBy last k a c
+rose_by_later None k a b c le rose = omega arith
+rose_by_later (Some l) k a b c le rose = omega arith
+
+-- no read at all leaves everything
+pub reads_none : (data_of : FilesData) → OnlyReads data_of data_of
+reads_none f = record {
+  no_fewer_faults = λ name. omega arith;
+  no_fewer_bytes = omega arith;
+  same_writes = refl;
+  same_contents = refl;
+}
+
+-- reads after reads
+pub reads_on : {old mid new : FilesData} → OnlyReads old mid → OnlyReads mid new → OnlyReads old new
+reads_on first second = record {
+  no_fewer_faults = λ name. omega (arith, first.no_fewer_faults name, second.no_fewer_faults name);
+  no_fewer_bytes = omega (arith, first.no_fewer_bytes, second.no_fewer_bytes);
+  same_writes = second.same_writes ∙ first.same_writes;
+  same_contents = second.same_contents ∙ first.same_contents;
+}
+
+module _ {A : Type 0} (F : FilesGhosts A) (x y z : A) where
+  long_later : (ending : Ending) → OnlyReads (files_data F x) (files_data F y) →
+      IsLongShown (files_data F y) (files_data F z) ending → IsLongShown (files_data F x) (files_data F z) ending
+  long_later ending reads shown =
+      λ file is untold. rose_by_later F.last_count (file_limit + 1) (F.bytes_taken x) (F.bytes_taken y)
+      (F.bytes_taken z) reads.no_fewer_bytes (shown file is untold)
+
+  -- what stops a step behind others stops the command
+  pub stops_later : {C D : Ending → Type 0} (names : List (List ℕ)) (one : List ℕ) (stop : Stop) →
+      Contains names one → OnlyReads (files_data F x) (files_data F y) →
+      ((ending : Ending) → IsTrue F.tells → C ending → D ending) →
+      StopsBy (IsRefusal C (one ∷ []) (files_data F y) (files_data F z))
+      (IsReadFailure (one ∷ []) (files_data F y) (files_data F z)) stop →
+      StopsBy (IsRefusal D names (files_data F x) (files_data F z))
+      (IsReadFailure names (files_data F x) (files_data F z)) stop
+  stops_later names one (Ends ending) among reads leads refusal = record {
+    cause = λ told. leads ending told (refusal.cause told);
+    named = named_later names one ending among refusal.named;
+    long = long_later ending reads refusal.long;
+  }
+  stops_later names one (Fails Memory) among reads leads failure = tt
+  stops_later names one (Fails (ReadFault name)) among reads leads failure = (
+    lifted names one name among failure.0,
+    rose_later F.last_count (F.read_faults x name) (F.read_faults y name) (F.read_faults z name)
+        (reads.no_fewer_faults name) failure.1,
+  )
+  stops_later names one (Fails (WriteFault name)) among reads leads failure = elim failure [ ]

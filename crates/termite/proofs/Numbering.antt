@@ -5,7 +5,7 @@ use Rattle.std.specs.Coded.{le_prop}
 use Rattle.tm_syntax.specs.Tree.{NamedTree, ProcessTree, TemplateTree, SpecTree}
 use Rattle.tm_syntax.specs.Design.{DesignTree, InstanceNode, IsDesign, all_items, with_goal}
 use Rattle.tm_syntax.specs.Design.Small.{IsSmall}
-use Rattle.termite.specs.Advance.{IsPlayable}
+use Rattle.termite.specs.Inner.Advance.{IsPlayable}
 
 abbrev main_node : InstanceNode
 main_node = record { path = []; template = 0; ports = []; children = [] }

@@ -14,12 +14,12 @@ use Rattle.tm_sem.proofs.Determined.{one_outcome, one_first}
 use Rattle.tm_cir.specs.Tree.{BlockTree}
 use Rattle.tm_cir.specs.Answer.{AnswersFrom, goes_first, goes_second, calls, leaves, idles}
 use Rattle.tm_cir.proofs.Determined.{one_answer}
-use Rattle.termite.specs.declared.script.Actor.{Actor}
-use Rattle.termite.specs.declared.script.Actor.TheVariants.{Stutter, Process, Driver}
-use Rattle.termite.specs.declared.status.StopWhy.{StopWhy}
-use Rattle.termite.specs.declared.status.StopWhy.TheVariants.{Error, Forbidden, Illegal}
-use Rattle.termite.specs.declared.status.Status.{Status}
-use Rattle.termite.specs.declared.status.Status.TheVariants.{Stopped}
+use Rattle.termite.specs.declared.input.script.Actor.{Actor}
+use Rattle.termite.specs.declared.input.script.Actor.TheVariants.{Stutter, Process, Driver}
+use Rattle.termite.specs.declared.ending.StopWhy.{StopWhy}
+use Rattle.termite.specs.declared.ending.StopWhy.TheVariants.{Error, Forbidden, Illegal}
+use Rattle.termite.specs.declared.ending.Ending.{Ending}
+use Rattle.termite.specs.declared.ending.Ending.TheVariants.{Stopped}
 use Rattle.termite.specs.Script.{TurnData, ScriptData}
 use Rattle.termite.specs.Played.{IsMoveOf, Follows, state_after, goal_after, play_text, Reaches, Stops, Ends, plays, stops, begins_badly}
 
@@ -259,28 +259,28 @@ module _ (d : DesignTree) (bs : List BlockTree) where
     no_start n s g text p none = none p.first p.play.start
 
     -- a text of choices has one end
-    pub one_end : (text other_text : List ℕ) (status other : Status) → Ends d bs c text status →
-        Ends d bs c other_text other → (text ≡ other_text) × (status ≡ other)
-    one_end text other_text status other (plays {s = s} {g = g} p) (plays {s = s2} {g = g2} q) =
+    pub one_end : (text other_text : List ℕ) (ending other : Ending) → Ends d bs c text ending →
+        Ends d bs c other_text other → (text ≡ other_text) × (ending ≡ other)
+    one_end text other_text ending other (plays {s = s} {g = g} p) (plays {s = s2} {g = g2} q) =
         ((one_reach (length c.turns) (length c.turns) s s2 g g2 text other_text p q refl).lines, refl)
-    one_end text other_text status other (plays {s = s} {g = g} p)
+    one_end text other_text ending other (plays {s = s} {g = g} p)
         (stops {n = n} {s = s2} {g = g2} {t = t} {why = why} q at stop) =
         absurd (no_longer n (length c.turns) s2 s g2 g other_text text t why q at stop p (below_end c.turns n t at))
-    one_end text other_text status other (plays {s = s} {g = g} p) (begins_badly none) =
+    one_end text other_text ending other (plays {s = s} {g = g} p) (begins_badly none) =
         absurd (no_start (length c.turns) s g text p none)
-    one_end text other_text status other (stops {n = n} {s = s2} {g = g2} {t = t} {why = why} q at stop)
+    one_end text other_text ending other (stops {n = n} {s = s2} {g = g2} {t = t} {why = why} q at stop)
         (plays {s = s} {g = g} p) =
         absurd (no_longer n (length c.turns) s2 s g2 g text other_text t why q at stop p (below_end c.turns n t at))
-    one_end text other_text status other (stops {n = n} {s = s} {g = g} {t = t} {why = why} p at stop)
+    one_end text other_text ending other (stops {n = n} {s = s} {g = g} {t = t} {why = why} p at stop)
         (stops {n = k} {s = s2} {g = g2} {t = t2} {why = why2} q there stop2) =
         ⊎_elim (λ same. one_stop n k s s2 g g2 text other_text t t2 why why2 p at stop q there stop2 same)
         (⊎_elim (λ below. absurd (no_longer n k s s2 g g2 text other_text t why p at stop q below))
         (λ below. absurd (no_longer k n s2 s g2 g other_text text t2 why2 q there stop2 p below)))
         (cases_order n k)
-    one_end text other_text status other (stops {n = n} {s = s} {g = g} p at stop) (begins_badly none) =
+    one_end text other_text ending other (stops {n = n} {s = s} {g = g} p at stop) (begins_badly none) =
         absurd (no_start n s g text p none)
-    one_end text other_text status other (begins_badly none) (plays {s = s} {g = g} p) =
+    one_end text other_text ending other (begins_badly none) (plays {s = s} {g = g} p) =
         absurd (no_start (length c.turns) s g other_text p none)
-    one_end text other_text status other (begins_badly none) (stops {n = n} {s = s} {g = g} p at stop) =
+    one_end text other_text ending other (begins_badly none) (stops {n = n} {s = s} {g = g} p at stop) =
         absurd (no_start n s g other_text p none)
-    one_end text other_text status other (begins_badly none) (begins_badly others) = (refl, refl)
+    one_end text other_text ending other (begins_badly none) (begins_badly others) = (refl, refl)

@@ -13,13 +13,13 @@ use Rattle.tm_cir.specs.Tree.{BlockTree}
 use Rattle.tm_sem.specs.First.{IsFirst}
 use Rattle.termite.specs.Script.{TurnData, ScriptData}
 use Rattle.termite.specs.Report.{state_line}
-use Rattle.termite.specs.declared.status.StopWhy.{StopWhy}
-use Rattle.termite.specs.declared.status.Status.TheVariants.{Played, Stopped}
-use Rattle.termite.specs.declared.turn.TurnOutcome.{TurnOutcome}
-use Rattle.termite.specs.declared.turn.TurnOutcome.TheVariants.{To, Stop}
-use Rattle.termite.specs.declared.turn.Position.{Position}
+use Rattle.termite.specs.declared.ending.StopWhy.{StopWhy}
+use Rattle.termite.specs.declared.ending.Ending.TheVariants.{Played, Stopped}
+use Rattle.termite.specs.declared.play.turn.TurnOutcome.{TurnOutcome}
+use Rattle.termite.specs.declared.play.turn.TurnOutcome.TheVariants.{To, Stop}
+use Rattle.termite.specs.declared.play.turn.Position.{Position}
 use Rattle.termite.specs.Played.{Reaches, Stops, Ends, plays, stops}
-use Rattle.termite.specs.Advance.{Begins, Advances, IsPosition}
+use Rattle.termite.specs.Inner.Advance.{Begins, Advances, IsPosition}
 use Rattle.termite.proofs.Reaching.{reaches_first, reaches_next}
 
 -- the play has so many steps and its lines are put
@@ -54,6 +54,12 @@ cut_more before mid now text line whole part = (
 pub on_err : {T E P : Type 0} (r : Result T E) → P → OnErr r P
 on_err (Ok x) p = tt
 on_err (Err e) p = p
+
+-- what was put of one line before an error was put of the same line
+pub err_as : {T E : Type 0} (r : Result T E) (P : Type 0) (line text before now : List ℕ) → line ≡ text →
+    OnErr r (P → AppendsPrefix line before now) → OnErr r (P → AppendsPrefix text before now)
+err_as r P line text before now is cut =
+    subst (λ (t : List ℕ). OnErr r (P → AppendsPrefix t before now)) is cut
 
 -- the item at a place of a list
 pub item_at : {A : Type 0} (xs : List A) (i : ℕ) (x : A) → i < length xs → x ≡ get_or xs i x → slice_get xs i ≡ Some x

@@ -6,11 +6,11 @@ use Rattle.tm_sem.specs.declared.state.Move.{Move}
 use Rattle.tm_sem.specs.declared.state.Outcome.TheVariants as outcomes
 use Rattle.tm_sem.specs.Step.{Step}
 use Rattle.tm_cir.specs.Tree.{BlockTree}
-use Rattle.termite.specs.declared.status.StopWhy.{StopWhy}
-use Rattle.termite.specs.declared.status.StopWhy.TheVariants.{Error, Forbidden, Illegal}
+use Rattle.termite.specs.declared.ending.StopWhy.{StopWhy}
+use Rattle.termite.specs.declared.ending.StopWhy.TheVariants.{Error, Forbidden, Illegal}
 use Rattle.termite.specs.Script.{TurnData}
 use Rattle.termite.specs.Played.{IsMoveOf, Stops}
-use Rattle.termite.specs.Advance.{IsWhyNone}
+use Rattle.termite.specs.Inner.Advance.{IsWhyNone}
 
 -- a move without an outcome stops the play
 pub none_stops : (d : DesignTree) (bs : List BlockTree) (s : StateData) (g : ℕ) (t : TurnData) (m : Move)

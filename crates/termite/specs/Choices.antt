@@ -6,10 +6,10 @@ use Rattle.std.specs.List.{slice_split, enumerate_from}
 use Rattle.std.specs.Str.{bytes_eq, all_ascii_digits}
 use Rattle.std.specs.Str.Lines.{lines}
 use Rattle.tm_syntax.specs.declared.design.Item.{Item}
-use Rattle.termite.specs.declared.script.Actor.{Actor}
-use Rattle.termite.specs.declared.script.Actor.TheVariants.{Stutter, Process, Driver}
-use Rattle.termite.specs.declared.choices.ScriptError.{ScriptError}
-use Rattle.termite.specs.declared.choices.ScriptError.TheVariants.{BadLine, Memory}
+use Rattle.termite.specs.declared.input.script.Actor.{Actor}
+use Rattle.termite.specs.declared.input.script.Actor.TheVariants.{Stutter, Process, Driver}
+use Rattle.termite.specs.declared.input.choices.ScriptError.{ScriptError}
+use Rattle.termite.specs.declared.input.choices.ScriptError.TheVariants.{BadLine, Memory}
 use Rattle.termite.specs.Script.{TurnData, ScriptData}
 
 -- some digits, and no zero before others

@@ -1,10 +1,12 @@
-pub mod Advance
-pub mod Answer
 pub mod Choices
+pub mod Commands
+pub mod Headline
+pub mod Inner
 pub mod Inputs
 pub mod Played
 pub mod Report
+pub mod Run
 pub mod Script
-pub mod Sinking
 pub mod Status
 pub mod Words
+pub mod World

@@ -10,12 +10,12 @@ use Rattle.tm_sem.specs.Play.{Entry, IsPlay, pending_at}
 use Rattle.tm_cir.specs.Tree.{BlockTree}
 use Rattle.tm_cir.specs.Answer.{Answers}
 use Rattle.tm_sem.specs.First.{IsFirst}
-use Rattle.termite.specs.declared.script.Actor.{Actor}
-use Rattle.termite.specs.declared.script.Actor.TheVariants.{Stutter, Process, Driver}
-use Rattle.termite.specs.declared.status.StopWhy.{StopWhy}
-use Rattle.termite.specs.declared.status.StopWhy.TheVariants.{Error, Forbidden, Illegal}
-use Rattle.termite.specs.declared.status.Status.{Status}
-use Rattle.termite.specs.declared.status.Status.TheVariants.{Played, Stopped}
+use Rattle.termite.specs.declared.input.script.Actor.{Actor}
+use Rattle.termite.specs.declared.input.script.Actor.TheVariants.{Stutter, Process, Driver}
+use Rattle.termite.specs.declared.ending.StopWhy.{StopWhy}
+use Rattle.termite.specs.declared.ending.StopWhy.TheVariants.{Error, Forbidden, Illegal}
+use Rattle.termite.specs.declared.ending.Ending.{Ending}
+use Rattle.termite.specs.declared.ending.Ending.TheVariants.{Played, Stopped}
 use Rattle.termite.specs.Script.{TurnData, ScriptData}
 use Rattle.termite.specs.Report.{state_line}
 
@@ -85,7 +85,7 @@ Stops d bs s g t Illegal =
     × (t.actor ≡ Driver → IsAllowed d s m))
 
 -- how the play of choices ends, with the lines of its states
-pub data Ends (d : DesignTree) (bs : List BlockTree) (c : ScriptData) : List ℕ → Status → Type 0 where
+pub data Ends (d : DesignTree) (bs : List BlockTree) (c : ScriptData) : List ℕ → Ending → Type 0 where
   plays : {s : StateData} {g : ℕ} {text : List ℕ} →
       Reaches d bs c (length c.turns) s g text → Ends d bs c text (Played (length c.turns))
   stops : {n : ℕ} {s : StateData} {g : ℕ} {text : List ℕ} {t : TurnData} {why : StopWhy} →

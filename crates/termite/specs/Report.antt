@@ -1,5 +1,5 @@
 -- The lines of reports. A line ends in a line feed.
-use Rattle.std.specs.Prelude.{ℕ, Option, None, Some, List, [], ◌∷◌, ◌++◌, codes, slice_get}
+use Rattle.std.specs.Prelude.{ℕ, Option, None, Some, Result, Ok, Err, List, [], ◌∷◌, ◌++◌, codes, slice_get}
 use Rattle.std.specs.Option.{option_map_or}
 use Rattle.std.specs.List.{flat_map, zip}
 use Rattle.std.specs.Fmt.{decimal}
@@ -9,12 +9,14 @@ use Rattle.tm_syntax.specs.Design.{DesignTree}
 use Rattle.tm_sem.specs.State.{StateData}
 use Rattle.tm_sem.specs.declared.state.Move.{Move}
 use Rattle.tm_sem.specs.declared.state.Move.TheVariants as moves
-use Rattle.termite.specs.declared.status.Bad.{Bad}
-use Rattle.termite.specs.declared.status.Bad.TheVariants.{TooLong, Choices}
-use Rattle.termite.specs.declared.status.StopWhy.{StopWhy}
-use Rattle.termite.specs.declared.status.StopWhy.TheVariants.{Error, Forbidden, Illegal}
-use Rattle.termite.specs.declared.status.Status.{Status}
-use Rattle.termite.specs.declared.status.Status.TheVariants.{Played, Usage, ReadFault, WriteFault, Memory, BadText, Stopped, Unbuilt}
+use Rattle.termite.specs.declared.ending.Bad.{Bad}
+use Rattle.termite.specs.declared.ending.Bad.TheVariants.{TooLong, Choices}
+use Rattle.termite.specs.declared.ending.StopWhy.{StopWhy}
+use Rattle.termite.specs.declared.ending.StopWhy.TheVariants.{Error, Forbidden, Illegal}
+use Rattle.termite.specs.declared.ending.Ending.{Ending}
+use Rattle.termite.specs.declared.ending.Ending.TheVariants.{Usage, Played, Stopped, BadText, Unbuilt}
+use Rattle.termite.specs.declared.ending.Failure.{Failure}
+use Rattle.termite.specs.declared.ending.Failure.TheVariants.{ReadFault, WriteFault, Memory}
 
 -- `PATH=VALUE `
 abbrev pub var_text : Var × ℕ → List ℕ
@@ -79,19 +81,22 @@ usage_text =
     ++ codes "       termite gen N OUT\n"
     ++ codes "       termite migrate SPEC CERT OUT\n"
 
--- the line of a status, if it has one: none where the output or memory failed
-abbrev pub line_text : Status → List ℕ
-line_text (Played n) = codes "played " ++ decimal n ++ codes "\n"
-line_text Usage = []
-line_text (ReadFault name) = codes "read fault " ++ name ++ codes "\n"
-line_text (WriteFault []) = []
-line_text (WriteFault (b ∷ bs)) = codes "write fault " ++ (b ∷ bs) ++ codes "\n"
-line_text Memory = []
-line_text (BadText file why) = codes "bad " ++ file ++ codes " " ++ bad_text why ++ codes "\n"
-line_text (Stopped step why) = codes "stopped " ++ decimal step ++ codes " " ++ why_text why ++ codes "\n"
-line_text (Unbuilt name) = codes "unbuilt " ++ name ++ codes "\n"
+-- the lines that tell an end
+abbrev pub ending_text : Ending → List ℕ
+ending_text Usage = usage_text
+ending_text (Played n) = codes "played " ++ decimal n ++ codes "\n"
+ending_text (Stopped step why) = codes "stopped " ++ decimal step ++ codes " " ++ why_text why ++ codes "\n"
+ending_text (BadText file why) = codes "bad " ++ file ++ codes " " ++ bad_text why ++ codes "\n"
+ending_text (Unbuilt name) = codes "unbuilt " ++ name ++ codes "\n"
 
--- the lines that tell a status
-abbrev pub status_text : Status → List ℕ
-status_text Usage = usage_text
-status_text status = line_text status
+-- the line that tells a failure, if it has one: none where the output or memory failed
+abbrev pub failure_text : Failure → List ℕ
+failure_text (ReadFault name) = codes "read fault " ++ name ++ codes "\n"
+failure_text (WriteFault []) = []
+failure_text (WriteFault (b ∷ bs)) = codes "write fault " ++ (b ∷ bs) ++ codes "\n"
+failure_text Memory = []
+
+-- the lines that tell an end or a failure
+abbrev pub outcome_text : Result Ending Failure → List ℕ
+outcome_text (Ok ending) = ending_text ending
+outcome_text (Err failure) = failure_text failure

@@ -1,6 +1,6 @@
 -- What a text of choices says, as plain data.
 use Rattle.std.specs.Prelude.{ℕ, List}
-use Rattle.termite.specs.declared.script.Actor.{Actor}
+use Rattle.termite.specs.declared.input.script.Actor.{Actor}
 
 -- who moves in a step, and with which choices
 pub record TurnData : Type 0 where

@@ -1,7 +1,22 @@
--- How a command ends, and with which code the program does.
-use Rattle.std.specs.Prelude.{ℕ}
+-- What a status tells, and with which code the program ends.
+use Rattle.std.specs.Prelude.{ℕ, Result, Ok, Err}
+use Rattle.termite.specs.declared.ending.Ending.{Ending}
+use Rattle.termite.specs.declared.ending.Ending.TheVariants as endings
+use Rattle.termite.specs.declared.ending.Failure.{Failure}
+use Rattle.termite.specs.declared.ending.Failure.TheVariants as failures
 use Rattle.termite.specs.declared.status.Status.{Status}
 use Rattle.termite.specs.declared.status.Status.TheVariants.{Played, Usage, ReadFault, WriteFault, Memory, BadText, Stopped, Unbuilt}
+
+-- the end of a command, or the failure that came before it
+abbrev pub outcome_of : Status → Result Ending Failure
+outcome_of Usage = Ok endings.Usage
+outcome_of (Played n) = Ok (endings.Played n)
+outcome_of (Stopped step why) = Ok (endings.Stopped step why)
+outcome_of (BadText file why) = Ok (endings.BadText file why)
+outcome_of (Unbuilt name) = Ok (endings.Unbuilt name)
+outcome_of (ReadFault name) = Err (failures.ReadFault name)
+outcome_of (WriteFault name) = Err (failures.WriteFault name)
+outcome_of Memory = Err failures.Memory
 
 -- the code of a status
 abbrev pub code_of : Status → ℕ

@@ -2,8 +2,8 @@
 use Rattle.std.specs.Prelude.{ℕ, Bool, true, false, ◌==◌, ◌&&◌, not, Option, None, List, [], ◌∷◌, codes}
 use Rattle.std.specs.Bool.{then_some}
 use Rattle.std.specs.Str.{bytes_eq}
-use Rattle.termite.specs.declared.words.Command.{Command as Words}
-use Rattle.termite.specs.declared.words.Command.TheVariants as words
+use Rattle.termite.specs.declared.words.command.Command.{Command as Words}
+use Rattle.termite.specs.declared.words.command.Command.TheVariants as words
 
 -- a command, with the names of its files
 pub data Command : Type 0 where

@@ -1,24 +1,16 @@
 //! The program: it plays a driver against a specification and reports what happens.
 #![tactic(auto)]
 
-mod choices;
+mod ending;
+mod input;
 mod laws;
-mod line_text;
-mod lines;
-mod load;
-mod number;
 mod play;
-mod play_text;
 mod program;
-mod put;
 mod report;
 mod run;
-mod script;
-mod state_text;
 mod status;
 #[cfg(test)]
 mod tests;
-mod turn;
 mod words;
 
 use std::alloc::{AllocError, Global};

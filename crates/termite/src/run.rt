@@ -1,16 +1,17 @@
 //! The command `run`.
-ghost use Rattle.std.specs.Prelude.{◌≢◌, ◌≤◌, [], ◌∷◌, IsTrue};
-ghost use Rattle.termite.specs.Inputs.{OnlyReads, TookTooMany};
-ghost use Rattle.termite.specs.Answer.{RunEnds, IsRunPart, Explains, Puts, IsFaultShown};
+ghost use Rattle.std.specs.Prelude.{Some};
+ghost use Rattle.termite.specs.Words.{run as run_words};
+ghost use Rattle.termite.specs.World.{files_data, sink_data};
+ghost use Rattle.termite.specs.Inner.Obeying.{Obeys};
 
-use crate::load::load;
-use crate::play::play;
-use crate::status::Status;
+use crate::ending::{Ending, Failure};
+use crate::input::load::load;
+use crate::play::turns::play;
 use std::alloc::Global;
 use tm_base::{Files, Sink};
 
 /// Plays the choices against the driver's blocks over the design, and puts the line of each state. The lines that tell
-/// the status are left.
+/// the outcome are left.
 pub fn run<F: Files, O: Sink>(
     alloc: Global,
     files: &mut F,
@@ -18,28 +19,14 @@ pub fn run<F: Files, O: Sink>(
     spec: &str,
     driver: &str,
     choices: &str,
-) -> Status
-    ensures ends { IsTrue F.tells → Explains (RunEnds (F.contents files.old) spec.now driver.now choices.now) result }
-    ensures puts { IsTrue F.tells → IsTrue O.tells →
-        Puts (RunEnds (F.contents files.old) spec.now driver.now choices.now)
-        (IsRunPart (F.contents files.old) spec.now driver.now choices.now)
-        (O.written out.old) (O.written out.new) result }
-    ensures faults { IsFaultShown (spec.now ∷ driver.now ∷ choices.now ∷ [])
-        F.last_count (F.read_faults files.old) (F.read_faults files.new)
-        O.last_count (O.faults out.old) (O.faults out.new) result }
-    ensures no_usage { result ≢ Status.Usage }
-    ensures taken { TookTooMany F.tells F.last_count (F.bytes_taken files.old) (F.bytes_taken files.new) result }
-    ensures files { OnlyReads (F.read_faults files.old) (F.read_faults files.new)
-        (F.write_faults files.old) (F.write_faults files.new) (F.bytes_taken files.old) (F.bytes_taken files.new)
-        (F.contents files.old) (F.contents files.new) }
-    ensures no_fewer_faults { O.faults out.old ≤ O.faults out.new }
+) -> Result<Ending, Failure>
+    ensures { Obeys (Some (run_words spec.now driver.now choices.now))
+        (files_data ⟦<F as Files>⟧ files.old) (files_data ⟦<F as Files>⟧ files.new)
+        (sink_data ⟦<O as Sink>⟧ out.old) (sink_data ⟦<O as Sink>⟧ out.new) result }
 {
     let inputs = match load(alloc, files, spec, driver, choices) {
         Ok(inputs) => inputs,
-        Err(status) => return status,
+        Err(stop) => return stop.outcome(),
     };
-    match play(alloc, &inputs.design, &inputs.blocks, &inputs.script, out) {
-        Ok(status) => status,
-        Err(status) => status,
-    }
+    play(alloc, &inputs.design, &inputs.blocks, &inputs.script, out)
 }

@@ -1,29 +1,11 @@
-//! How a command ends.
+//! What the program answers.
 ghost use Rattle.std.specs.Prelude.{◌≡◌};
+ghost use Rattle.termite.specs.Status.{outcome_of};
 
-use std::alloc::AllocError;
+use crate::ending::{Bad, Ending, Failure, StopWhy};
 use tm_base::Name;
 
-/// Why a text has no reading.
-#[derive(Clone, Copy, Debug, PartialEq, Eq)]
-pub enum Bad {
-    TooLong,
-    /// The number of the first bad line of a text of choices.
-    Choices(u64),
-}
-
-/// Why a play stops at a step.
-#[derive(Clone, Copy, Debug, PartialEq, Eq)]
-pub enum StopWhy {
-    /// An assertion fails.
-    Error,
-    /// The driver's answer is not allowed.
-    Forbidden,
-    /// The environment's part is not legal.
-    Illegal,
-}
-
-/// How a command ends. A name is a file's; that of a failed write is empty where the output failed.
+/// How a command ended. A name is a file's; that of a failed write is empty where the output failed.
 #[derive(Drop)]
 pub enum Status {
     /// The choices were read to their end and are a play of so many steps.
@@ -39,17 +21,6 @@ pub enum Status {
     Stopped { step: u64, why: StopWhy },
     /// The file is in no language that is read so far.
     Unbuilt(Name),
-}
-
-impl From<AllocError> for Status {
-    ghost use Rattle.std.specs.Prelude.{◌≡◌};
-    ghost use Rattle.termite.specs.declared.status.Status.TheVariants.{Memory};
-
-    ghost from_gives = { λ _ status. status ≡ Memory };
-
-    fn from(_error: AllocError) -> Status {
-        Status::Memory
-    }
 }
 
 impl Status {
@@ -69,5 +40,21 @@ impl Status {
             Status::Stopped { .. } => 9,
             Status::Unbuilt(_) => 10,
         }
+    }
+}
+
+/// The status that tells an end or a failure.
+pub fn status_of(outcome: Result<Ending, Failure>) -> Status
+    ensures { outcome_of result ≡ outcome }
+{
+    match outcome {
+        Ok(Ending::Usage) => Status::Usage,
+        Ok(Ending::Played(steps)) => Status::Played(steps),
+        Ok(Ending::Stopped { step, why }) => Status::Stopped { step, why },
+        Ok(Ending::BadText { file, why }) => Status::BadText { file, why },
+        Ok(Ending::Unbuilt(name)) => Status::Unbuilt(name),
+        Err(Failure::ReadFault(name)) => Status::ReadFault(name),
+        Err(Failure::WriteFault(name)) => Status::WriteFault(name),
+        Err(Failure::Memory) => Status::Memory,
     }
 }

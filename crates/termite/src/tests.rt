@@ -1,6 +1,6 @@
 //! Runs of the whole program over files and a sink in memory.
 
-use crate::load::load;
+use crate::input::load::load;
 use crate::program::termite;
 use smallvec::SmallVec;
 use std::alloc::{AllocError, Global};

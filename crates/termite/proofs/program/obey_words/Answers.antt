@@ -1,10 +1,7 @@
-use Rattle.std.proofs.Common.{refl, sym, []}
-use Rattle.std.proofs.lemmas.List.{append-nil}
+use Rattle.termite.specs.World.{files_data, sink_data}
+use Rattle.termite.proofs.Running.{usage_obeys}
 use Rattle.termite.proofs.program.obey_words.Goals as goal
 
-pub returns-in-None-clause-ends : goal.returns-in-None-clause-ends
-returns-in-None-clause-ends g c = λ told. rw (← c.in-None.ensures) ([], (refl, refl))
-
-pub returns-in-None-clause-puts : goal.returns-in-None-clause-puts
-returns-in-None-clause-puts g c =
-    λ told sink. rw (← c.in-None.ensures) ([], (refl, refl), sym (append-nil (g.O.Sink.written c.args.out.now)))
+pub returns-in-None : goal.returns-in-None
+returns-in-None g c =
+    usage_obeys _ (files_data g.F.Files c.args.files.now) (sink_data g.O.Sink c.args.out.now) c.in-None.ensures
