@@ -1,0 +1,16 @@
+pub mod ArrivalNumbers
+pub mod CalledBodies
+pub mod Processes
+pub mod QuietBodies
+pub mod RowNumbers
+pub mod SettledBodies
+pub mod TableCallees
+pub mod TextArguments
+pub mod TextLeads
+pub mod TrailNumbers
+pub mod Trails
+pub mod WalkCalls
+pub mod WalkParts
+pub mod WalkSteps
+pub mod WalkTables
+pub mod WalkWeights

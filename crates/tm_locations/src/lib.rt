@@ -1,0 +1,17 @@
+//! The locations of the processes of a design, each with its place, the trail of calls that leads to it, and what is
+//! left to be done after it.
+#![tactic(auto)]
+
+mod callees;
+mod find;
+mod laws;
+mod locations;
+mod numbers;
+mod table;
+mod walk;
+
+pub use find::find_locations;
+pub use laws::{
+    bodies_that_do_not_pause_hold_no_location, locations_settle, sound_designs_lead_by_text,
+};
+pub use table::{LocationRow, Locations, RestNode, TrailNode, Work};
