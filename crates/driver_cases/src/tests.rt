@@ -1,4 +1,5 @@
 //! Texts with the blocks or the faults that the rules of the C text give them.
+mod answers;
 mod blocks;
 mod expressions;
 mod sample;

@@ -13,6 +13,3 @@ mod term_bits;
 pub use blast::bits;
 pub use levels::are_levels;
 pub use memory::TermBits;
-
-#[cfg(test)]
-mod tests;

@@ -12,8 +12,6 @@ mod path;
 mod read;
 mod refusal;
 mod shape;
-#[cfg(test)]
-mod tests;
 mod write;
 
 pub use cert::{Cert, CertLevel, DriverCert, Entry, EnvCert, Rank};

@@ -58,6 +58,3 @@ pub fn driver_texts_are_determined()
     ensures { (d : DesignTree) (text : List ℕ) (one other : List BlockTree)
         → IsDriverText d text one → IsDriverText d text other → one ≡ other }
 {}
-
-#[cfg(test)]
-mod tests;

@@ -13,8 +13,6 @@ mod comment;
 mod number;
 mod piece;
 mod sign;
-#[cfg(test)]
-mod tests;
 mod word;
 
 use piece::{Piece, first_piece};

@@ -23,8 +23,6 @@ mod operators;
 mod specification;
 mod statements;
 mod stop;
-#[cfg(test)]
-mod tests;
 
 pub use laws::{
     deep_tokens_are_faults, faults_are_determined, texts_have_one_fault, tokens_stand_alike,

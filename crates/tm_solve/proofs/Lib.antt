@@ -1,4 +1,3 @@
-mod ExampleFacts
 mod Fixed
 mod Following
 mod Items

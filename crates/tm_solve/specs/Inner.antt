@@ -1,4 +1,3 @@
-pub mod Example
 pub mod Goals
 pub mod Rounds
 pub mod Turns

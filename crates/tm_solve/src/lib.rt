@@ -10,8 +10,6 @@ mod iterates;
 mod pre;
 mod rounds;
 mod solving;
-#[cfg(test)]
-mod tests;
 mod turns;
 
 pub use certificates::{

@@ -303,6 +303,3 @@ fn make_room(room: &mut RefCell<Vec<u64>>, count: usize) -> Result<(), AllocErro
     }
     Ok(())
 }
-
-#[cfg(test)]
-mod tests;

@@ -1,0 +1,5 @@
+//! A game worked out by hand, solved.
+#![tactic(auto)]
+
+#[cfg(test)]
+mod tests;
