@@ -1,4 +1,4 @@
-//! C texts of drivers, and the blocks or faults that `tm_cparse` finds in them.
+//! C texts of drivers, with the blocks or faults that are found in them, and what drivers answer.
 #![tactic(auto)]
 
 #[cfg(test)]
