@@ -14,7 +14,8 @@ use Rattle.tm_sem.specs.declared.state.Move.{Move}
 use Rattle.tm_sem.specs.declared.state.Move.TheVariants as moves
 use Rattle.tm_cir.specs.declared.block.Num64.{Num64}
 use Rattle.tm_cir.specs.declared.block.Block.{Block}
-use Rattle.tm_cir.specs.declared.block.TheConstants.{MOST_ARGUMENTS}
+use Rattle.tm_syntax.specs.declared.fault.Quantity.TheVariants as quantity
+use Rattle.tm_syntax.specs.Faults.Limits.{limit_of}
 use Rattle.tm_cir.specs.Tree.{BlockTree, test, call, leave, idle}
 use Rattle.tm_cir.specs.View.{num_tree, block_tree, block_trees}
 use Rattle.tm_cir.specs.Meaning.{num_value, holds}
@@ -54,7 +55,7 @@ abbrev pub FitsAt : StateData → ℕ → ℕ → BlockTree → Type 0
 FitsAt s count at (test t first second) =
     FitsTruth (length s.values) (length s.places) t × IsLater at count first × IsLater at count second
 FitsAt s count at (call task args) =
-    (length args ≤ MOST_ARGUMENTS) × All (FitsNum (length s.values) (length s.places)) args
+    (length args ≤ limit_of quantity.Arguments) × All (FitsNum (length s.values) (length s.places)) args
 FitsAt s count at (leave process) = Unit {0}
 FitsAt s count at idle = Unit {0}
 

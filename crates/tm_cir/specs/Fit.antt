@@ -5,7 +5,8 @@ use Rattle.tm_syntax.specs.declared.design.Item.{Item}
 use Rattle.tm_syntax.specs.Tree.{TaskTree}
 use Rattle.tm_syntax.specs.Design.{DesignTree}
 use Rattle.tm_sem.specs.State.{StateData}
-use Rattle.tm_cir.specs.declared.block.TheConstants.{MOST_ARGUMENTS}
+use Rattle.tm_syntax.specs.declared.fault.Quantity.TheVariants as quantity
+use Rattle.tm_syntax.specs.Faults.Limits.{limit_of}
 use Rattle.tm_cir.specs.Tree.{NumTree, constant, var, location, goal, last, complement, binary, shift, conditional, TruthTree, num, negation, compare, join, BlockTree, test, call, leave, idle}
 
 -- an expression's variables and locations are below these numbers, and its shifts are by less than 64
@@ -49,7 +50,7 @@ abbrev pub FitsBlock : DesignTree → ℕ → ℕ → BlockTree → Type 0
 FitsBlock d count at (test t first second) =
     FitsTruth (length d.vars) (length d.processes) t × IsLater at count first × IsLater at count second
 FitsBlock d count at (call task args) =
-    (parameter_count d task ≡ Some (length args)) × (length args ≤ MOST_ARGUMENTS)
+    (parameter_count d task ≡ Some (length args)) × (length args ≤ limit_of quantity.Arguments)
     × All (FitsNum (length d.vars) (length d.processes)) args
 FitsBlock d count at (leave p) = p < length d.processes
 FitsBlock d count at idle = Unit {0}

@@ -11,7 +11,7 @@ use Rattle.tm_cparse.specs.declared.bad.BadDriver.TheVariants.{TooLong, Text, Un
 use Rattle.tm_cparse.specs.declared.bad.ReadDriverError.{ReadDriverError}
 use Rattle.tm_cparse.specs.declared.bad.ReadDriverError.TheVariants.{Bad, Memory}
 use Rattle.tm_cparse.specs.declared.names.TokenPlace.{TokenPlace}
-use Rattle.tm_cparse.specs.declared.reader.TheConstants.{MOST_BYTES}
+use Rattle.tm_syntax.specs.Limits.{file_limit}
 use Rattle.tm_cparse.specs.declared.spot.Spot.{Spot}
 use Rattle.tm_cparse.specs.View.{token_tree, tokens_of}
 use Rattle.tm_cparse.specs.Written.{WrittenBlock, AreWritten, Begins}
@@ -140,7 +140,7 @@ named_fault d line body spots found last whole ws bad same scan is written fault
     fault)
 
 -- no include
-pub include_fault : (d : DesignTree) (text : List ℕ) (line : ℕ) → length text ≤ MOST_BYTES → IsNoInclude text line →
+pub include_fault : (d : DesignTree) (text : List ℕ) (line : ℕ) → length text ≤ file_limit → IsNoInclude text line →
     HasFault d text (Text line)
 include_fault d text line short none = (
   short,
@@ -226,12 +226,12 @@ pub memory_fault : (d : DesignTree) (line : ℕ) (body : List ℕ) (e : ReadDriv
 memory_fault d line body e is = subst (IsBodyFault d line body) (sym is) (λ text behind short. tt)
 
 -- what stands behind the include is no longer than the text, and begins on a low line
-pub behind_short : (text body : List ℕ) (line : ℕ) → IsBehindInclude text body line → length text ≤ MOST_BYTES →
-    length body ≤ MOST_BYTES
+pub behind_short : (text body : List ℕ) (line : ℕ) → IsBehindInclude text body line → length text ≤ file_limit →
+    length body ≤ file_limit
 behind_short text body line behind short =
     omega (arith, ap length behind.whole, length-append behind.front body, short)
 
-pub behind_low : (text body : List ℕ) (line : ℕ) → IsBehindInclude text body line → length text ≤ MOST_BYTES →
+pub behind_low : (text body : List ℕ) (line : ℕ) → IsBehindInclude text body line → length text ≤ file_limit →
     line ≤ 2 ^ 31
 behind_low text body line behind short =
     omega (

@@ -6,7 +6,7 @@ use Rattle.tm_cir.specs.Fit.{FitsBlock, FitBlocks}
 use Rattle.tm_cir.specs.Text.Token.{Token}
 use Rattle.tm_cir.specs.Text.Grammar.{driver_tokens}
 use Rattle.tm_cir.specs.Text.Spelling.{AreTokens}
-use Rattle.tm_cparse.specs.declared.reader.TheConstants.{MOST_BYTES}
+use Rattle.tm_syntax.specs.Limits.{file_limit}
 use Rattle.tm_cparse.specs.declared.spot.Spot.{Spot}
 use Rattle.tm_cparse.specs.View.{token_tree, tokens_of}
 use Rattle.tm_cparse.specs.Written.{WrittenBlock, function_tokens, AreWritten}
@@ -27,13 +27,13 @@ pub record IsNamed (d : DesignTree) (line : ℕ) (body : List ℕ) (spots : List
     pub written : AreWritten (tokens_of spots) ws
     pub known : AreKnown spots
     pub right : AreRight d ((place_after first_place (tokens_of spots)).labels) first_place (tokens_of spots)
-    pub short : length body ≤ MOST_BYTES
+    pub short : length body ≤ file_limit
 
 pub named_is : (d : DesignTree) (line : ℕ) (body : List ℕ) (spots found : List Spot) (last : ℕ) (whole : Bool)
     (ws : List WrittenBlock) → found ≡ spots → IsScan d line body spots last whole → IsTrue whole →
     AreWritten (tokens_of spots) ws →
     AreKnown found × AreRight d ((place_after first_place (tokens_of found)).labels) first_place (tokens_of found) →
-    length body ≤ MOST_BYTES → IsNamed d line body spots ws
+    length body ≤ file_limit → IsNamed d line body spots ws
 named_is d line body spots found last whole ws same scan is written names short = record {
   end = scan.end;
   cut = subst (λ (l : List ℕ). IsCut d (record { open_count = 0; line = line }) body spots l scan.end)

@@ -11,7 +11,7 @@ use Rattle.tm_cparse.specs.declared.bad.BadDriver.{BadDriver}
 use Rattle.tm_cparse.specs.declared.bad.BadDriver.TheVariants.{TooLong, Text, UnknownName, BackwardGoto}
 use Rattle.tm_cparse.specs.declared.bad.ReadDriverError.{ReadDriverError}
 use Rattle.tm_cparse.specs.declared.bad.ReadDriverError.TheVariants.{Bad, Memory}
-use Rattle.tm_cparse.specs.declared.reader.TheConstants.{MOST_BYTES}
+use Rattle.tm_syntax.specs.Limits.{file_limit}
 use Rattle.tm_cparse.specs.declared.spot.Spot.{Spot}
 use Rattle.tm_cparse.specs.View.{token_tree, tokens_of}
 use Rattle.tm_cparse.specs.Written.{AreWritten, Begins}
@@ -174,7 +174,7 @@ abbrev OneOf : DesignTree → List ℕ → BadDriver → Type 0
 OneOf d text bad = ((line : ℕ) × (bad ≡ Text line) × HasTextFault d text line) ⊎ HasNameFault d text bad
 
 one_of : (d : DesignTree) (text : List ℕ) (bad : BadDriver) → HasFault d text bad →
-    ((bad ≡ TooLong) × (MOST_BYTES < length text)) ⊎ ((length text ≤ MOST_BYTES) × OneOf d text bad)
+    ((bad ≡ TooLong) × (file_limit < length text)) ⊎ ((length text ≤ file_limit) × OneOf d text bad)
 one_of d text TooLong fault = inl (refl, fault)
 one_of d text (Text line) fault =
     inr (
@@ -197,8 +197,8 @@ pub one_fault : (d : DesignTree) (text : List ℕ) (bad other : BadDriver) → H
     HasFault d text other → bad ≡ other
 one_fault d text bad other one two = of (one_of d text bad one) (one_of d text other two)
   where
-    of : ((bad ≡ TooLong) × (MOST_BYTES < length text)) ⊎ ((length text ≤ MOST_BYTES) × OneOf d text bad) →
-        ((other ≡ TooLong) × (MOST_BYTES < length text)) ⊎ ((length text ≤ MOST_BYTES) × OneOf d text other) →
+    of : ((bad ≡ TooLong) × (file_limit < length text)) ⊎ ((length text ≤ file_limit) × OneOf d text bad) →
+        ((other ≡ TooLong) × (file_limit < length text)) ⊎ ((length text ≤ file_limit) × OneOf d text other) →
         bad ≡ other
     of (inl a) (inl b) = a.0 ∙ sym b.0
     of (inl a) (inr b) = absurd (omega (arith, a.1, b.0))

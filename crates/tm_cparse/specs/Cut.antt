@@ -68,9 +68,13 @@ open_behind count (sign open_parenthesis) = count + 1
 open_behind count (sign close_parenthesis) = count - 1
 open_behind count _ = count
 
--- at most 2,048 parentheses are open at once
+-- the most parentheses that may be open at once
+abbrev pub most_open : ℕ
+most_open = 2048
+
+-- whether a token may stand where so many parentheses are open
 abbrev pub MayStand : ℕ → Token → Type 0
-MayStand count (sign open_parenthesis) = count < 2048
+MayStand count (sign open_parenthesis) = count < most_open
 MayStand count _ = Unit {0}
 
 -- the same of tokens in a row

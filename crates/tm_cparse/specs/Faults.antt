@@ -4,8 +4,10 @@ use Rattle.std.specs.List.{AllPass}
 use Rattle.tm_syntax.specs.declared.design.Var.{Var}
 use Rattle.tm_syntax.specs.declared.design.Item.{Item}
 use Rattle.tm_syntax.specs.Tokens.{is_blank, is_line_feed, IsWordLike}
+use Rattle.tm_syntax.specs.declared.fault.Quantity.TheVariants as quantity
+use Rattle.tm_syntax.specs.Limits.{file_limit}
+use Rattle.tm_syntax.specs.Faults.Limits.{limit_of}
 use Rattle.tm_syntax.specs.Design.{DesignTree}
-use Rattle.tm_cir.specs.declared.block.TheConstants.{MOST_ARGUMENTS}
 use Rattle.tm_cir.specs.Tree.{NumTree, BlockTree}
 use Rattle.tm_cir.specs.Fit.{parameter_count}
 use Rattle.tm_cir.specs.Text.{IsDriverText}
@@ -15,14 +17,13 @@ use Rattle.tm_cir.specs.Text.Grammar.{parenthesized, argument_tokens, driver_tok
 use Rattle.tm_cparse.specs.declared.bad.BadDriver.{BadDriver}
 use Rattle.tm_cparse.specs.declared.bad.BadDriver.TheVariants.{TooLong, Text, UnknownName, BackwardGoto}
 use Rattle.tm_cparse.specs.declared.spot.Spot.{Spot}
-use Rattle.tm_cparse.specs.declared.reader.TheConstants.{MOST_BYTES}
 use Rattle.tm_cparse.specs.View.{token_tree, tokens_of}
 use Rattle.tm_cparse.specs.Written.{WrittenBlock, AreWritten, Begins}
 use Rattle.tm_cparse.specs.Cut.{MayAllStand, Standing, IsCut, BeginsNoBlank, IsStuck}
 
 -- the text of a driver: at most 16,777,216 bytes, and at most 2,048 parentheses open at once
 pub record IsDriverFile (d : DesignTree) (text : List ℕ) (bs : List BlockTree) : Type 0 where
-  pub short : length text ≤ MOST_BYTES
+  pub short : length text ≤ file_limit
   pub is : IsDriverText d text bs
   pub shallow : MayAllStand 0 (driver_tokens bs)
 
@@ -80,7 +81,7 @@ names_item _ = false
 
 -- so many arguments fit a controllable task
 abbrev pub TakesArguments : DesignTree → ℕ → ℕ → Type 0
-TakesArguments d k count = (parameter_count d k ≡ Some count) × (count ≤ MOST_ARGUMENTS)
+TakesArguments d k count = (parameter_count d k ≡ Some count) × (count ≤ limit_of quantity.Arguments)
 
 -- a token of a driver with so many blocks names what there is not; before it stand `front`, and behind it `others`
 pub data IsNameFault (d : DesignTree) (count : ℕ) (front : List Spot) (s : Spot) (others : List Spot) :
@@ -116,8 +117,8 @@ pub record HasNameFault (d : DesignTree) (text : List ℕ) (bad : BadDriver) : T
 
 -- the fault of a text that is no driver over a design
 abbrev pub HasFault : DesignTree → List ℕ → BadDriver → Type 0
-HasFault d text TooLong = MOST_BYTES < length text
+HasFault d text TooLong = file_limit < length text
 HasFault d text (Text line) =
-    (length text ≤ MOST_BYTES) × (HasTextFault d text line ⊎ HasNameFault d text (Text line))
-HasFault d text (UnknownName line) = (length text ≤ MOST_BYTES) × HasNameFault d text (UnknownName line)
-HasFault d text (BackwardGoto line) = (length text ≤ MOST_BYTES) × HasNameFault d text (BackwardGoto line)
+    (length text ≤ file_limit) × (HasTextFault d text line ⊎ HasNameFault d text (Text line))
+HasFault d text (UnknownName line) = (length text ≤ file_limit) × HasNameFault d text (UnknownName line)
+HasFault d text (BackwardGoto line) = (length text ≤ file_limit) × HasNameFault d text (BackwardGoto line)

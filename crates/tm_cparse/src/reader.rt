@@ -1,5 +1,6 @@
 //! The reader.
 ghost use Rattle.std.specs.Prelude.{◌≡◌, ◌≤◌, ◌^◌, List, map, length, All, Err, IsTrue, IfOk, IfErr, OnOk, MatchResult};
+ghost use Rattle.tm_syntax.specs.Limits.{file_limit};
 ghost use Rattle.tm_syntax.specs.Design.View.{design_tree};
 ghost use Rattle.tm_cir.specs.Fit.{FitBlocks};
 ghost use Rattle.tm_cir.specs.Tree.{BlockTree};
@@ -73,7 +74,7 @@ fn driver_behind(
     body: &[u8],
     line: u64,
 ) -> Result<Blocks, ReadDriverError>
-    requires short { length body.now ≤ MOST_BYTES }
+    requires short { length body.now ≤ file_limit }
     requires low { line ≤ 2 ^ 31 }
     ensures read { IfOk result (λ blocks. IsBody (design_tree design.now) line body.now (trees_of blocks)) }
     ensures faulty { IfErr result (IsBodyFault (design_tree design.now) line body.now) }

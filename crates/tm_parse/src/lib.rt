@@ -5,6 +5,7 @@ ghost use Rattle.std.specs.Prelude.{◌≡◌, ◌≤◌, ◌<◌, ◌+◌, ◌+
 ghost use Rattle.tm_base.specs.declared.place.Place.{Place};
 ghost use Rattle.tm_syntax.specs.declared.fault.FrontError.TheVariants.{Memory};
 ghost use Rattle.tm_syntax.specs.declared.token.Token.{Token};
+ghost use Rattle.tm_syntax.specs.Limits.{specification_limit};
 ghost use Rattle.tm_syntax.specs.Tokens.{AreTokens, place_after};
 ghost use Rattle.tm_syntax.specs.Tree.{SpecTree};
 ghost use Rattle.tm_syntax.specs.Tree.View.{spec_tree};
@@ -41,7 +42,7 @@ use tm_syntax::tree::Spec;
 /// `Faulty` is `F2`, at the first token that continues no specification or at the end of a text that ends too early, or
 /// `F3`, at the first token that stands too deep, whichever is earlier. `Memory` is want of memory.
 pub fn parse(alloc: Global, text: &[u8], tokens: &[Token]) -> Result<Spec, FrontError>
-    requires size { length text.now ≤ 1048576 }
+    requires size { length text.now ≤ specification_limit }
     requires tokens { AreTokens text.now tokens.now }
     ensures read { IfOk result (λ spec. IsTree text.now tokens.now (spec_tree spec)) }
     ensures faulty { IfErr result (IsFaultOf text.now tokens.now) }
@@ -59,7 +60,7 @@ pub fn parse(alloc: Global, text: &[u8], tokens: &[Token]) -> Result<Spec, Front
 
 /// The tree, or its first fault.
 fn tree_or_fault(alloc: Global, text: &[u8], tokens: &[Token]) -> Result<Spec, FrontError>
-    requires { length text.now ≤ 1048576 }
+    requires { length text.now ≤ specification_limit }
     ensures read { IfOk result (λ spec. Takes (ASpec text.now) GoesOnAtAll (spec_tree spec) tokens.now []) }
     ensures faulty { IfErr result (IsFaultOf text.now tokens.now) }
 {
@@ -95,7 +96,7 @@ fn depth_fault(place: Place) -> FrontError
 
 /// The place of the first of these tokens, which end a text, or that of the text's end.
 fn place_of(text: &[u8], rest: &[Token]) -> Place
-    requires { length text.now ≤ 1048576 }
+    requires { length text.now ≤ specification_limit }
     ensures { result ≡ place_at text.now rest.now }
 {
     match rest.first() {
@@ -106,7 +107,7 @@ fn place_of(text: &[u8], rest: &[Token]) -> Place
 
 /// The place behind a text.
 fn place_after(text: &[u8]) -> Place
-    requires { length text.now ≤ 1048576 }
+    requires { length text.now ≤ specification_limit }
     ensures { result ≡ place_after text.now }
 {
     let mut place = Place { line: 1, column: 1 };

@@ -5,7 +5,7 @@ use Rattle.tm_cir.specs.Tree.{BlockTree, test, leave}
 use Rattle.tm_cparse.specs.declared.bad.BadDriver.TheVariants.{Text}
 use Rattle.tm_cparse.specs.declared.bad.ReadDriverError.{ReadDriverError}
 use Rattle.tm_cparse.specs.declared.bad.ReadDriverError.TheVariants.{Bad, Memory}
-use Rattle.tm_cparse.specs.declared.reader.TheConstants.{MOST_BYTES}
+use Rattle.tm_syntax.specs.Limits.{file_limit}
 use Rattle.tm_cparse.specs.declared.spot.Spot.{Spot}
 use Rattle.tm_cparse.specs.View.{token_tree, tokens_of}
 use Rattle.tm_cparse.specs.Written.{WrittenBlock, AreWritten, Begins}
@@ -16,12 +16,12 @@ use Rattle.tm_cparse.specs.Inner.Fronts.{IsBehindInclude}
 -- each text with this text behind its include, where that begins on this line, is the driver of these blocks
 abbrev pub IsBody : DesignTree → ℕ → List ℕ → List BlockTree → Type 0
 IsBody d line body bs =
-    (text : List ℕ) → IsBehindInclude text body line → length text ≤ MOST_BYTES → IsDriverFile d text bs
+    (text : List ℕ) → IsBehindInclude text body line → length text ≤ file_limit → IsDriverFile d text bs
 
 -- each such text has this fault
 abbrev pub IsBodyFault : DesignTree → ℕ → List ℕ → ReadDriverError → Type 0
 IsBodyFault d line body e =
-    (text : List ℕ) → IsBehindInclude text body line → length text ≤ MOST_BYTES → IsFaultOf d text e
+    (text : List ℕ) → IsBehindInclude text body line → length text ≤ file_limit → IsFaultOf d text e
 
 -- the line of the first token that continues no driver, or of the end where the tokens are none
 pub data IsTextLine (spots : List Spot) (last : ℕ) (is_whole : Bool) : ℕ → Type 0 where
