@@ -1,5 +1,27 @@
 -- What holds of a manager after a call.
-use Rattle.std.proofs.Common.{◌≡◌, ◌≢◌, ℕ, Bool, ◌≤◌, ◌⊎◌, inl, inr, List, [], length, AllPairs, Contains, Option, Some, None, IfSome, sym, subst, ◌∙◌, arith}
+use Rattle.std.proofs.Common.{
+  ◌≡◌,
+  ◌≢◌,
+  ℕ,
+  Bool,
+  ◌≤◌,
+  ◌⊎◌,
+  inl,
+  inr,
+  List,
+  [],
+  length,
+  AllPairs,
+  Contains,
+  Option,
+  Some,
+  None,
+  IfSome,
+  sym,
+  subst,
+  ◌∙◌,
+  arith,
+}
 use Rattle.lru.proofs.Splits.{Contains-nil}
 use Rattle.tm_dd.specs.declared.node.NodeId.{NodeId}
 use Rattle.tm_dd.specs.Reduced.{IsReduced, Extends}
@@ -32,7 +54,8 @@ pub manager_extended : (m n : Diagrams) → IsManager m → Extends m.table n.ta
     n.results ≡ m.results → IsManager n
 manager_extended m n sound e reduced same =
     manager_after m n sound e reduced (λ o id h. inl (subst (λ rs. Contains rs (o, id)) same h))
-    (subst (AllPairs (λ a b. a.0 ≢ b.0)) (sym same) sound.once) (subst (λ rs. length rs ≤ most_results) (sym same) sound.few)
+    (subst (AllPairs (λ a b. a.0 ≢ b.0)) (sym same) sound.once)
+    (subst (λ rs. length rs ≤ most_results) (sym same) sound.few)
 
 -- a result of a choice is one of the operation that has its value
 pub result_of_choice : (s t : Table) → Extends s t → (o : Operation) (k : Choice) (id : NodeId) →

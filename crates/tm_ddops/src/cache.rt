@@ -24,7 +24,9 @@ pub(crate) fn recall(cache: &mut Cache, operation: &Operation) -> Option<NodeId>
 {
     prove!(cache.len() <= cache.cap().get());
     let found = cache.peek(operation).copied();
-    cache.promote(operation);
+    if found.is_some() {
+        cache.promote(operation);
+    }
     prove!(cache.len() <= cache.cap().get());
     found
 }

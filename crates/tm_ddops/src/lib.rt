@@ -17,8 +17,6 @@ mod reached;
 mod rewrite;
 mod support;
 mod tables;
-#[cfg(test)]
-mod tests;
 mod walk;
 
 pub use manager::Manager;

@@ -3,10 +3,12 @@ ghost use Rattle.std.specs.Prelude.{◌≡◌, ◌<◌, ◌≤◌, ℕ, [], IfOk
 ghost use Rattle.tm_dd.specs.Reduced.{Extends, IsReduced};
 ghost use Rattle.tm_dd.specs.Table.{Table, Knows};
 ghost use Rattle.tm_ddops.specs.Changed.{IsChanged, KnowsParts, change_of};
+ghost use Rattle.tm_ddops.specs.Inner.Memo.{AreChoices};
 ghost use Rattle.tm_ddops.specs.Inner.Tables.{AreTrue, numbered};
 
 use crate::change::{Changes, by_level, depth};
 use crate::rewrite::{Visit, Walks};
+use crate::walk::Memo;
 use indexmap::IndexSet;
 use std::alloc::{AllocError, Global};
 use std::collections::HashMap;
@@ -15,6 +17,12 @@ use tm_dd::{NodeId, Store};
 /// How many entries the tables hold at most when a walk begins. One takes up to 96 bytes with the room that its table
 /// keeps, so they hold about 100 million bytes at most between calls, and what the last call added.
 pub(crate) const MOST_ENTRIES: usize = 1_048_576;
+
+/// How many choices there are at most when a walk begins, so that their table stays in the processor's cache.
+pub(crate) const MOST_CHOICES: usize = 16_384;
+
+/// For how many choices an emptied table keeps its room.
+pub(crate) const MOST_ROOM: usize = 65_536;
 
 /// What walks have found: the choices and the functions that they met. The number of changes is their place in the
 /// set.
@@ -41,10 +49,12 @@ impl Tables {
         }
     }
 
-    /// Drops all entries where there are more than `MOST_ENTRIES`.
+    /// Drops the choices where there are more than `MOST_CHOICES`, and all entries where there are more than
+    /// `MOST_ENTRIES`.
     pub(crate) fn limit(&mut self, alloc: Global)
         ensures { (s : Table) → AreTrue s self.old → AreTrue s self.new }
     {
+        limit_choices(&mut self.walks.choices, alloc);
         let entries = self
             .walks
             .choices
@@ -127,5 +137,19 @@ impl Tables {
             self.levels = self.levels.saturating_add(levels);
         }
         Ok(number)
+    }
+}
+
+/// Drops the choices where there are more than `MOST_CHOICES`. Room for up to `MOST_ROOM` is kept.
+fn limit_choices(choices: &mut Memo, alloc: Global)
+    ensures { (s : Table) → AreChoices s choices.old → AreChoices s choices.new }
+{
+    if choices.len() <= MOST_CHOICES {
+        return;
+    }
+    if choices.capacity() <= MOST_ROOM {
+        choices.clear();
+    } else {
+        *choices = HashMap::new(alloc);
     }
 }

@@ -3,10 +3,10 @@ ghost use Rattle.std.specs.Prelude.{◌<◌, Contains};
 ghost use Rattle.tm_dd.specs.Table.{Knows};
 ghost use Rattle.tm_dd.specs.declared.node.NodeId.{NodeId as Id};
 
-use crate::Manager;
 use std::process::Abort;
 use tm_base::Steps;
 use tm_dd::{FALSE, NodeId, TRUE};
+use tm_ddops::Manager;
 
 /// Fails where the manager does not know the id.
 fn check(rt: &impl Abort, dd: &Manager, id: NodeId)

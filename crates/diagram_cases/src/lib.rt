@@ -1,0 +1,5 @@
+//! Operations on small diagrams, and the functions that they give.
+#![tactic(auto)]
+
+#[cfg(test)]
+mod tests;
