@@ -65,21 +65,27 @@ fn values_each_operator(rt: HostRuntime) -> Result<(), Fail> {
     Ok(())
 }
 
+// Terms over two inputs in the order of their ids, with their widths.
+const OVER_TWO: [(Term, u8); 4] = [
+    (Term::Input(0), 8),
+    (Term::Input(1), 8),
+    (Term::Add(X, Y), 8),
+    (Term::Less(X, Y), 1),
+];
+
 #[test]
 fn makes_each_term_once(rt: HostRuntime) -> Result<(), Fail> {
     let mut terms = Terms::new(rt.alloc(), &[8, 8])?;
     assert_eq!(rt; terms.inputs(), [8, 8].as_slice());
-    let x = made(&rt, &mut terms, Term::Input(0))?;
-    let y = made(&rt, &mut terms, Term::Input(1))?;
-    let sum = made(&rt, &mut terms, Term::Add(x, y))?;
-    let less = made(&rt, &mut terms, Term::Less(x, y))?;
-    assert_eq!(rt; value(&rt, &terms, sum, &[250, 10]), 4);
-    assert_eq!(rt; value(&rt, &terms, less, &[250, 10]), 0);
-    assert_eq!(rt; made(&rt, &mut terms, Term::Add(x, y))?, sum);
+    for _ in 0..2 {
+        for (place, (term, width)) in OVER_TWO.iter().enumerate() {
+            let id = made(&rt, &mut terms, *term)?;
+            assert_eq!(rt; id, TermId(place as u64));
+            assert!(rt; terms.is_known(id));
+            assert_eq!(rt; (terms.term(id), terms.width(id)), (*term, *width));
+        }
+    }
     assert_eq!(rt; terms.count(), 4);
-    assert!(rt; terms.is_known(sum) && terms.is_known(less));
-    assert_eq!(rt; terms.term(sum), Term::Add(x, y));
-    assert_eq!(rt; (terms.width(sum), terms.width(less)), (8, 1));
     Ok(())
 }
 
@@ -115,19 +121,23 @@ fn tests_each_condition(rt: HostRuntime) -> Result<(), Fail> {
     Ok(())
 }
 
+// Terms over an input of 64 bits and the number 1, with a value of the input and theirs.
+const WHOLE: [(Term, u64, u64); 4] = [
+    (Term::Add(X, Y), u64::MAX, 0),
+    (Term::Sub(X, Y), 0, u64::MAX),
+    (Term::Not(X), 0, u64::MAX),
+    (Term::Shl(Y, 63), 0, 9_223_372_036_854_775_808),
+];
+
 #[test]
 fn values_whole_words(rt: HostRuntime) -> Result<(), Fail> {
     let mut terms = Terms::new(rt.alloc(), &[64])?;
-    let x = made(&rt, &mut terms, Term::Input(0))?;
-    let one = made(&rt, &mut terms, Term::Const(64, 1))?;
-    let next = made(&rt, &mut terms, Term::Add(x, one))?;
-    let before = made(&rt, &mut terms, Term::Sub(x, one))?;
-    let not = made(&rt, &mut terms, Term::Not(x))?;
-    let top = made(&rt, &mut terms, Term::Shl(one, 63))?;
-    assert_eq!(rt; value(&rt, &terms, next, &[u64::MAX]), 0);
-    assert_eq!(rt; value(&rt, &terms, before, &[0]), u64::MAX);
-    assert_eq!(rt; value(&rt, &terms, not, &[0]), u64::MAX);
-    assert_eq!(rt; value(&rt, &terms, top, &[0]), 9_223_372_036_854_775_808);
+    made(&rt, &mut terms, Term::Input(0))?;
+    made(&rt, &mut terms, Term::Const(64, 1))?;
+    for (term, input, wanted) in WHOLE {
+        let id = made(&rt, &mut terms, term)?;
+        assert_eq!(rt; value(&rt, &terms, id, &[input]), wanted, "{term:?}");
+    }
     Ok(())
 }
 

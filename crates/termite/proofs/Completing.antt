@@ -1,5 +1,6 @@
 -- A command has one end.
-use Rattle.std.proofs.Common.{◌≡◌, ℕ, ◌<◌, ◌≤◌, Option, None, Some, Ok, Err, List, length, refl, sym, ap, subst, ◌∙◌, arith}
+use Rattle.std.proofs.Common.{◌≡◌, ℕ, ◌<◌, ◌≤◌, Option, None, Some, Ok, Err, List, length, refl, sym, ap, subst, ◌∙◌}
+use Rattle.std.proofs.Common.{arith}
 use Rattle.tm_syntax.specs.Limits.{file_limit}
 use Rattle.tm_base.specs.Files.{IsLonger}
 use Rattle.tm_syntax.specs.Design.{DesignTree}
@@ -14,7 +15,9 @@ use Rattle.termite.specs.declared.ending.Bad.TheVariants.{Choices}
 use Rattle.termite.specs.Script.{ScriptData}
 use Rattle.termite.specs.Words.{Command, run}
 use Rattle.termite.specs.Choices.{reading_of}
-use Rattle.termite.specs.Inputs.{TellsDesign, TellsNoDesign, TellsBlocks, TellsNoBlocks, TellsScript, TellsBadLine, NoDesign, unread_spec, NoBlocks, unread_driver, long_driver, NoScript, long_choices, bad_choices}
+use Rattle.termite.specs.Inputs.{TellsDesign, TellsNoDesign, TellsBlocks, TellsNoBlocks, TellsScript, TellsBadLine}
+use Rattle.termite.specs.Inputs.{NoDesign, unread_spec, NoBlocks, unread_driver, long_driver, NoScript, long_choices}
+use Rattle.termite.specs.Inputs.{bad_choices}
 use Rattle.termite.specs.Run.{Loads, Refused, no_design, no_blocks, no_script, RunEnds, refused, ended}
 use Rattle.termite.specs.Commands.{CommandEnds}
 use Rattle.termite.specs.Played.{Ends}

@@ -3,10 +3,12 @@ mod Completing
 mod Loading
 mod Numbering
 mod OneEnd
+mod Options
 mod Playing
 mod Reaching
 mod Reporting
 mod Running
 mod ReadNumbers
 mod SplitLines
+mod Splits
 mod Stopping

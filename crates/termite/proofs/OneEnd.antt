@@ -1,5 +1,6 @@
 -- A text of choices has one end.
-use Rattle.std.proofs.Common.{◌≡◌, ◌≢◌, ℕ, zero, suc, ◌+◌, ◌<◌, false, inl, inr, ⊎_elim, Some, List, [], ◌∷◌, length, refl, sym, ap, subst, ◌∙◌, arith}
+use Rattle.std.proofs.Common.{◌≡◌, ◌≢◌, ℕ, zero, suc, ◌+◌, ◌<◌, false, inl, inr, ⊎_elim, Some, List, [], ◌∷◌, length}
+use Rattle.std.proofs.Common.{refl, sym, ap, subst, ◌∙◌, arith}
 use Rattle.std.specs.Prelude.{IsTrue, slice_get}
 use Rattle.std.proofs.lemmas.Bool.{cases_order}
 use Rattle.tm_syntax.specs.Design.{DesignTree}
@@ -21,7 +22,8 @@ use Rattle.termite.specs.declared.ending.StopWhy.TheVariants.{Error, Forbidden, 
 use Rattle.termite.specs.declared.ending.Ending.{Ending}
 use Rattle.termite.specs.declared.ending.Ending.TheVariants.{Stopped}
 use Rattle.termite.specs.Script.{TurnData, ScriptData}
-use Rattle.termite.specs.Played.{IsMoveOf, Follows, state_after, goal_after, play_text, Reaches, Stops, Ends, plays, stops, begins_badly}
+use Rattle.termite.specs.Played.{IsMoveOf, Follows, state_after, goal_after, play_text, Reaches, Stops, Ends, plays}
+use Rattle.termite.specs.Played.{stops, begins_badly}
 
 -- the blocks answer with a move of the driver
 answers_driver : (bs : List BlockTree) (s : StateData) (g : ℕ) {at : ℕ} {m : Move} → AnswersFrom bs s g at m →

@@ -1,5 +1,6 @@
 -- What the program promises, from what was promised of the command and of putting the lines that tell its outcome.
-use Rattle.std.proofs.Common.{◌≡◌, ℕ, ◌≤◌, Option, Result, Ok, Err, List, [], ◌∷◌, ◌++◌, take, sym, ap, subst, ◌∙◌, append_assoc, arith}
+use Rattle.std.proofs.Common.{◌≡◌, ℕ, ◌≤◌, Option, Result, Ok, Err, List, [], ◌∷◌, ◌++◌, take, sym, ap, subst, ◌∙◌}
+use Rattle.std.proofs.Common.{append_assoc, arith}
 use Rattle.std.specs.Prelude.{IsTrue, IfOk, IfErr}
 use Rattle.std.proofs.lemmas.List.{append-nil, take_all}
 use Rattle.tm_base.specs.Count.{Rose}
@@ -12,7 +13,8 @@ use Rattle.termite.specs.Words.{Command}
 use Rattle.termite.specs.World.{FilesData, SinkData, sink_data, OnlyReads}
 use Rattle.termite.specs.Commands.{read_names, IsCommandPart, MayEnd}
 use Rattle.termite.specs.Report.{ending_text, failure_text, outcome_text}
-use Rattle.termite.specs.Headline.{AreTold, HasCause, IsComplete, IsShown, IsLongShown, whole_report, fault_report, part_report, IsCut, Takes, Reports, EndsWithLines}
+use Rattle.termite.specs.Headline.{AreTold, HasCause, IsComplete, IsShown, IsLongShown, whole_report, fault_report}
+use Rattle.termite.specs.Headline.{part_report, IsCut, Takes, Reports, EndsWithLines}
 use Rattle.termite.specs.Inner.Stopping.{IsSinkFailure}
 use Rattle.termite.specs.Inner.Obeying.{PutBefore, Obeys}
 use Rattle.termite.proofs.Completing.{one_command_end}
@@ -141,7 +143,8 @@ module _ (command : Option Command) (old new : FilesData) {B : Type 0} (O : Sink
   cut_outcome (Err failure) obeys told sink cut = cut_failure failure obeys.shown (obeys.cut told sink) cut
 
   takes_cut : (failure : Failure) → IsSinkFailure (sink_data O y) (sink_data O z) failure →
-      IsCut command old new (O.written x) (O.written z) → Takes command old new (O.written x) (O.written z) (Err failure)
+      IsCut command old new (O.written x) (O.written z) →
+      Takes command old new (O.written x) (O.written z) (Err failure)
   takes_cut (WriteFault name) failed cut = cut
   takes_cut Memory failed cut = cut
   takes_cut (ReadFault name) failed cut = elim failed [ ]

@@ -1,6 +1,7 @@
 -- How a command is obeyed.
-use Rattle.std.proofs.Common.{◌≡◌, ℕ, ◌≤◌, Option, None, Some, Result, Ok, Err, List, [], ◌∷◌, ◌++◌, take, refl, sym, subst, arith}
-use Rattle.std.specs.Prelude.{IsTrue, IfOk, IfErr, OnErr}
+use Rattle.std.proofs.Common.{◌≡◌, ℕ, ◌≤◌, Option, None, Some, Result, Ok, Err, List, [], ◌∷◌, ◌++◌, take, refl, sym}
+use Rattle.std.proofs.Common.{subst, arith}
+use Rattle.std.specs.Prelude.{IsTrue, IfOk, IfErr, IsErrAnd, OnErr}
 use Rattle.std.proofs.lemmas.List.{append-nil}
 use Rattle.tm_base.specs.Sink.{AppendsPrefix}
 use Rattle.tm_syntax.specs.Design.{DesignTree}
@@ -15,7 +16,9 @@ use Rattle.termite.specs.Script.{ScriptData}
 use Rattle.termite.specs.Words.{Command, run}
 use Rattle.termite.specs.World.{FilesData, SinkData, OnlyReads}
 use Rattle.termite.specs.Played.{Ends, IsPart, plays, stops, begins_badly}
-use Rattle.termite.specs.Run.{Loads, Refused, refused, ended, IsRunPart, no_line, some_lines, RunMayEnd, may_refuse, may_play, may_stop}
+use Rattle.termite.specs.Run.{Loads, Refused, refused, ended, IsRunPart, no_line, some_lines, RunMayEnd, may_refuse}
+use Rattle.termite.specs.Run.{may_play, may_stop}
+use Rattle.termite.specs.Commands.{IsCommandPart}
 use Rattle.termite.specs.Headline.{IsShown, IsLongShown}
 use Rattle.termite.specs.Inner.Stopping.{StopsBy, stop_outcome, IsReadFailure, IsSinkFailure, IsRefusal}
 use Rattle.termite.specs.Inner.Obeying.{PutBefore, Obeys}
@@ -39,6 +42,28 @@ usage_obeys command files out is = subst (λ (c : Option Command). Obeys c files
   only_reads = reads_none files;
   no_fewer_faults = omega arith;
 })
+
+-- nothing is a first part of what any command puts
+nothing_put : (contents : List ℕ → Option (List ℕ)) (command : Option Command) → IsCommandPart contents command []
+nothing_put contents None = refl
+nothing_put contents (Some (run spec driver choices)) = no_line
+
+-- memory ran out before the words were read
+pub unread_words_obey : (command : Option Command) (files : FilesData) (out : SinkData)
+    (outcome : Result Ending Failure) → IsErrAnd outcome (λ failure. failure ≡ Memory) →
+    Obeys command files files out out outcome
+unread_words_obey command files out (Ok ending) failed = absurd failed
+unread_words_obey command files out (Err failure) failed =
+    subst (λ (f : Failure). Obeys command files files out out (Err f)) (sym failed) (record {
+      ends = λ told. tt;
+      cut = λ told sink. ([], nothing_put files.contents command, cut_nothing out.written);
+      grows = λ sink. grows_none out.written;
+      may_end = tt;
+      shown = tt;
+      long = tt;
+      only_reads = reads_none files;
+      no_fewer_faults = omega arith;
+    })
 
 -- the end of a play is one that `run` may have
 play_may : (names : List (List ℕ)) (d : DesignTree) (bs : List BlockTree) (c : ScriptData) (text : List ℕ)

@@ -1,3 +1,4 @@
 pub mod Advance
 pub mod Obeying
+pub mod Splitting
 pub mod Stopping

@@ -5,7 +5,8 @@ use Rattle.termite.specs.declared.ending.Ending.TheVariants as endings
 use Rattle.termite.specs.declared.ending.Failure.{Failure}
 use Rattle.termite.specs.declared.ending.Failure.TheVariants as failures
 use Rattle.termite.specs.declared.status.Status.{Status}
-use Rattle.termite.specs.declared.status.Status.TheVariants.{Played, Usage, ReadFault, WriteFault, Memory, BadText, Stopped, Unbuilt}
+use Rattle.termite.specs.declared.status.Status.TheVariants.{Played, Usage, ReadFault, WriteFault, Memory, BadText}
+use Rattle.termite.specs.declared.status.Status.TheVariants.{Stopped, Unbuilt}
 
 -- the end of a command, or the failure that came before it
 abbrev pub outcome_of : Status → Result Ending Failure

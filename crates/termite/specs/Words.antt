@@ -1,6 +1,8 @@
 -- The readings of a command line.
-use Rattle.std.specs.Prelude.{ℕ, Bool, true, false, ◌==◌, ◌&&◌, not, Option, None, List, [], ◌∷◌, codes}
+use Rattle.std.specs.Prelude.{ℕ, Bool, true, false, ◌==◌, Option, None, Some, List, [], ◌∷◌, codes, if◌then◌else◌}
 use Rattle.std.specs.Bool.{then_some}
+use Rattle.std.specs.List.{list_all}
+use Rattle.std.specs.Option.{option_map, option_and_then}
 use Rattle.std.specs.Str.{bytes_eq}
 use Rattle.termite.specs.declared.words.command.Command.{Command as Words}
 use Rattle.termite.specs.declared.words.command.Command.TheVariants as words
@@ -9,18 +11,39 @@ use Rattle.termite.specs.declared.words.command.Command.TheVariants as words
 pub data Command : Type 0 where
   run : (spec driver choices : List ℕ) → Command
 
--- a word that names a file: it is not empty, and where it is longer than `-` it does not begin so
-abbrev pub names_file : List ℕ → Bool
-names_file [] = false
-names_file (b ∷ []) = true
-names_file (b ∷ c ∷ bs) = not (b == 45)
+-- an option: a word that begins with `-` and is longer than that
+abbrev pub is_option : List ℕ → Bool
+is_option [] = false
+is_option (b ∷ []) = false
+is_option (b ∷ c ∷ bs) = b == 45
 
--- the reading of the words, where they have one
+-- the words but the first `--`, where no option stands before it: each word behind it is positional
+abbrev pub without_options : List (List ℕ) → Option (List (List ℕ))
+without_options [] = Some []
+without_options (word ∷ words) =
+    if bytes_eq word (codes "--") then Some words
+    else if is_option word then None
+    else option_map (λ ws. word ∷ ws) (without_options words)
+
+-- a word that is not empty
+abbrev pub is_filled : List ℕ → Bool
+is_filled [] = false
+is_filled (b ∷ bs) = true
+
+-- the positional words among those behind a command, where each of these has a reading
+abbrev pub positional_words : List (List ℕ) → Option (List (List ℕ))
+positional_words words = option_and_then (λ ws. then_some (list_all is_filled ws) ws) (without_options words)
+
+-- the command `run` with its positional words
+abbrev pub run_of : List (List ℕ) → Option Command
+run_of (spec ∷ driver ∷ choices ∷ []) = Some (run spec driver choices)
+run_of _ = None
+
+-- the reading of the words, where they have one: the first word is the command
 abbrev pub command_of : List (List ℕ) → Option Command
-command_of (command ∷ spec ∷ driver ∷ choices ∷ []) =
-    then_some (bytes_eq command (codes "run") && names_file spec && names_file driver && names_file choices)
-    (run spec driver choices)
-command_of _ = None
+command_of [] = None
+command_of (command ∷ words) =
+    if bytes_eq command (codes "run") then option_and_then run_of (positional_words words) else None
 
 -- a command as the code has it
 abbrev pub command_view : Words → Command

@@ -48,7 +48,7 @@ fn obey_words<F: Files, O: Sink>(
         (files_data ⟦<F as Files>⟧ files.old) (files_data ⟦<F as Files>⟧ files.new)
         (sink_data ⟦<O as Sink>⟧ out.old) (sink_data ⟦<O as Sink>⟧ out.new) result }
 {
-    match read_words(words) {
+    match read_words(alloc, words)? {
         None => Ok(Ending::Usage),
         Some(command) => obey(alloc, command, files, out),
     }
@@ -71,8 +71,8 @@ pub fn termite<F: Files, O: Sink>(
     ensures complete { IsComplete (files_data ⟦<F as Files>⟧ files.old)
         (command_of (map string_bytes words.now)) (outcome_of result) }
 
-    // What is known of an end in any case: `Usage` comes exactly where the words have no reading, a file that is refused
-    // is one that the command reads, and a text that is too long shows.
+    // What is known of an end in any case: `Usage` comes exactly where the words have no reading, a file that is
+    // refused is one that the command reads, and a text that is too long shows.
     ensures possible { IfOk (outcome_of result) (MayEnd (command_of (map string_bytes words.now))) }
     ensures long { IfOk (outcome_of result) (IsLongShown
         (files_data ⟦<F as Files>⟧ files.old) (files_data ⟦<F as Files>⟧ files.new)) }

@@ -164,8 +164,9 @@ task controllable flip() { x = !x; }
 process client { ...; }
 endtemplate
 ";
-    let driver: &[u8] =
-        b"#include \"termite.h\"\nvoid driver_turn(void) { L0: if (v0_x) goto L1; else goto L2; L1: termite_leave(0ULL); return; L2: t0_flip(); return; }\n";
+    let driver: &[u8] = b"#include \"termite.h\"
+void driver_turn(void) { L0: if (v0_x) goto L1; else goto L2; L1: termite_leave(0ULL); return; L2: t0_flip(); return; }
+";
     let ran = ran(
         alloc,
         &["run", "s", "d", "c"],
@@ -301,12 +302,15 @@ fn other_words_give_the_usage(rt: HostRuntime) -> Result<(), Fail> {
        termite gen N OUT
        termite migrate SPEC CERT OUT
 ";
-    let table: [&[&str]; 6] = [
+    let table: [&[&str]; 9] = [
         &[],
         &["run", "s", "d"],
         &["run", "s", "d", "c", "c"],
         &["run", "s", "", "c"],
+        &["run", "--", "s", "d", ""],
         &["run", "s", "-d", "c"],
+        &["run", "--budget=7", "s", "d", "c"],
+        &["--", "run", "s", "d", "c"],
         &["gen", "2", "g"],
     ];
     for words in &table {
@@ -323,6 +327,36 @@ fn other_words_give_the_usage(rt: HostRuntime) -> Result<(), Fail> {
         )?;
         assert_eq!(rt; ran.code, 2);
         assert_eq!(rt; ran.output.as_slice(), usage);
+    }
+    Ok(())
+}
+
+#[test]
+fn hyphens_may_name_files(rt: HostRuntime) -> Result<(), Fail> {
+    let alloc = rt.alloc();
+    let played: &[u8] = b"0 start x=0 client@0 last=0 goal=0\nplayed 0\n";
+    let table: [(&[&str], u8, &[u8]); 6] = [
+        (&["run", "--", "s", "d", "c"], 0, played),
+        (&["run", "s", "d", "--", "c"], 0, played),
+        (&["run", "s", "d", "c", "--"], 0, played),
+        (&["run", "s", "--", "-d", "c"], 5, b"read fault -d\n"),
+        (&["run", "s", "--", "d", "--"], 5, b"read fault --\n"),
+        (&["run", "-", "d", "c"], 5, b"read fault -\n"),
+    ];
+    for (words, code, wanted) in &table {
+        let ran = ran(
+            alloc,
+            words,
+            Texts {
+                spec: SPEC,
+                driver: DRIVER,
+                choices: b"start\n",
+            },
+            Vec::new(alloc),
+            Vec::new(alloc),
+        )?;
+        assert_eq!(rt; ran.code, *code);
+        assert_eq!(rt; ran.output.as_slice(), *wanted);
     }
     Ok(())
 }

@@ -2,3 +2,4 @@
 
 pub mod command;
 pub mod reading;
+pub mod splitting;

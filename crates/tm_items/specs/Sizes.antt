@@ -7,14 +7,22 @@ use Rattle.tm_syntax.specs.declared.tree.TaskDef.{TaskDef}
 use Rattle.tm_syntax.specs.declared.tree.Template.{Template}
 use Rattle.tm_syntax.specs.Scopes.Names.{written_width}
 
+-- all numbers of 32 bits are below it
+abbrev pub number_limit : ℕ
+number_limit = 2 ^ 32
+
+-- no type has more bits
+abbrev pub width_limit : ℕ
+width_limit = 64
+
 -- the number of bits that a type writes, 0 where it writes none
 abbrev pub bits_written : TypeName → ℕ
 bits_written (Uint _ bits) = written_width bits
 bits_written _ = 0
 
--- a type of at most 64 bits
+-- a type within the limit on widths
 abbrev pub IsNarrow : TypeName → Type 0
-IsNarrow ty = bits_written ty ≤ 64
+IsNarrow ty = bits_written ty ≤ width_limit
 
 -- each local of a body has a narrow type
 abbrev pub HasNarrowLocals : Body → Type 0
@@ -31,9 +39,9 @@ pub record HasNarrowTypes (t : Template) : Type 0 where
   pub processes : All (λ p. HasNarrowLocals p.body) t.processes.items
   pub tasks : All HasNarrowSlots t.tasks.items
 
--- each list of a template has at most 2 ^ 32 members
+-- numbers of 32 bits tell the members of each list of a template apart
 pub record HasShortLists (t : Template) : Type 0 where
-  pub processes : length t.processes.items ≤ 2 ^ 32
-  pub tasks : length t.tasks.items ≤ 2 ^ 32
-  pub goals : length t.goals.items ≤ 2 ^ 32
-  pub fairs : length t.fairs.items ≤ 2 ^ 32
+  pub processes : length t.processes.items ≤ number_limit
+  pub tasks : length t.tasks.items ≤ number_limit
+  pub goals : length t.goals.items ≤ number_limit
+  pub fairs : length t.fairs.items ≤ number_limit

@@ -1,11 +1,14 @@
 //! The instances of a design, in preorder.
-ghost use Rattle.std.specs.Prelude.{◌≡◌, ◌<◌, ◌≤◌, ◌+◌, ◌++◌, ◌^◌, [], ℕ, List, IfOk, OnOk, Some, codes, get_or, length, map, slice_get, sum_by};
+ghost use Rattle.std.specs.Prelude.{◌≡◌, ◌<◌, ◌≤◌, ◌+◌, ◌++◌, [], ℕ, List, IfOk, OnOk, Some, codes, get_or, length, map, slice_get, sum_by};
 ghost use Rattle.std.specs.List.{AllByRecursion, cons_option, filter_map};
+ghost use Rattle.tm_syntax.specs.declared.fault.Quantity.TheVariants as quantity;
 ghost use Rattle.tm_syntax.specs.Tree as tree;
 ghost use Rattle.tm_syntax.specs.Tree.View.{instance_tree, spec_tree};
 ghost use Rattle.tm_syntax.specs.Scopes.Names.{template_number};
+ghost use Rattle.tm_syntax.specs.Faults.Limits.{limit_of};
 ghost use Rattle.tm_syntax.specs.Design.{AreInstances, InstanceNode, instance_node};
 ghost use Rattle.tm_items.specs.Instances.{AreSizes, HoldsKnown, held_size};
+ghost use Rattle.tm_items.specs.Sizes.{number_limit};
 ghost use Rattle.tm_items.specs.Inner.Growth.{Grows, HasGrown, HasHeld, HoldsAt, offsets, port_named};
 
 use crate::paths::member_name;
@@ -17,8 +20,8 @@ use tm_syntax::tree::{Ident, InstanceDef};
 
 /// The instances of a specification in which no template holds itself, in preorder from `main`, with what they hold and
 /// what their ports stand for. `sizes` says of each template how many instances one of it is, with all below it.
-/// Linear in the instances and their paths, and as deep as instances nest, so at most 64 deep. `AllocError` is want of
-/// memory.
+/// Linear in the instances and their paths, and as deep as instances nest, so no deeper than the limit on
+/// instances. `AllocError` is want of memory.
 pub fn list_instances(
     alloc: Global,
     scopes: &Scopes,
@@ -27,11 +30,11 @@ pub fn list_instances(
 ) -> Result<Vec<Instance>, AllocError>
     requires sizes { AreSizes (spec_tree scopes.now) sizes.now }
     requires held { HoldsKnown (spec_tree scopes.now) }
-    requires few { length scopes.now.templates.items ≤ 2 ^ 32 }
+    requires few { length scopes.now.templates.items ≤ number_limit }
     requires main { template_number (spec_tree scopes.now) (codes "main") ≡ Some main }
     requires apart { (t : tree.TemplateTree) → slice_get (spec_tree scopes.now).templates main ≡ Some t
         → t.ports ≡ [] }
-    requires small { get_or sizes.now main 0 ≤ 64 }
+    requires small { get_or sizes.now main 0 ≤ limit_of quantity.Instances }
     ensures { IfOk result (λ nodes. AreInstances (spec_tree scopes.now) (map instance_node nodes.items)) }
 {
     let mut nodes = Vec::new(alloc);
@@ -62,11 +65,11 @@ fn add_instance(
 ) -> Result<(), AllocError>
     requires sizes { AreSizes (spec_tree scopes.now) sizes.now }
     requires held { HoldsKnown (spec_tree scopes.now) }
-    requires few { length scopes.now.templates.items ≤ 2 ^ 32 }
+    requires few { length scopes.now.templates.items ≤ number_limit }
     requires within { template < length scopes.now.templates.items }
     requires ports { (t : tree.TemplateTree) → slice_get (spec_tree scopes.now).templates template ≡ Some t
         → length ports.items ≡ length t.ports }
-    requires room { length nodes.old.items + get_or sizes.now template 0 < 2 ^ 32 }
+    requires room { length nodes.old.items + get_or sizes.now template 0 < number_limit }
     ensures { OnOk result (HasGrown (spec_tree scopes.now) (map instance_node nodes.old.items)
         (map instance_node nodes.new.items) template (get_or sizes.now template 0) path ports.items) }
 {
@@ -94,11 +97,11 @@ fn add_all_held(
 ) -> Result<(), AllocError>
     requires sizes { AreSizes (spec_tree scopes.now) sizes.now }
     requires held { HoldsKnown (spec_tree scopes.now) }
-    requires few { length scopes.now.templates.items ≤ 2 ^ 32 }
+    requires few { length scopes.now.templates.items ≤ number_limit }
     requires holder { AllByRecursion (HoldsAt (spec_tree scopes.now) (map instance_node nodes.old.items) holder)
         (map instance_tree held.now) }
     requires room { length nodes.old.items
-        + sum_by (held_size (spec_tree scopes.now) sizes.now) (map instance_tree held.now) < 2 ^ 32 }
+        + sum_by (held_size (spec_tree scopes.now) sizes.now) (map instance_tree held.now) < number_limit }
     ensures { OnOk result ((old : List InstanceNode) (t : tree.TemplateTree) (template size : ℕ) (path ports : List ℕ)
         → length old ≡ holder
         → Grows (spec_tree scopes.now) sizes.now old (map instance_node nodes.old.items) t template size path ports
@@ -124,11 +127,11 @@ fn add_held(
 ) -> Result<(), AllocError>
     requires sizes { AreSizes (spec_tree scopes.now) sizes.now }
     requires held { HoldsKnown (spec_tree scopes.now) }
-    requires few { length scopes.now.templates.items ≤ 2 ^ 32 }
+    requires few { length scopes.now.templates.items ≤ number_limit }
     requires holder { HoldsAt (spec_tree scopes.now) (map instance_node nodes.old.items) holder
         (instance_tree held.now) }
     requires room { length nodes.old.items + held_size (spec_tree scopes.now) sizes.now (instance_tree held.now)
-        < 2 ^ 32 }
+        < number_limit }
     ensures { OnOk result ((parent : InstanceNode) (t : tree.TemplateTree)
         → slice_get (map instance_node nodes.old.items) holder ≡ Some parent
         → slice_get (spec_tree scopes.now).templates parent.template ≡ Some t
@@ -163,7 +166,8 @@ fn children_of(
     held: &[InstanceDef],
     first: usize,
 ) -> Result<Vec<u32>, AllocError>
-    requires room { first + sum_by (held_size (spec_tree scopes.now) sizes.now) (map instance_tree held.now) < 2 ^ 32 }
+    requires room { first + sum_by (held_size (spec_tree scopes.now) sizes.now) (map instance_tree held.now)
+        < number_limit }
     ensures { IfOk result (λ xs. xs.items
         ≡ offsets (spec_tree scopes.now) sizes.now first (map instance_tree held.now)) }
 {

@@ -1,11 +1,11 @@
 //! The processes, controllable tasks, goals and fairness conditions of instances.
-ghost use Rattle.std.specs.Prelude.{◌≡◌, ◌≤◌, ◌<◌, ◌^◌, ◌++◌, ◌∷◌, [], All, IfOk, OnOk, length, map, true};
+ghost use Rattle.std.specs.Prelude.{◌≡◌, ◌≤◌, ◌<◌, ◌++◌, ◌∷◌, [], All, IfOk, OnOk, length, map, true};
 ghost use Rattle.tm_syntax.specs.Tree as tree;
 ghost use Rattle.tm_syntax.specs.Tree.View.{named_tree, process_tree, spec_tree, task_tree, template_tree};
 ghost use Rattle.tm_syntax.specs.Scopes.Pauses.{is_controllable};
 ghost use Rattle.tm_syntax.specs.Design.{all_items, instance_node, with_goal};
 ghost use Rattle.tm_items.specs.Inner.Listed.{instance_lists, item_of, items_from, joined, lists_from, lists_of, template_lists};
-ghost use Rattle.tm_items.specs.Sizes.{HasShortLists};
+ghost use Rattle.tm_items.specs.Sizes.{HasShortLists, number_limit};
 
 use crate::paths::member_name;
 use std::alloc::{AllocError, Global};
@@ -29,7 +29,7 @@ pub struct Items {
 /// `AllocError` is want of memory.
 pub fn list_items(alloc: Global, spec: &Spec, instances: &[Instance]) -> Result<Items, AllocError>
     requires short { All HasShortLists spec.now.templates.items }
-    requires few { length instances.now ≤ 2 ^ 32 }
+    requires few { length instances.now ≤ number_limit }
     ensures processes { IfOk result (λ x. x.processes.items ≡ all_items (λ t. t.processes) (λ _. true)
         (λ (p : tree.ProcessTree). p.name) (spec_tree spec.now) (map instance_node instances.now)) }
     ensures tasks { IfOk result (λ x. x.tasks.items ≡ all_items (λ t. t.tasks)
@@ -48,7 +48,7 @@ pub fn list_items(alloc: Global, spec: &Spec, instances: &[Instance]) -> Result<
 // The items that are declared.
 fn declared_items(alloc: Global, spec: &Spec, instances: &[Instance]) -> Result<Items, AllocError>
     requires short { All HasShortLists spec.now.templates.items }
-    requires few { length instances.now ≤ 2 ^ 32 }
+    requires few { length instances.now ≤ number_limit }
     ensures { IfOk result (λ x. lists_of x ≡ lists_from (spec_tree spec.now) 0 (map instance_node instances.now)) }
 {
     let mut items = Items {
@@ -147,7 +147,7 @@ fn push_processes(
     base: &[u8],
     processes: &[ProcessDef],
 ) -> Result<(), AllocError>
-    requires short { length processes.now ≤ 2 ^ 32 }
+    requires short { length processes.now ≤ number_limit }
     ensures { OnOk result (items.new.items ≡ items.old.items
         ++ items_from (λ _. true) (λ (p : tree.ProcessTree). p.name) number base.now 0
         (map process_tree processes.now)) }
@@ -166,7 +166,7 @@ fn push_tasks(
     base: &[u8],
     tasks: &[TaskDef],
 ) -> Result<(), AllocError>
-    requires short { length tasks.now ≤ 2 ^ 32 }
+    requires short { length tasks.now ≤ number_limit }
     ensures { OnOk result (items.new.items ≡ items.old.items
         ++ items_from (λ (k : tree.TaskTree). is_controllable k.kind) (λ (k : tree.TaskTree). k.name) number base.now 0
         (map task_tree tasks.now)) }
@@ -216,7 +216,7 @@ fn push_named(
     base: &[u8],
     named: &[Named],
 ) -> Result<(), AllocError>
-    requires short { length named.now ≤ 2 ^ 32 }
+    requires short { length named.now ≤ number_limit }
     ensures { OnOk result (items.new.items ≡ items.old.items
         ++ items_from (λ _. true) (λ (g : tree.NamedTree). g.name) number base.now 0 (map named_tree named.now)) }
 {

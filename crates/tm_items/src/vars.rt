@@ -1,5 +1,5 @@
 //! The state variables of instances.
-ghost use Rattle.std.specs.Prelude.{◌≡◌, ◌<◌, ◌≤◌, ◌^◌, ◌++◌, ◌∷◌, [], All, IfOk, OnOk, Some, length, map, slice_get};
+ghost use Rattle.std.specs.Prelude.{◌≡◌, ◌<◌, ◌≤◌, ◌++◌, ◌∷◌, [], All, IfOk, OnOk, Some, length, map, slice_get};
 ghost use Rattle.std.specs.List.{enumerate_from, flat_map};
 ghost use Rattle.std.specs.Option.{option_map};
 ghost use Rattle.tm_syntax.specs.Tree.{LocalTree, TemplateTree, path};
@@ -11,7 +11,7 @@ ghost use Rattle.tm_syntax.specs.Design.{declared_vars, element_paths, instance_
 ghost use Rattle.tm_scope.specs.Cells.{ArePausing};
 ghost use Rattle.tm_scope.specs.Members.{task_at};
 ghost use Rattle.tm_items.specs.Inner.Listed.{slot_vars, template_vars, var_of};
-ghost use Rattle.tm_items.specs.Sizes.{HasNarrowLocals, HasNarrowSlots, HasNarrowTypes, IsNarrow};
+ghost use Rattle.tm_items.specs.Sizes.{HasNarrowLocals, HasNarrowSlots, HasNarrowTypes, IsNarrow, number_limit, width_limit};
 
 use crate::paths::{below_name, element_name, member_name};
 use std::alloc::{AllocError, Global};
@@ -34,7 +34,7 @@ pub fn variables(
 ) -> Result<Vec<Var>, AllocError>
     requires pausing { ArePausing (spec_tree scopes.now) pausing.now }
     requires narrow { All HasNarrowTypes scopes.now.templates.items }
-    requires few { length instances.now ≤ 2 ^ 32 }
+    requires few { length instances.now ≤ number_limit }
     ensures { IfOk result (λ vars. vars.items ≡ flat_map (instance_vars (spec_tree scopes.now))
         (enumerate_from 0 (map instance_node instances.now))) }
 {
@@ -397,7 +397,7 @@ fn type_of(alloc: Global, ty: &TypeName) -> Result<Ty, AllocError>
 
 // A number of bits.
 fn width(bits: Num) -> u8
-    requires narrow { written_width bits ≤ 64 }
+    requires narrow { written_width bits ≤ width_limit }
     ensures { result ≡ written_width bits }
 {
     match bits.value {

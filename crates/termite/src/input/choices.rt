@@ -1,7 +1,8 @@
 //! Reading a text of choices.
 ghost use Rattle.std.specs.Prelude.{◌≡◌, ℕ, ◌+◌, ◌<◌, ◌^◌, length, map, position, IfOk, IfSome};
 ghost use Rattle.std.specs.Option.{option_map};
-ghost use Rattle.termite.specs.Choices.{process_number as number_of_process, process_turn, turn_with, turn_of, start_of, kept_lines, turns_of, reading_of, GivesAs};
+ghost use Rattle.termite.specs.Choices.{process_number as number_of_process, process_turn, turn_with, turn_of};
+ghost use Rattle.termite.specs.Choices.{start_of, kept_lines, turns_of, reading_of, GivesAs};
 
 use crate::input::lines::{fields, next_line};
 use crate::input::number::read_numbers;

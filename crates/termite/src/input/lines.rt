@@ -1,7 +1,9 @@
 //! The lines of a text of choices, and their fields.
-ghost use Rattle.std.specs.Prelude.{◌≡◌, ◌==◌, ℕ, ◌+◌, ◌<◌, ◌≤◌, ◌^◌, [], ◌∷◌, length, map, position, unwrap_or, IfOk, IfNone, IfSome};
+ghost use Rattle.std.specs.Prelude.{◌≡◌, ◌==◌, ℕ, ◌+◌, ◌<◌, ◌≤◌, ◌^◌, [], ◌∷◌, length, map, position, unwrap_or, IfOk};
+ghost use Rattle.std.specs.Prelude.{IfNone, IfSome};
 ghost use Rattle.std.specs.Str.Lines.{lines, strip_carriage_return};
-ghost use Rattle.termite.specs.Choices.{fields_of, separates_fields as is_blank_byte, is_kept as is_kept_line, kept_lines};
+ghost use Rattle.termite.specs.Choices.{fields_of, separates_fields as is_blank_byte, is_kept as is_kept_line};
+ghost use Rattle.termite.specs.Choices.{kept_lines};
 
 use std::alloc::{AllocError, Global};
 

@@ -1,7 +1,17 @@
+use Rattle.std.proofs.Common.{◌∙◌, ap, sym, map, option_map, rules}
+use Rattle.std.specs.String.{string_bytes}
+use Rattle.termite.specs.Words.{command_of, command_view}
 use Rattle.termite.specs.World.{files_data, sink_data}
-use Rattle.termite.proofs.Running.{usage_obeys}
+use Rattle.termite.proofs.Running.{unread_words_obey, usage_obeys}
 use Rattle.termite.proofs.program.obey_words.Goals as goal
+
+pub returns-in_err-read_words : goal.returns-in_err-read_words
+returns-in_err-read_words g c =
+    unread_words_obey (command_of (map string_bytes c.args.words.now)) (files_data g.F.Files c.args.files.now)
+    (sink_data g.O.Sink c.args.out.now) c.from_residual.result (search rules)
 
 pub returns-in-None : goal.returns-in-None
 returns-in-None g c =
-    usage_obeys _ (files_data g.F.Files c.args.files.now) (sink_data g.O.Sink c.args.out.now) c.in-None.ensures
+    usage_obeys (command_of (map string_bytes c.args.words.now)) (files_data g.F.Files c.args.files.now)
+    (sink_data g.O.Sink c.args.out.now)
+    (ap (option_map command_view) (sym c.in-None.is) ∙ c.in_ok-read_words.ensures)

@@ -4,7 +4,8 @@ use Rattle.tm_syntax.specs.Design.View.{design_tree}
 use Rattle.tm_cir.specs.View.{trees_of}
 use Rattle.termite.specs.Report.{state_line}
 use Rattle.termite.specs.Played.{nothing, part, begins_badly}
-use Rattle.termite.proofs.Playing.{on_err, cut_nothing, cut_whole, cut_more, none_begins, begun, led_on, led_nowhere, played_all}
+use Rattle.termite.proofs.Playing.{on_err, cut_nothing, cut_whole, cut_more, none_begins, begun, led_on, led_nowhere}
+use Rattle.termite.proofs.Playing.{played_all}
 use Rattle.termite.proofs.play.turns.play.Goals as goal
 
 pub returns-in_err-position-clause-cut : goal.returns-in_err-position-clause-cut
