@@ -1,0 +1,4 @@
+pub mod Inner
+pub mod Parameters
+pub mod Sorts
+pub mod Typed
