@@ -65,12 +65,12 @@ fn values_each_operator(rt: HostRuntime) -> Result<(), Fail> {
     Ok(())
 }
 
-// Terms over two inputs in the order of their ids, with their widths.
-const OVER_TWO: [(Term, u8); 4] = [
-    (Term::Input(0), 8),
-    (Term::Input(1), 8),
-    (Term::Add(X, Y), 8),
-    (Term::Less(X, Y), 1),
+// Terms over two inputs in the order of their ids, with their widths and their values at 250 and 10.
+const OVER_TWO: [(Term, u8, u64); 4] = [
+    (Term::Input(0), 8, 250),
+    (Term::Input(1), 8, 10),
+    (Term::Add(X, Y), 8, 4),
+    (Term::Less(X, Y), 1, 0),
 ];
 
 #[test]
@@ -78,11 +78,12 @@ fn makes_each_term_once(rt: HostRuntime) -> Result<(), Fail> {
     let mut terms = Terms::new(rt.alloc(), &[8, 8])?;
     assert_eq!(rt; terms.inputs(), [8, 8].as_slice());
     for _ in 0..2 {
-        for (place, (term, width)) in OVER_TWO.iter().enumerate() {
+        for (place, (term, width, wanted)) in OVER_TWO.iter().enumerate() {
             let id = made(&rt, &mut terms, *term)?;
             assert_eq!(rt; id, TermId(place as u64));
             assert!(rt; terms.is_known(id));
             assert_eq!(rt; (terms.term(id), terms.width(id)), (*term, *width));
+            assert_eq!(rt; value(&rt, &terms, id, &[250, 10]), *wanted);
         }
     }
     assert_eq!(rt; terms.count(), 4);

@@ -11,8 +11,6 @@ mod place;
 mod sink;
 mod std_sink;
 mod steps;
-#[cfg(test)]
-mod tests;
 mod transfer;
 
 pub use disk_files::DiskFiles;

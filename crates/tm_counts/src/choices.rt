@@ -25,7 +25,7 @@ use tm_syntax::tree::{Body, Ident, LocalDef, Stmt, Value};
 pub(crate) struct CallPaths<'m, 's, 'a> {
     scopes: &'s Scopes<'a>,
     from: usize,
-    names: BodyScope<'s, 'a>,
+    names: BodyScope<'s>,
     paths: &'m IndexMap<Member, Paths>,
 }
 

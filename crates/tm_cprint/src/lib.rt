@@ -4,7 +4,5 @@
 mod expression;
 mod piece;
 mod printer;
-#[cfg(test)]
-mod tests;
 
 pub use printer::print;

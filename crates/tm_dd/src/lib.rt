@@ -3,8 +3,6 @@
 
 mod node;
 mod store;
-#[cfg(test)]
-mod tests;
 
 pub use node::{FALSE, Node, NodeId, TRUE};
 pub use store::Store;

@@ -13,6 +13,7 @@ use Rattle.std.specs.Option.{option_map_or}
 use Rattle.std.proofs.lemmas.Option.{get_or_from_slice_get}
 use Rattle.tm_syntax.specs.Scopes.Names.{template_number}
 use Rattle.tm_items.specs.Instances.{AreSizes, IsHeld, held_size}
+use Rattle.tm_items.specs.Sizes.{number_limit}
 
 -- the number of instances that a template declares does not change by numbering them
 pub offsets_are_as_many : (spec : SpecTree) (sizes : List ℕ) (at : ℕ) (held : List InstanceTree) →
@@ -214,11 +215,12 @@ all_at P (y ∷ held) (suc k) x all within is = all_at P held k x all.1 (omega (
 
 -- ---- what a template declares, in the instance that holds it
 
--- a template is as large as what it holds and one more
+-- a template whose size is told is as large as what it holds and one more
 pub size_is : (spec : SpecTree) (sizes : List ℕ) (k : ℕ) (t : TemplateTree) → AreSizes spec sizes →
-    slice_get spec.templates k ≡ Some t → get_or sizes k 0 ≡ 1 + sum_by (held_size spec sizes) t.instances
-size_is spec sizes k t sized is =
-    get_or_from_slice_get sizes k (1 + sum_by (held_size spec sizes) t.instances) 0 (sized k t is)
+    slice_get spec.templates k ≡ Some t → get_or sizes k 0 < number_limit →
+    get_or sizes k 0 ≡ 1 + sum_by (held_size spec sizes) t.instances
+size_is spec sizes k t sized is few =
+    get_or_from_slice_get sizes k (1 + sum_by (held_size spec sizes) t.instances) 0 (sized k t is few)
 
 -- an instance of a template of a number is as large as that template
 pub held_size_is : (spec : SpecTree) (sizes : List ℕ) (i : InstanceTree) (k : ℕ) →

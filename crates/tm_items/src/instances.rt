@@ -19,9 +19,9 @@ use tm_syntax::design::Instance;
 use tm_syntax::tree::{Ident, InstanceDef};
 
 /// The instances of a specification in which no template holds itself, in preorder from `main`, with what they hold and
-/// what their ports stand for. `sizes` says of each template how many instances one of it is, with all below it.
-/// Linear in the instances and their paths, and as deep as instances nest, so no deeper than the limit on
-/// instances. `AllocError` is want of memory.
+/// what their ports stand for. `sizes` says of each template how many instances one of it is, with all below it; where
+/// these are 2^32 or more, any number from there on will do. Linear in the instances and their paths, and as deep as
+/// instances nest, so no deeper than the limit on instances. `AllocError` is want of memory.
 pub fn list_instances(
     alloc: Global,
     scopes: &Scopes,

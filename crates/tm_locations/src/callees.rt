@@ -48,7 +48,7 @@ pub(crate) struct ProcessAt<'t> {
 #[derive(Drop)]
 pub(crate) struct Callees<'s, 't> {
     spec: &'t Spec,
-    sites: Sites<'s, 't>,
+    sites: Sites<'s>,
     pausing: &'s TaskSet,
 }
 

@@ -27,7 +27,7 @@ fn valued_in<'a>(asked: ExprType<'a>, own: Option<ExprType<'a>>) -> ExprType<'a>
 
 /// The type in which an expression is valued: its own, or the one that its place asks for. What is cast has one of its
 /// own. Linear in the expression, and as deep as it nests.
-pub fn valued_type<'a>(scope: &CellScope<'_, '_, 'a>, e: &Expr, asked: ExprType<'a>) -> ExprType<'a>
+pub fn valued_type<'a>(scope: &CellScope<'a>, e: &Expr, asked: ExprType<'a>) -> ExprType<'a>
     ensures { (d : DesignTree) → HasCells scope.now.tables d →
         ty_of result ≡ valued_in (ty_of asked.entry) (type_in d (scope_of scope.now.at) (expr_tree e.now)) }
 {
@@ -37,7 +37,7 @@ pub fn valued_type<'a>(scope: &CellScope<'_, '_, 'a>, e: &Expr, asked: ExprType<
 /// The type in which two expressions that are joined or compared are valued: the own type of the first one that has
 /// one, or the one that their place asks for. Linear in the expressions, and as deep as they nest.
 pub fn joint_type<'a>(
-    scope: &CellScope<'_, '_, 'a>,
+    scope: &CellScope<'a>,
     a: &Expr,
     b: &Expr,
     asked: ExprType<'a>,
@@ -54,7 +54,7 @@ pub fn joint_type<'a>(
 /// The type that an operator asks its operands for, which both have. In constant time where the operator is one of
 /// arithmetic or logic, and else as `joint_type`.
 pub fn operand_type<'a>(
-    scope: &CellScope<'_, '_, 'a>,
+    scope: &CellScope<'a>,
     op: BinaryOperator,
     a: &Expr,
     b: &Expr,
@@ -76,7 +76,7 @@ pub fn operand_type<'a>(
 
 /// The type in which an index is valued: its own, or for a number one that holds every length. Linear in the index, and
 /// as deep as it nests.
-pub fn index_type<'a>(scope: &CellScope<'_, '_, 'a>, index: &Expr) -> ExprType<'a>
+pub fn index_type<'a>(scope: &CellScope<'a>, index: &Expr) -> ExprType<'a>
     ensures { (d : DesignTree) → HasCells scope.now.tables d →
         ty_of result ≡ index_type d (scope_of scope.now.at) (expr_tree index.now) }
 {

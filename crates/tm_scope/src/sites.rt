@@ -19,12 +19,12 @@ use tm_syntax::tree::Ident;
 ///
 /// Contracts see the specification and the instances.
 #[derive(Drop)]
-pub struct Sites<'s, 'a> {
-    scopes: &'s Scopes<'a>,
+pub struct Sites<'s> {
+    scopes: &'s Scopes<'s>,
     instances: &'s [Instance],
 }
 
-impl<'s, 'a> Model for Sites<'s, 'a> {
+impl<'s> Model for Sites<'s> {
     ghost use Rattle.std.specs.Coded.{codes};
     ghost use Rattle.tm_syntax.specs.contracts.tree.Spec as spec_contract;
     ghost use Rattle.tm_syntax.specs.contracts.design.Instance as instance_contract;
@@ -37,9 +37,9 @@ impl<'s, 'a> Model for Sites<'s, 'a> {
     ghost coded = { Prim.hlevel (codes, spec_contract.the_row.coded, instance_contract.the_row.coded) };
 }
 
-impl<'s, 'a> Sites<'s, 'a> {
+impl<'s> Sites<'s> {
     /// These instances, with the tables of their specification.
-    pub fn new(scopes: &'s Scopes<'a>, instances: &'s [Instance]) -> Sites<'s, 'a>
+    pub fn new(scopes: &'s Scopes<'s>, instances: &'s [Instance]) -> Sites<'s>
         ensures { result ≡ record { spec = scopes.now; instances = instances.now } }
     {
         Sites { scopes, instances }

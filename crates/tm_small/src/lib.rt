@@ -18,8 +18,6 @@ mod main_design;
 mod names;
 mod read;
 mod stop;
-#[cfg(test)]
-mod tests;
 
 use main_design::main_design;
 use names::{are_distinct, names_of, push_names};

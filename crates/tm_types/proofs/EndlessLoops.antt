@@ -16,7 +16,7 @@ use Rattle.tm_syntax.specs.declared.member.Member.{Member}
 use Rattle.tm_scope.specs.Marks.{CallTable, is_marked}
 use Rattle.tm_types.specs.CallMarks.{TellCalls}
 use Rattle.tm_types.specs.Inner.Crossings.{body_loops, in_bodies, loops_of}
-use Rattle.tm_types.proofs.BodyParts.{flat_map-bodies, flat_map-flat_map}
+use Rattle.tm_names.proofs.BodyParts.{flat_map-bodies, flat_map-flat_map}
 
 -- marks that are read from a template of the text
 pub marks_read : (spec : Spec) (tasks : List Member) (does : TemplateTree → List Ident → Bool) →

@@ -7,7 +7,7 @@ use Rattle.tm_base.specs.declared.place.Place.{Place}
 use Rattle.tm_syntax.specs.Places.{is_before, earlier}
 use Rattle.tm_syntax.specs.Faults.Marks.{Mark, first_mark}
 use Rattle.tm_syntax.specs.Faults.{IsFirst, here, later}
-use Rattle.tm_types.proofs.Repeats.{not_before_itself, not_before_through}
+use Rattle.tm_names.proofs.Repeats.{not_before_itself, not_before_through}
 
 -- what holds of all holds of all in a weaker form
 pub all_weaker : {X : Type 0} (P Q : X → Type 0) → ((x : X) → P x → Q x) → (xs : List X) → AllByRecursion P xs →

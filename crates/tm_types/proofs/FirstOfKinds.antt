@@ -9,12 +9,12 @@ use Rattle.tm_syntax.specs.declared.fault.FaultKind.TheVariants as kind
 use Rattle.tm_syntax.specs.declared.fault.Faulty.{Faulty}
 use Rattle.tm_syntax.specs.Tree.{SpecTree}
 use Rattle.tm_syntax.specs.Places.{earliest}
-use Rattle.tm_syntax.specs.Faults.{fault, HasFault, HasTreeFault, IsFree, IsOfText, IsTyped}
+use Rattle.tm_syntax.specs.Faults.{fault, HasFault, IsFree, IsOfText, IsTyped}
 use Rattle.tm_syntax.specs.Faults.Marks.{Mark, first_mark, first_place, marked}
 use Rattle.tm_types.specs.Answer.{HasFaultOf, HasTypeFault, IsFirstOf, IsFreeOf, type_kinds}
 use Rattle.tm_types.specs.Firsts.{first_of}
-use Rattle.tm_types.specs.ScopeNames.{mark_of}
-use Rattle.tm_types.specs.declared.twice.mark.NameMark.{NameMark}
+use Rattle.tm_names.specs.ScopeNames.{mark_of}
+use Rattle.tm_names.specs.declared.scopes.mark.NameMark.{NameMark}
 use Rattle.tm_types.proofs.FirstLooping.{not_nothing}
 
 -- there is no earliest one of nothing alone

@@ -4,7 +4,7 @@ use Rattle.tm_syntax.specs.Tree.{ExprTree, truth, number, path, group, unary, bi
 use Rattle.tm_syntax.specs.Scopes.Context.{BodyName, process_body, task_body, outside}
 use Rattle.tm_syntax.specs.Faults.Operands.{Finding, index_fits, is_number_typed}
 use Rattle.tm_types.specs.Inner.Indices.{is_number}
-use Rattle.tm_types.specs.Inner.Sites.{is_in_body}
+use Rattle.tm_names.specs.Sites.{is_in_body}
 
 -- an index is a NUMBER, or stands in a body and is a number with a type of its own
 index_fits-by_parts : (body : BodyName) (e : ExprTree) (found : Finding) →

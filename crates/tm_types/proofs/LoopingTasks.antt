@@ -1,19 +1,19 @@
 -- The first task of a text that reaches itself.
-use Rattle.std.proofs.Common.{◌≡◌, ℕ, zero, suc, ◌+◌, true, Option, None, Some, List, [], ◌∷◌, ◌++◌, map, slice_get, refl, sym, ap, ◌∙◌, subst, arith}
+use Rattle.std.proofs.Common.{◌≡◌, ℕ, zero, suc, ◌+◌, true, Option, None, Some, List, [], ◌∷◌, ◌++◌, map, slice_get, refl, sym, subst, arith}
 use Rattle.std.specs.Prelude.{◌↔◌, IfNone, IfSome}
 use Rattle.std.specs.List.{AllByRecursion, enumerate_from, flat_map}
 use Rattle.std.specs.Option.{option_and_then, option_map}
 use Rattle.tm_syntax.specs.declared.fault.FaultKind.TheVariants as kind
 use Rattle.tm_syntax.specs.Tree.{TaskTree, TemplateTree, SpecTree}
-use Rattle.tm_syntax.specs.Scopes.Calls.{Calls, Reaches, at_once, through, numbered_task}
+use Rattle.tm_syntax.specs.Scopes.Calls.{Reaches, at_once, through, numbered_task}
 use Rattle.tm_syntax.specs.Faults.{HasFault, IsFree}
 use Rattle.tm_syntax.specs.Faults.Cycles.{TaskMark, CallsItself, all_tasks, template_tasks}
 use Rattle.tm_syntax.specs.Faults.Marks.{first_mark}
 use Rattle.tm_syntax.specs.declared.member.Member.{Member}
 use Rattle.tm_scope.specs.Marks.{is_in}
 use Rattle.tm_types.specs.Inner.Looping.{looping_mark, task_mark}
-use Rattle.tm_types.specs.ScopeNames.{mark_of}
-use Rattle.tm_types.specs.declared.twice.mark.NameMark.{NameMark}
+use Rattle.tm_names.specs.ScopeNames.{mark_of}
+use Rattle.tm_names.specs.declared.scopes.mark.NameMark.{NameMark}
 use Rattle.tm_types.proofs.FirstLooping.{first_is, inside, none_is, not_nothing}
 
 -- what holds of all of two lists holds of all of each

@@ -1,12 +1,12 @@
 -- The first fault of parts that are told apart by their numbers.
-use Rattle.std.proofs.Common.{◌≡◌, ℕ, ◌+◌, ◌<◌, ◌≤◌, Option, None, Some, List, [], ◌∷◌, ◌++◌, map, append_assoc, length, drop, get_or, refl, sym, ap, ◌∙◌}
+use Rattle.std.proofs.Common.{◌≡◌, ℕ, ◌+◌, ◌<◌, ◌≤◌, Option, None, Some, List, ◌++◌, map, append_assoc, length, drop, get_or, refl, sym, ap, ◌∙◌}
 use Rattle.std.specs.List.{flat_map, enumerate_from}
 use Rattle.std.specs.Option.{option_to_list}
 use Rattle.std.proofs.lemmas.List.{at_drop_more, drop_all}
 use Rattle.tm_syntax.specs.Places.{earliest_of}
 use Rattle.tm_syntax.specs.Faults.Marks.{Mark, first_mark}
 use Rattle.tm_syntax.proofs.Places.{earliest-append}
-use Rattle.tm_types.proofs.ScopeLists.{first_of_one}
+use Rattle.tm_names.proofs.ScopeLists.{first_of_one}
 
 -- the earlier of two faults
 abbrev pub either : Option Mark → Option Mark → Option Mark

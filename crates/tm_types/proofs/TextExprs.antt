@@ -9,7 +9,7 @@ use Rattle.tm_syntax.specs.Tree.{NamedTree, TemplateTree, SpecTree}
 use Rattle.tm_syntax.specs.Tree.View.{spec_tree, template_tree}
 use Rattle.tm_syntax.specs.Scopes.Parts.{Asked, BodyAt, ExprAt, bodies, body_exprs, condition, exprs, template_bodies, template_exprs}
 use Rattle.tm_types.specs.Inner.Numbers.{outside_of}
-use Rattle.tm_types.proofs.BodyParts.{flat_map-flat_map}
+use Rattle.tm_names.proofs.BodyParts.{flat_map-flat_map}
 
 -- an expression of a body, where it stands
 abbrev pub in_body : BodyAt → Asked → ExprAt

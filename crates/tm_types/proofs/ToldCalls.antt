@@ -1,5 +1,5 @@
 -- The tasks that pass a test tell of each call whether it does.
-use Rattle.std.proofs.Common.{◌≡◌, List, subst, sym}
+use Rattle.std.proofs.Common.{◌≡◌, List, subst}
 use Rattle.tm_syntax.specs.declared.member.Member.{Member}
 use Rattle.tm_syntax.specs.declared.tree.Spec.{Spec}
 use Rattle.tm_syntax.specs.Scopes.Crossing.{body_crosses, call_crosses}

@@ -1,13 +1,6 @@
 pub mod Answer
-pub mod Asked
-pub mod Bodies
 pub mod CallMarks
 pub mod Findings
 pub mod Firsts
 pub mod Inner
-pub mod Meanings
-pub mod Parts
-pub mod ScopeNames
-pub mod Sorts
-pub mod TextScopes
 pub mod Wanted

@@ -4,12 +4,11 @@ ghost use Rattle.tm_syntax.specs.declared.fault.Faulty as fault;
 ghost use Rattle.tm_syntax.specs.Tree.View.{spec_tree};
 ghost use Rattle.tm_syntax.specs.Faults.{IsOfText};
 ghost use Rattle.tm_types.specs.Answer.{HasTypeFault, IsFirstOf, IsMemoryOr, type_kinds};
-ghost use Rattle.tm_types.specs.TextScopes.{AreTextScopes};
+ghost use Rattle.tm_names.specs.TextScopes.{AreTextScopes};
 
-use crate::names::TextNames;
 use crate::stages::{call_fault, name_fault, value_fault};
-use crate::twice::TextScopes;
 use std::alloc::{AllocError, Global};
+use tm_names::{TextNames, TextScopes};
 use tm_scope::Scopes;
 use tm_syntax::fault::{Faulty, FrontError};
 use tm_syntax::tree::Spec;

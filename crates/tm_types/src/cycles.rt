@@ -8,10 +8,10 @@ ghost use Rattle.tm_syntax.specs.Faults.{HasFault, IsFree};
 ghost use Rattle.tm_syntax.specs.Faults.Cycles.{template_tasks};
 ghost use Rattle.tm_syntax.specs.Faults.Marks.{first_mark};
 ghost use Rattle.tm_types.specs.Inner.Looping.{looping_mark, task_mark};
-ghost use Rattle.tm_types.specs.ScopeNames.{mark_of};
+ghost use Rattle.tm_names.specs.ScopeNames.{mark_of};
 
-use crate::twice::{NameMark, earlier_mark};
 use std::alloc::{AllocError, Global};
+use tm_names::{NameMark, earlier_mark};
 use tm_scope::{Scopes, TaskSet, looping_tasks};
 use tm_syntax::member::Member;
 use tm_syntax::tree::{Spec, TaskDef, Template};

@@ -3,19 +3,13 @@ ghost use Rattle.std.specs.Prelude.{◌≡◌, ◌++◌, List, Option, Ok, IfOk}
 ghost use Rattle.std.specs.List.{flat_map};
 ghost use Rattle.std.specs.Fn.{FnReturnsAt};
 ghost use Rattle.tm_base.specs.declared.place.Place as stands;
-ghost use Rattle.tm_syntax.specs.Places.{earliest_of, is_before};
+ghost use Rattle.tm_syntax.specs.Places.{earliest_of};
 ghost use Rattle.tm_syntax.specs.Faults.Marks.{place_unless};
 ghost use Rattle.tm_types.specs.Firsts.{first_of};
 
 use std::alloc::AllocError;
 use tm_base::Place;
-
-// Whether a place stands before another one.
-pub(crate) fn is_before(a: Place, b: Place) -> bool
-    ensures { result ≡ is_before a b }
-{
-    a.line < b.line || (a.line == b.line && a.column < b.column)
-}
+use tm_names::is_before;
 
 // The earlier of two places that may be there: the first place of what both are the first of.
 pub(crate) fn earlier_place(first: Option<Place>, second: Option<Place>) -> Option<Place>

@@ -4,11 +4,11 @@ ghost use Rattle.std.specs.Option.{option_map};
 ghost use Rattle.std.specs.List.{flat_map};
 ghost use Rattle.std.specs.Fn.{FnReturnsAt};
 ghost use Rattle.tm_syntax.specs.Faults.Marks.{Mark, first_mark};
-ghost use Rattle.tm_types.specs.declared.twice.mark.NameMark as coded;
-ghost use Rattle.tm_types.specs.ScopeNames.{mark_of};
+ghost use Rattle.tm_names.specs.declared.scopes.mark.NameMark as coded;
+ghost use Rattle.tm_names.specs.ScopeNames.{mark_of};
 
-use crate::twice::{NameMark, earlier_mark};
 use std::alloc::AllocError;
+use tm_names::{NameMark, earlier_mark};
 
 // The earlier of two faults at names: the first of what both are the first of.
 pub(crate) fn earlier_name<'n>(

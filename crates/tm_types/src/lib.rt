@@ -8,11 +8,7 @@ mod firsts;
 mod firsts_named;
 mod literals;
 mod mismatches;
-mod names;
-mod parts;
-mod sorts;
 mod stages;
-mod twice;
 mod unknown;
 
 pub use check::check_types;

@@ -22,7 +22,7 @@ use Rattle.tm_syntax.specs.Grammar.Parts.{Has, IsMark, IsName, IsNumber, below_l
 use Rattle.tm_syntax.specs.Grammar.Expressions.{IsExpr, expr_conditional, expr_binary, expr_shift, expr_unary, expr_number, expr_true, expr_false, expr_path, expr_element, expr_group, expr_cast}
 use Rattle.tm_syntax.specs.Grammar.Statements.{IsWholeExpr, IsType, type_bool, type_uint, type_name, IsPlace, place_path, place_element, AreArgs, IsValue, value_star, value_call, value_expr, IsCondition, condition, IsStmt, stmt_assign, stmt_call, stmt_if, stmt_while, stmt_forever, stmt_choice, stmt_assert, stmt_assume, stmt_pause, stmt_wait, stmt_magic, IsIf, if_alone, if_else, if_else_if, IsBlock, block, AreStmts, stmts_none, stmts_more, AreAlternatives, alternatives_one, alternatives_more, IsLocal, local, IsBody, body, IsReturn, return, IsBraced, braced, IsAnswering, answering}
 use Rattle.tm_syntax.specs.Grammar.Declarations.{IsLiteral, literal_number, literal_true, literal_false, literal_name, IsLength, size_of, IsInitial, initial, IsParam, param, IsInstance, instance, IsVar, variable, IsNamed, named, IsProcess, process_fair, process_lazy, IsTaskOf, task_of, IsTask, task_controllable, task_uncontrollable, procedure_typed, procedure_void}
-use Rattle.tm_syntax.specs.Grammar.Specification.{DeclTree, instance_of, variable_of, goal_of, fairness_of, process_of, task_of as task_in, IsDecl, decl_instance, decl_variable, decl_goal, decl_fair, decl_process, decl_task, IsPort, port, IsTemplate, template, IsEnum, enum, ItemTree, template_in, IsItem, item_enum, item_template, IsSpec, spec}
+use Rattle.tm_syntax.specs.Grammar.Specification.{DeclTree, instance_of, variable_of, goal_of, fairness_of, process_of, task_of as task_in, IsDecl, decl_instance, decl_variable, decl_goal, decl_fair, decl_process, decl_task, IsPort, port, IsTemplate, template, IsEnum, enum, ItemTree, enum_of, template_in, IsItem, item_enum, item_template, IsSpec, spec}
 use Rattle.tm_syntax.specs.Grammar.Faults.{IsWithin}
 use Rattle.tm_syntax.specs.Faults.{IsOfText}
 use Rattle.tm_syntax.proofs.TokenSpans.{tokens_stand}
@@ -74,9 +74,19 @@ pub record DeclWords (d : DeclTree) : Type 0 where
   pub processes : IfSome (process_of d) ProcessWords
   pub tasks : IfSome (task_in d) TaskWords
 
--- so are those of an item, if it is a template
-abbrev ItemWords : ItemTree → Type 0
-ItemWords i = IfSome (template_in i) TemplateWords
+-- so are the constants of an enum
+abbrev pub EnumWords : EnumTree → Type 0
+EnumWords e = AllByRecursion IsWord e.constants
+
+-- so are those of an item, whichever it is
+record ItemWords (i : ItemTree) : Type 0 where
+  template : IfSome (template_in i) TemplateWords
+  enum : IfSome (enum_of i) EnumWords
+
+-- so are those of a text
+record SpecWords (x : SpecTree) : Type 0 where
+  templates : AllByRecursion TemplateWords x.templates
+  enums : AllByRecursion EnumWords x.enums
 
 -- a number that is read is one of 64 bits
 limited : (n : ℕ) → unwrap_or (below_limit n) 0 < 2 ^ 64
@@ -378,27 +388,41 @@ module _ (text : List ℕ) (May : List Token → ℕ → Type 0) where
         has_left end all.1,
       )
 
-  enum_left : (e : EnumTree) (a b : List Token) → IsEnum text May 0 e a b → Stand text a → Stand text b
-  enum_left _ a b
+  enum_words : (e : EnumTree) (a b : List Token) → IsEnum text May 0 e a b → Stand text a → EnumWords e × Stand text b
+  enum_words _ a b
       (enum {name = name} {constants = cs} {d = p} {e = q} {f = r} {g = u} word sort left _ xs right n end) s =
       let all = parted_words IsWord _ (IsName text) name_words cs p q xs
       (has_left left (has_left sort (has_left word s))) in
-      has_left end (name_words name r u n (has_left right all.1)).1
+      (all.0, has_left end (name_words name r u n (has_left right all.1)).1)
 
   item_words : (i : ItemTree) (a b : List Token) → IsItem text May 0 i a b → Stand text a → ItemWords i × Stand text b
-  item_words _ a b (item_enum {d = e} {a = p} {b = q} h) s = (tt, enum_left e p q h s)
-  item_words _ a b (item_template {t = t} {a = p} {b = q} h) s = template_words 0 t p q h s
+  item_words _ a b (item_enum {d = e} {a = p} {b = q} h) s =
+      let found = enum_words e p q h s in (record { template = tt; enum = found.0 }, found.1)
+  item_words _ a b (item_template {t = t} {a = p} {b = q} h) s =
+      let found = template_words 0 t p q h s in (record { template = found.0; enum = tt }, found.1)
 
-  -- the templates of a text
-  spec_words : (x : SpecTree) (a b : List Token) → IsSpec text May x a b → Stand text a →
-      AllByRecursion TemplateWords x.templates
+  -- the templates and enums of a text
+  spec_words : (x : SpecTree) (a b : List Token) → IsSpec text May x a b → Stand text a → SpecWords x
   spec_words _ a b (spec {items = is} {last = i} {a = p} {b = q} {c = r} xs x) s =
       let front = each_words ItemWords (IsItem text May 0) item_words is p q xs s in
       let all = all_join ItemWords is (i ∷ []) front.0 ((item_words i q r x front.1).0, tt) in
-      filter_map_holds TemplateWords template_in (is ++ i ∷ []) (λ y j. holds_in ItemWords (is ++ i ∷ []) all j)
+      record {
+        templates = filter_map_holds TemplateWords template_in (is ++ i ∷ [])
+            (λ y j. (holds_in ItemWords (is ++ i ∷ []) all j).template);
+        enums = filter_map_holds EnumWords enum_of (is ++ i ∷ [])
+            (λ y j. (holds_in ItemWords (is ++ i ∷ []) all j).enum);
+      }
 
 -- the names that a text declares are words
-pub text_words : (x : SpecTree) → IsOfText x → AllByRecursion TemplateWords x.templates
-text_words x of =
+whole_words : (x : SpecTree) → IsOfText x → SpecWords x
+whole_words x of =
     spec_words of.text (IsWithin 0) x of.tokens [] of.is_tree
     (recursion_from_All (StandsIn of.text) of.tokens (tokens_stand of.text of.tokens of.are_tokens))
+
+-- those of its templates
+pub text_words : (x : SpecTree) → IsOfText x → AllByRecursion TemplateWords x.templates
+text_words x of = (whole_words x of).templates
+
+-- and its constants
+pub constant_words : (x : SpecTree) → IsOfText x → AllByRecursion EnumWords x.enums
+constant_words x of = (whole_words x of).enums

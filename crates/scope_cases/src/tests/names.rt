@@ -154,9 +154,14 @@ fn instances(alloc: Global) -> Result<Vec<Instance>, AllocError> {
 }
 
 /// The type of an expression in a body of `main`.
-fn type_in_main<'a>(scopes: &Scopes<'a>, body: BodyName, e: &Expr) -> Option<ExprType<'a>> {
+fn type_in_main<'s>(scopes: &'s Scopes, body: BodyName, e: &Expr) -> Option<ExprType<'s>> {
     let main = scopes.template_number(b"main")?;
     scopes.body_scope(main, body).own_type(e)
+}
+
+/// The number of the instance to which a path leads from the first one.
+fn number_from_main(scopes: &Scopes, table: &[Instance], along: &[Ident]) -> Option<u32> {
+    Sites::new(scopes, table).number_along(0, along)
 }
 
 #[test]
@@ -174,9 +179,6 @@ fn each_name_means_the_first_of_its_nearest_scope(rt: HostRuntime) -> Result<(),
     }
     let table = instances(alloc)?;
     let along = path(alloc, PATHS[3])?;
-    assert_eq!(rt;
-        Sites::new(&scopes, &table).number_along(0, &along.names),
-        Some(1)
-    );
+    assert_eq!(rt; number_from_main(&scopes, &table, &along.names), Some(1));
     Ok(())
 }

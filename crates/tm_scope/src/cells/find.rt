@@ -15,7 +15,7 @@ use std::alloc::AllocError;
 use tm_syntax::design::Instance;
 use tm_syntax::tree::Ident;
 
-impl<'c, 's, 'a> CellScope<'c, 's, 'a> {
+impl<'s> CellScope<'s> {
     /// The cell that a path means, with the index of an element where there is one: a parameter or local before a
     /// variable. Linear in the path. `text` is a buffer, in which the path of the variable is left. `AllocError` is want
     /// of memory.

@@ -19,16 +19,16 @@ use tm_syntax::tree::Ident;
 ///
 /// Contracts see the tables and the body.
 #[derive(Drop)]
-pub struct CellScope<'c, 's, 'a> {
-    pub(crate) cells: &'c Cells<'s, 'a>,
+pub struct CellScope<'s> {
+    pub(crate) cells: &'s Cells<'s>,
     pub(crate) at: SiteBody,
     pub(crate) node: &'s Instance,
-    pub(crate) names: BodyScope<'s, 'a>,
-    pub(crate) name: &'a [u8],
+    pub(crate) names: BodyScope<'s>,
+    pub(crate) name: &'s [u8],
     pub(crate) kept: bool,
 }
 
-impl<'c, 's, 'a> Model for CellScope<'c, 's, 'a> {
+impl<'s> Model for CellScope<'s> {
     ghost use Rattle.std.specs.Coded.{codes};
     ghost use Rattle.tm_syntax.specs.contracts.tree.Spec as spec_contract;
     ghost use Rattle.tm_syntax.specs.contracts.design.Instance as instance_contract;
@@ -52,7 +52,7 @@ impl<'c, 's, 'a> Model for CellScope<'c, 's, 'a> {
     ) };
 }
 
-impl<'c, 's, 'a> CellScope<'c, 's, 'a> {
+impl<'s> CellScope<'s> {
     /// The parameter or local that a path of one name means.
     pub fn slot_of(&self, path: &[Ident]) -> Option<SlotNumber>
         ensures slot { (d : DesignTree) → HasCells self.now.tables d →

@@ -23,17 +23,17 @@ use tm_syntax::tree::Spec;
 ///
 /// Contracts see the specification, the instances and the variables.
 #[derive(Drop)]
-pub struct Cells<'s, 'a> {
-    spec: &'a Spec,
+pub struct Cells<'s> {
+    spec: &'s Spec,
     instances: &'s [Instance],
     vars: &'s [Var],
-    scopes: &'s Scopes<'a>,
-    sites: Sites<'s, 'a>,
+    scopes: &'s Scopes<'s>,
+    sites: Sites<'s>,
     variables: Variables<'s>,
     pausing: &'s TaskSet,
 }
 
-impl<'s, 'a> Model for Cells<'s, 'a> {
+impl<'s> Model for Cells<'s> {
     ghost use Rattle.std.specs.Coded.{codes};
     ghost use Rattle.tm_syntax.specs.contracts.tree.Spec as spec_contract;
     ghost use Rattle.tm_syntax.specs.contracts.design.Instance as instance_contract;
@@ -57,17 +57,17 @@ impl<'s, 'a> Model for Cells<'s, 'a> {
     ) };
 }
 
-impl<'s, 'a> Cells<'s, 'a> {
+impl<'s> Cells<'s> {
     /// The tables over a specification, instances of its templates and state variables, in time linear in the paths of
     /// these. `pausing` are the tasks of the text that may pause. `AllocError` is want of memory.
     pub fn new(
         alloc: Global,
-        spec: &'a Spec,
-        scopes: &'s Scopes<'a>,
+        spec: &'s Spec,
+        scopes: &'s Scopes<'s>,
         instances: &'s [Instance],
         vars: &'s [Var],
         pausing: &'s TaskSet,
-    ) -> Result<Cells<'s, 'a>, AllocError>
+    ) -> Result<Cells<'s>, AllocError>
         requires text { scopes.now ≡ spec.now }
         requires pausing { ArePausing (spec_tree spec.now) pausing.now }
         ensures { IfOk result (λ x. x ≡ record { spec = spec.now; instances = instances.now; vars = vars.now }) }
@@ -85,7 +85,7 @@ impl<'s, 'a> Cells<'s, 'a> {
 
     /// A body of an instance, or what stands outside of the bodies of its template, in constant time. There is none
     /// exactly where the design has no such instance, or the instance no template.
-    pub fn scope(&self, at: SiteBody) -> Option<CellScope<'_, 's, 'a>>
+    pub fn scope(&self, at: SiteBody) -> Option<CellScope<'_>>
         ensures { (d : DesignTree) → HasCells self.now d →
             result ≡ option_map (λ _. record { tables = self.now; at = at }) (site d at.instance) }
     {
@@ -123,21 +123,21 @@ impl<'s, 'a> Cells<'s, 'a> {
     }
 
     // The specification.
-    pub(crate) fn spec(&self) -> &'a Spec
+    pub(crate) fn spec(&self) -> &'s Spec
         ensures { result.now ≡ self.now.spec }
     {
         self.spec
     }
 
     // The tables of the specification.
-    pub(crate) fn scopes(&self) -> &'s Scopes<'a>
+    pub(crate) fn scopes(&self) -> &'s Scopes<'s>
         ensures { result.now ≡ self.now.spec }
     {
         self.scopes
     }
 
     // The sites of the instances.
-    pub(crate) fn sites(&self) -> &Sites<'s, 'a>
+    pub(crate) fn sites(&self) -> &Sites<'s>
         ensures { result.now ≡ record { spec = self.now.spec; instances = self.now.instances } }
     {
         &self.sites

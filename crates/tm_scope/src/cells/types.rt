@@ -41,10 +41,10 @@ impl<'a> ExprType<'a> {
     }
 }
 
-impl<'c, 's, 'a> CellScope<'c, 's, 'a> {
+impl<'s> CellScope<'s> {
     /// An expression's own type: a number has none, nor has what joins numbers alone. Linear in the expression, and as
     /// deep as it nests.
-    pub fn own_type(&self, e: &Expr) -> Option<ExprType<'a>>
+    pub fn own_type(&self, e: &Expr) -> Option<ExprType<'s>>
         ensures { (d : DesignTree) → HasCells self.now.tables d →
             option_map ty_of result ≡ type_in d (scope_of self.now.at) (expr_tree e.now) }
     {
@@ -52,7 +52,7 @@ impl<'c, 's, 'a> CellScope<'c, 's, 'a> {
     }
 
     /// The type of what a path means: a parameter or local before a variable, or an array's elements.
-    pub fn named_type(&self, path: &[Ident]) -> Option<ExprType<'a>>
+    pub fn named_type(&self, path: &[Ident]) -> Option<ExprType<'s>>
         ensures { (d : DesignTree) → HasCells self.now.tables d →
             option_map ty_of result
             ≡ option_and_then (λ c. named_type c path.now) (context d (scope_of self.now.at)) }
@@ -84,7 +84,7 @@ impl<'c, 's, 'a> CellScope<'c, 's, 'a> {
     }
 
     // The type of the parameter or local of a number.
-    fn slot_type(&self, slot: SlotNumber) -> Option<ExprType<'a>>
+    fn slot_type(&self, slot: SlotNumber) -> Option<ExprType<'s>>
         ensures { option_map ty_of result
             ≡ option_map (λ s. s.ty) (slot_in self.now.tables self.now.at slot) }
     {

@@ -22,15 +22,15 @@ use tm_syntax::tree::{Expr, Ident, UnaryOperator, VarDef};
 ///
 /// Contracts see the specification, the template and the body.
 #[derive(Drop)]
-pub struct BodyScope<'s, 'a> {
-    scopes: &'s Scopes<'a>,
+pub struct BodyScope<'s> {
+    scopes: &'s Scopes<'s>,
     number: usize,
-    template: &'s TemplateScope<'a>,
+    template: &'s TemplateScope<'s>,
     body: BodyName,
-    names: Option<&'s BodyNames<'a>>,
+    names: Option<&'s BodyNames<'s>>,
 }
 
-impl<'s, 'a> Model for BodyScope<'s, 'a> {
+impl<'s> Model for BodyScope<'s> {
     ghost use Rattle.std.specs.Coded.{codes};
     ghost use Rattle.tm_syntax.specs.contracts.tree.Spec as spec_contract;
     ghost use Rattle.tm_syntax.specs.contracts.tree.Template as template_contract;
@@ -48,7 +48,7 @@ impl<'s, 'a> Model for BodyScope<'s, 'a> {
 
 impl<'a> Scopes<'a> {
     /// A body of the template of a number, or what stands outside of its bodies.
-    pub fn body_scope<'s>(&'s self, template: usize, body: BodyName) -> BodyScope<'s, 'a>
+    pub fn body_scope(&self, template: usize, body: BodyName) -> BodyScope<'_>
         requires { template < length self.now.templates.items }
         ensures spec { result.spec ≡ self.now }
         ensures template { slice_get self.now.templates.items template ≡ Some result.template }
@@ -65,7 +65,7 @@ impl<'a> Scopes<'a> {
     }
 }
 
-impl<'s, 'a> BodyScope<'s, 'a> {
+impl<'s> BodyScope<'s> {
     /// The parameter or local that a path of one name means.
     pub fn slot_of(&self, path: &[Ident]) -> Option<SlotNumber>
         ensures { option_and_then (slot_at self.now) result ≡ slot_of (context_of self.now) path.now }
@@ -77,7 +77,7 @@ impl<'s, 'a> BodyScope<'s, 'a> {
     }
 
     /// The variable or array that a path means, of the template in which it ends.
-    pub fn variable_of(&self, path: &[Ident]) -> Option<&'a VarDef>
+    pub fn variable_of(&self, path: &[Ident]) -> Option<&'s VarDef>
         ensures { option_map var_tree (option_copied result) ≡ variable_of (context_of self.now) path.now }
     {
         self.scopes
@@ -86,7 +86,7 @@ impl<'s, 'a> BodyScope<'s, 'a> {
     }
 
     // The type of a parameter or local that a path of one name means.
-    fn slot_type(&self, path: &[Ident]) -> Option<ExprType<'a>>
+    fn slot_type(&self, path: &[Ident]) -> Option<ExprType<'s>>
         ensures { option_map ty_of result
             ≡ option_map (λ s. s.ty) (slot_of (context_of self.now) path.now) }
     {
@@ -95,7 +95,7 @@ impl<'s, 'a> BodyScope<'s, 'a> {
     }
 
     /// The type of what a path means: a parameter or local before a variable, or an array's elements.
-    pub fn named_type(&self, path: &[Ident]) -> Option<ExprType<'a>>
+    pub fn named_type(&self, path: &[Ident]) -> Option<ExprType<'s>>
         ensures { option_map ty_of result ≡ named_type (context_of self.now) path.now }
     {
         match self.slot_type(path) {
@@ -105,7 +105,7 @@ impl<'s, 'a> BodyScope<'s, 'a> {
     }
 
     /// The type of the enum constant that a path of one name is.
-    pub fn constant_type(&self, path: &[Ident]) -> Option<ExprType<'a>>
+    pub fn constant_type(&self, path: &[Ident]) -> Option<ExprType<'s>>
         ensures { option_map ty_of result ≡ constant_type (spec_tree self.now.spec) path.now }
     {
         let [name] = path else {
@@ -117,7 +117,7 @@ impl<'s, 'a> BodyScope<'s, 'a> {
 
     /// An expression's own type: a number has none, nor has what joins numbers alone. Linear in the expression, and as
     /// deep as it nests.
-    pub fn own_type(&self, e: &Expr) -> Option<ExprType<'a>>
+    pub fn own_type(&self, e: &Expr) -> Option<ExprType<'s>>
         ensures { option_map ty_of result ≡ own_type (context_of self.now) (expr_tree e.now) }
     {
         match e {
@@ -142,7 +142,7 @@ impl<'s, 'a> BodyScope<'s, 'a> {
     }
 
     // The type of a path that stands as an expression.
-    fn path_type(&self, path: &[Ident]) -> Option<ExprType<'a>>
+    fn path_type(&self, path: &[Ident]) -> Option<ExprType<'s>>
         ensures { option_map ty_of result
             ≡ either_type (named_type (context_of self.now) path.now)
             (constant_type (spec_tree self.now.spec) path.now) }

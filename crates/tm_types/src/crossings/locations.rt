@@ -20,9 +20,9 @@ ghost use Rattle.tm_types.specs.Firsts.{first_of};
 ghost use Rattle.tm_types.specs.Inner.Crossings.{body_locations, locations_of, pausing_local, task_locations_by};
 
 use crate::firsts::{earlier_place, first_in, place_unless, try_first_in};
-use crate::parts::all_stmts;
 use std::alloc::{AllocError, Global};
 use tm_base::Place;
+use tm_names::all_stmts;
 use tm_scope::{CallMarks, Scopes, TaskSet};
 use tm_syntax::tree::{
     Body, Ident, LocalDef, Spec, Stmt, TaskDef, TaskKind, Template, TypeName, Value,

@@ -12,9 +12,9 @@ ghost use Rattle.tm_types.specs.Firsts.{first_of};
 ghost use Rattle.tm_types.specs.Inner.Crossings.{body_loops, in_bodies, loops_of};
 
 use crate::firsts::{earlier_place, first_in, place_unless, try_first_in};
-use crate::parts::all_stmts;
 use std::alloc::{AllocError, Global};
 use tm_base::Place;
+use tm_names::all_stmts;
 use tm_scope::{CallMarks, Scopes, TaskSet, row_crosses};
 use tm_syntax::tree::{Body, ProcessDef, Spec, Stmt, TaskDef, Template};
 

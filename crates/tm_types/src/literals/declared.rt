@@ -14,14 +14,14 @@ ghost use Rattle.tm_syntax.specs.Faults.Literals.{
 ghost use Rattle.tm_syntax.specs.Scopes.Names.{type_of};
 ghost use Rattle.tm_syntax.specs.Scopes.Parts.{template_types};
 ghost use Rattle.tm_scope.specs.Types.{ty_of};
-ghost use Rattle.tm_types.specs.Parts.{listed_types};
+ghost use Rattle.tm_names.specs.Parts.{listed_types};
 ghost use Rattle.tm_types.specs.Firsts.{first_of};
 
 use crate::firsts::{earlier_place, first_in, place_unless};
 use crate::literals::fits::{GREATEST_LENGTH, GREATEST_WIDTH, is_from_to, number_fits};
-use crate::parts::template_types;
 use std::alloc::{AllocError, Global};
 use tm_base::Place;
+use tm_names::template_types;
 use tm_scope::ExprType;
 use tm_syntax::tree::{Expr, Num, Template, TypeName, VarDef};
 

@@ -27,7 +27,7 @@ fn valued_in<'a>(asked: ExprType<'a>, own: Option<ExprType<'a>>) -> ExprType<'a>
 }
 
 // The type in which two expressions that are joined are valued.
-fn joint<'a>(scope: &BodyScope<'_, 'a>, asked: ExprType<'a>, a: &Expr, b: &Expr) -> ExprType<'a>
+fn joint<'a>(scope: &BodyScope<'a>, asked: ExprType<'a>, a: &Expr, b: &Expr) -> ExprType<'a>
     ensures { ty_of result ≡ joint (context_of scope.now) (ty_of asked.entry) (expr_tree a.now) (expr_tree b.now) }
 {
     match scope.own_type(a) {
@@ -38,7 +38,7 @@ fn joint<'a>(scope: &BodyScope<'_, 'a>, asked: ExprType<'a>, a: &Expr, b: &Expr)
 
 // The type that an operator asks its operands for.
 fn operand_asked<'a>(
-    scope: &BodyScope<'_, 'a>,
+    scope: &BodyScope<'a>,
     op: BinaryOperator,
     asked: ExprType<'a>,
     a: &Expr,
@@ -80,7 +80,7 @@ pub(crate) fn index_numbers(
 // The first number within an expression that does not fit, where it is valued in its own type or else in the one that
 // is asked for. As deep as the expression nests, and looks at each part as often as it stands within another one.
 pub(crate) fn expr_numbers<'a>(
-    scope: &BodyScope<'_, 'a>,
+    scope: &BodyScope<'a>,
     asked: ExprType<'a>,
     e: &Expr,
 ) -> Option<Place>

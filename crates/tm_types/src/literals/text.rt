@@ -5,8 +5,8 @@ ghost use Rattle.tm_syntax.specs.Tree.View.{named_tree, spec_tree, template_tree
 ghost use Rattle.tm_syntax.specs.Scopes.Parts as text;
 ghost use Rattle.tm_syntax.specs.Faults.Literals.{asked_numbers, misfit_numbers};
 ghost use Rattle.tm_scope.specs.Context.{context_of};
-ghost use Rattle.tm_types.specs.Asked.{asked_of};
-ghost use Rattle.tm_types.specs.Bodies.{body_at};
+ghost use Rattle.tm_names.specs.Asked.{asked_of};
+ghost use Rattle.tm_names.specs.Bodies.{body_at};
 ghost use Rattle.tm_types.specs.Firsts.{first_of};
 ghost use Rattle.tm_types.specs.Inner.Numbers.{
   asked_numbers_in,
@@ -19,10 +19,9 @@ ghost use Rattle.tm_types.specs.Inner.Numbers.{
 use crate::firsts::{earlier_place, first_in, try_first_in};
 use crate::literals::declared::declared_numbers;
 use crate::literals::exprs::{expr_numbers, index_numbers};
-use crate::names::TextNames;
-use crate::parts::{Asked, BodyPart, ExprPart, Site, body_exprs, template_bodies};
 use std::alloc::{AllocError, Global};
 use tm_base::Place;
+use tm_names::{Asked, BodyPart, ExprPart, Site, TextNames, body_exprs, template_bodies};
 use tm_scope::{BodyName, ExprType};
 use tm_syntax::tree::{Named, Spec, Template};
 
@@ -60,8 +59,8 @@ fn conditions_numbers(site: &Site, conditions: &[Named]) -> Option<Place>
 }
 
 // The first one of the goals and fairness conditions of the template of a number.
-fn outside_numbers<'s>(
-    names: &'s TextNames<'s, '_>,
+fn outside_numbers<'a>(
+    names: &'a TextNames<'a>,
     number: usize,
     template: &Template,
 ) -> Option<Place>
@@ -75,9 +74,9 @@ fn outside_numbers<'s>(
 }
 
 // The first one in the bodies of the template of a number.
-fn bodies_numbers<'s, 'a>(
+fn bodies_numbers<'a>(
     alloc: Global,
-    names: &'s TextNames<'s, 'a>,
+    names: &'a TextNames<'a>,
     number: usize,
     template: &'a Template,
 ) -> Result<Option<Place>, AllocError>
@@ -90,9 +89,9 @@ fn bodies_numbers<'s, 'a>(
 }
 
 // The first one in the expressions of the template of a number.
-fn template_numbers<'s, 'a>(
+fn template_numbers<'a>(
     alloc: Global,
-    names: &'s TextNames<'s, 'a>,
+    names: &'a TextNames<'a>,
     number: usize,
     template: &'a Template,
 ) -> Result<Option<Place>, AllocError>
@@ -114,9 +113,9 @@ fn templates_declared(alloc: Global, templates: &[Template]) -> Result<Option<Pl
 }
 
 // The first one in the expressions of templates.
-fn templates_exprs<'s, 'a>(
+fn templates_exprs<'a>(
     alloc: Global,
-    names: &'s TextNames<'s, 'a>,
+    names: &'a TextNames<'a>,
     templates: &'a [Template],
 ) -> Result<Option<Place>, AllocError>
     requires { templates.now ≡ names.now.templates.items }
@@ -131,9 +130,9 @@ fn templates_exprs<'s, 'a>(
 }
 
 /// The first number of a text that does not fit its type or its place. `AllocError` is want of memory.
-pub(crate) fn first_misfit<'s, 'a>(
+pub(crate) fn first_misfit<'a>(
     alloc: Global,
-    names: &'s TextNames<'s, 'a>,
+    names: &'a TextNames<'a>,
     spec: &'a Spec,
 ) -> Result<Option<Place>, AllocError>
     requires { names.now ≡ spec.now }

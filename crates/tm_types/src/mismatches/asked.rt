@@ -9,7 +9,7 @@ ghost use Rattle.tm_syntax.specs.Scopes.Types.{own_type};
 ghost use Rattle.tm_syntax.specs.Faults.Operands.{expr_faults, expr_place, value_faults};
 ghost use Rattle.tm_scope.specs.Context.{context_of};
 ghost use Rattle.tm_scope.specs.Types.{ty_of};
-ghost use Rattle.tm_types.specs.Asked.{asked_of, part_tree};
+ghost use Rattle.tm_names.specs.Asked.{asked_of, part_tree};
 ghost use Rattle.tm_types.specs.Firsts.{first_of};
 ghost use Rattle.tm_types.specs.Findings.{IsOperand};
 ghost use Rattle.tm_types.specs.Inner.ExprFaults.{asked_faults, condition_faults};
@@ -17,8 +17,8 @@ ghost use Rattle.tm_types.specs.Inner.ExprFaults.{asked_faults, condition_faults
 use crate::firsts::first_in;
 use crate::mismatches::exprs::{element_operand, expr_place, path_place, whole_operand};
 use crate::mismatches::operators::{Operand, judged};
-use crate::parts::{Asked, ExprPart, Site};
 use tm_base::Place;
+use tm_names::{Asked, ExprPart, Site};
 use tm_scope::ExprType;
 use tm_syntax::tree::Named;
 
@@ -44,7 +44,7 @@ fn part_place(part: ExprPart) -> Place
 }
 
 // What is found of an expression of a text.
-fn part_operand<'a>(at: &Site<'_, 'a>, part: ExprPart<'a>) -> Operand<'a>
+fn part_operand<'a>(at: &Site<'a>, part: ExprPart<'a>) -> Operand<'a>
     ensures { IsOperand result (expr_faults (context_of at.now) (part_tree part.entry))
         (own_type (context_of at.now) (part_tree part.entry)) }
 {
@@ -55,7 +55,7 @@ fn part_operand<'a>(at: &Site<'_, 'a>, part: ExprPart<'a>) -> Operand<'a>
 }
 
 /// The first fault within an expression of a text, or of it as a value of the type that its place asks for.
-pub(crate) fn asked_faults<'a>(at: &Site<'_, 'a>, asked: &Asked<'a>) -> Option<Place>
+pub(crate) fn asked_faults<'a>(at: &Site<'a>, asked: &Asked<'a>) -> Option<Place>
     ensures { result ≡ first_of (asked_faults (context_of at.now) (asked_of asked.now)) }
 {
     value_faults(
@@ -66,7 +66,7 @@ pub(crate) fn asked_faults<'a>(at: &Site<'_, 'a>, asked: &Asked<'a>) -> Option<P
 }
 
 // The first fault of a goal or fairness condition.
-fn condition_faults<'a>(at: &Site<'_, 'a>, condition: &'a Named) -> Option<Place>
+fn condition_faults<'a>(at: &Site<'a>, condition: &'a Named) -> Option<Place>
     ensures { result ≡ first_of (condition_faults (context_of at.now) (named_tree condition.now)) }
 {
     let asked = Asked {
@@ -77,7 +77,7 @@ fn condition_faults<'a>(at: &Site<'_, 'a>, condition: &'a Named) -> Option<Place
 }
 
 /// The first fault of some goals or fairness conditions.
-pub(crate) fn conditions_faults<'a>(at: &Site<'_, 'a>, conditions: &'a [Named]) -> Option<Place>
+pub(crate) fn conditions_faults<'a>(at: &Site<'a>, conditions: &'a [Named]) -> Option<Place>
     ensures { result
         ≡ first_of (flat_map (condition_faults (context_of at.now)) (map named_tree conditions.now)) }
 {

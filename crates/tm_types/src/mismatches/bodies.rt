@@ -7,23 +7,23 @@ ghost use Rattle.tm_syntax.specs.Tree.View.{expr_tree, local_tree, stmt_tree, st
 ghost use Rattle.tm_syntax.specs.Scopes.Parts.{all_stmts};
 ghost use Rattle.tm_syntax.specs.Faults.Mismatches.{body_faults};
 ghost use Rattle.tm_scope.specs.Context.{context_of};
-ghost use Rattle.tm_types.specs.Bodies.{body_at};
+ghost use Rattle.tm_names.specs.Bodies.{body_at};
 ghost use Rattle.tm_types.specs.Firsts.{first_of};
-ghost use Rattle.tm_types.specs.Inner.LocalStmts.{declaration};
+ghost use Rattle.tm_names.specs.LocalStmts.{declaration};
 ghost use Rattle.tm_types.specs.Inner.StmtFaults.{stmt_faults};
 
 use crate::firsts::{earlier_place, first_in};
 use crate::mismatches::calls::{call_faults, value_call_faults};
 use crate::mismatches::exprs::wrong_path;
 use crate::mismatches::wanted::Wanted;
-use crate::parts::{BodyPart, Site, all_stmts};
 use std::alloc::{AllocError, Global};
 use std::slice;
 use tm_base::Place;
+use tm_names::{BodyPart, Site, all_stmts};
 use tm_syntax::tree::{Expr, Ident, LocalDef, Stmt, Value};
 
 // The first fault of the target and the call of an assignment to a name that stands without an index.
-fn bare_faults<'a>(at: &Site<'_, 'a>, path: &'a [Ident], value: &'a Value) -> Option<Place>
+fn bare_faults<'a>(at: &Site<'a>, path: &'a [Ident], value: &'a Value) -> Option<Place>
     ensures { result ≡ first_of
         (stmt_faults (context_of at.now) (tree.assign path.now None (value_tree value.now))) }
 {
@@ -36,7 +36,7 @@ fn bare_faults<'a>(at: &Site<'_, 'a>, path: &'a [Ident], value: &'a Value) -> Op
 
 // The first fault of the target and the call of an assignment.
 fn assign_faults<'a>(
-    at: &Site<'_, 'a>,
+    at: &Site<'a>,
     path: &'a [Ident],
     index: &Option<Expr>,
     value: &'a Value,
@@ -52,7 +52,7 @@ fn assign_faults<'a>(
 
 // The first fault of the target and the call that stand in a statement itself, apart from the statements within it.
 #[tactic(auto, using(tm_syntax::proofs::Views::views))]
-fn stmt_faults<'a>(at: &Site<'_, 'a>, stmt: &'a Stmt) -> Option<Place>
+fn stmt_faults<'a>(at: &Site<'a>, stmt: &'a Stmt) -> Option<Place>
     ensures { result ≡ first_of (stmt_faults (context_of at.now) (stmt_tree stmt.now)) }
 {
     match stmt {
@@ -73,14 +73,14 @@ fn stmt_faults<'a>(at: &Site<'_, 'a>, stmt: &'a Stmt) -> Option<Place>
 }
 
 // The first fault of a local's declaration.
-fn local_faults<'a>(at: &Site<'_, 'a>, local: &'a LocalDef) -> Option<Place>
+fn local_faults<'a>(at: &Site<'a>, local: &'a LocalDef) -> Option<Place>
     ensures { result ≡ first_of (stmt_faults (context_of at.now) (declaration (local_tree local.now))) }
 {
     bare_faults(at, slice::from_ref(&local.name), &local.value)
 }
 
 // The first fault of the declarations of locals.
-fn locals_faults<'a>(at: &Site<'_, 'a>, locals: &'a [LocalDef]) -> Option<Place>
+fn locals_faults<'a>(at: &Site<'a>, locals: &'a [LocalDef]) -> Option<Place>
     ensures { result ≡ first_of (flat_map
         (λ l. stmt_faults (context_of at.now) (declaration l)) (map local_tree locals.now)) }
 {
@@ -90,7 +90,7 @@ fn locals_faults<'a>(at: &Site<'_, 'a>, locals: &'a [LocalDef]) -> Option<Place>
 // The first fault of some statements, with those within them.
 fn stmts_faults<'a>(
     alloc: Global,
-    at: &Site<'_, 'a>,
+    at: &Site<'a>,
     stmts: &'a [Stmt],
 ) -> Result<Option<Place>, AllocError>
     ensures { IfOk result (λ first. first

@@ -13,8 +13,8 @@ use crate::firsts::{earlier_place, place_unless};
 use crate::mismatches::exprs::{path_place, wrong_path};
 use crate::mismatches::findings::same_type;
 use crate::mismatches::wanted::Wanted;
-use crate::parts::Site;
 use tm_base::Place;
+use tm_names::Site;
 use tm_scope::ExprType;
 use tm_syntax::tree::{Expr, Ident, TaskDef, TaskKind, Value};
 
@@ -40,11 +40,7 @@ fn count_faults(task: Option<&TaskDef>, path: &[Ident], count: usize) -> Option<
 }
 
 /// The first fault of a call: its path is that of a task or procedure, which text may call with so many arguments.
-pub(crate) fn call_faults<'a>(
-    at: &Site<'_, 'a>,
-    path: &'a [Ident],
-    args: &'a [Expr],
-) -> Option<Place>
+pub(crate) fn call_faults<'a>(at: &Site<'a>, path: &'a [Ident], args: &'a [Expr]) -> Option<Place>
     ensures { result ≡ first_of (text.call_faults (context_of at.now) path.now (expr_trees args.now)) }
 {
     let of_path = wrong_path(at, Wanted::Call, path);
@@ -88,7 +84,7 @@ fn result_faults(asked: Option<ExprType>, path: &[Ident], task: Option<&TaskDef>
 
 // The first fault of a call that stands as a value, for which a type is asked.
 fn valued_call_faults<'a>(
-    at: &Site<'_, 'a>,
+    at: &Site<'a>,
     asked: Option<ExprType<'a>>,
     path: &'a [Ident],
     args: &'a [Expr],
@@ -102,7 +98,7 @@ fn valued_call_faults<'a>(
 
 /// The first fault of the call that a value is, for which a type is asked.
 pub(crate) fn value_call_faults<'a>(
-    at: &Site<'_, 'a>,
+    at: &Site<'a>,
     asked: Option<ExprType<'a>>,
     value: &'a Value,
 ) -> Option<Place>

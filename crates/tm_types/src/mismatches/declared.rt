@@ -9,15 +9,14 @@ ghost use Rattle.tm_syntax.specs.Faults.Mismatches as text;
 ghost use Rattle.tm_scope.specs.Context.{context_of};
 ghost use Rattle.tm_scope.specs.Types.{ty_of};
 ghost use Rattle.tm_types.specs.Firsts.{first_of};
-ghost use Rattle.tm_types.specs.Parts.{listed_types};
+ghost use Rattle.tm_names.specs.Parts.{listed_types};
 
 use crate::firsts::{first_in, place_unless};
 use crate::mismatches::exprs::expr_place;
 use crate::mismatches::findings::{is_uint, same_type};
 use crate::mismatches::wanted::{Wanted, misnamed};
-use crate::names::TextNames;
-use crate::parts::Site;
 use tm_base::Place;
+use tm_names::{Site, TextNames};
 use tm_scope::ExprType;
 use tm_syntax::tree::{Expr, Ident, TaskDef, TaskKind, TypeName, VarDef};
 

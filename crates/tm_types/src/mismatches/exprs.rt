@@ -12,7 +12,7 @@ ghost use Rattle.tm_types.specs.Firsts.{first_of};
 ghost use Rattle.tm_types.specs.Findings.{IsOperand, finding_of};
 ghost use Rattle.tm_types.specs.Wanted.{suits};
 ghost use Rattle.tm_types.specs.Inner.Indices.{is_number};
-ghost use Rattle.tm_types.specs.Inner.Sites.{is_in_body};
+ghost use Rattle.tm_names.specs.Sites.{is_in_body};
 
 use crate::firsts::earlier_place;
 use crate::mismatches::findings::Finding;
@@ -20,8 +20,8 @@ use crate::mismatches::operators::{
     Operand, binary_faults, cast_faults, conditional_faults, judged, shift_faults, unary_faults,
 };
 use crate::mismatches::wanted::{Wanted, wrong_sort};
-use crate::parts::Site;
 use tm_base::Place;
+use tm_names::Site;
 use tm_syntax::tree::{Expr, Ident, Path};
 
 /// The place of the first name of a path.
@@ -53,7 +53,7 @@ pub(crate) fn expr_place(e: &Expr) -> Place
 }
 
 // What is found of an expression, given the first fault within it.
-fn operand<'a>(at: &Site<'_, 'a>, e: &Expr, first: Option<Place>) -> Operand<'a>
+fn operand<'a>(at: &Site<'a>, e: &Expr, first: Option<Place>) -> Operand<'a>
     ensures { (faults : List stands.Place) → first ≡ first_of faults
         → IsOperand result faults (own_type (context_of at.now) (expr_tree e.now)) }
 {
@@ -62,7 +62,7 @@ fn operand<'a>(at: &Site<'_, 'a>, e: &Expr, first: Option<Place>) -> Operand<'a>
 }
 
 /// The name at which a path is not what is wanted.
-pub(crate) fn wrong_path<'a>(at: &Site<'_, 'a>, wanted: Wanted, path: &'a [Ident]) -> Option<Place>
+pub(crate) fn wrong_path<'a>(at: &Site<'a>, wanted: Wanted, path: &'a [Ident]) -> Option<Place>
     ensures { result ≡ first_of (text.wrong_sort (suits wanted) (meaning (context_of at.now) path.now)) }
 {
     wrong_sort(wanted, at.meaning(path))
@@ -105,7 +105,7 @@ fn index_faults(at: &Site, index: &Expr, x: Operand) -> Option<Place>
 
 // The first fault of an element of an array, given the first one within its index.
 fn element_faults<'a>(
-    at: &Site<'_, 'a>,
+    at: &Site<'a>,
     path: &'a Path,
     index: &Expr,
     within: Option<Place>,
@@ -120,7 +120,7 @@ fn element_faults<'a>(
 
 // The first fault within an expression. As deep as the expression nests, which the limit on depth bounds by 128; looks
 // at each part as often as it stands within another one.
-fn expr_faults<'a>(at: &Site<'_, 'a>, e: &'a Expr) -> Option<Place>
+fn expr_faults<'a>(at: &Site<'a>, e: &'a Expr) -> Option<Place>
     ensures { result ≡ first_of (text.expr_faults (context_of at.now) (expr_tree e.now)) }
 {
     match e {
@@ -145,7 +145,7 @@ fn expr_faults<'a>(at: &Site<'_, 'a>, e: &'a Expr) -> Option<Place>
 }
 
 /// What is found of an expression. Near linear in it.
-pub(crate) fn whole_operand<'a>(at: &Site<'_, 'a>, e: &'a Expr) -> Operand<'a>
+pub(crate) fn whole_operand<'a>(at: &Site<'a>, e: &'a Expr) -> Operand<'a>
     ensures { IsOperand result (text.expr_faults (context_of at.now) (expr_tree e.now))
         (own_type (context_of at.now) (expr_tree e.now)) }
 {
@@ -153,7 +153,7 @@ pub(crate) fn whole_operand<'a>(at: &Site<'_, 'a>, e: &'a Expr) -> Operand<'a>
 }
 
 /// What is found of an element of an array that is assigned.
-pub(crate) fn element_operand<'a>(at: &Site<'_, 'a>, path: &'a Path, index: &'a Expr) -> Operand<'a>
+pub(crate) fn element_operand<'a>(at: &Site<'a>, path: &'a Path, index: &'a Expr) -> Operand<'a>
     ensures { IsOperand result
         (text.expr_faults (context_of at.now) (tree.element path.now.names.items (expr_tree index.now)))
         (own_type (context_of at.now) (tree.element path.now.names.items (expr_tree index.now))) }

@@ -11,9 +11,9 @@ ghost use Rattle.tm_types.specs.Inner.ExprFaults.{main_faults};
 use crate::firsts::{earlier_place, place_unless};
 use crate::mismatches::declared::{tasks_faults, types_faults, vars_faults};
 use crate::mismatches::instances::{instances_faults, ports_faults};
-use crate::parts::{Site, template_types};
 use std::alloc::{AllocError, Global};
 use tm_base::Place;
+use tm_names::{Site, template_types};
 use tm_syntax::tree::Template;
 
 // The name of the template that stands for the whole.

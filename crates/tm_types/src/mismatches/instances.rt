@@ -8,14 +8,12 @@ ghost use Rattle.tm_syntax.specs.Scopes.Declared.{template_in, text_sort};
 ghost use Rattle.tm_syntax.specs.Faults.Mismatches as text;
 ghost use Rattle.tm_scope.specs.Context.{context_of};
 ghost use Rattle.tm_types.specs.Firsts.{first_of};
-ghost use Rattle.tm_types.specs.Sorts.{sort_of};
+ghost use Rattle.tm_names.specs.Sorts.{sort_of};
 
 use crate::firsts::{earlier_place, first_in, place_unless};
 use crate::mismatches::wanted::{Wanted, misnamed};
-use crate::names::TextNames;
-use crate::parts::Site;
-use crate::sorts::Sort;
 use tm_base::Place;
+use tm_names::{Site, Sort, TextNames};
 use tm_syntax::tree::{Ident, InstanceDef, Port, Template};
 
 // The place of the name of a port's template that is none.

@@ -4,7 +4,7 @@ ghost use Rattle.std.specs.List.{flat_map};
 ghost use Rattle.tm_syntax.specs.Tree.View.{spec_tree, template_tree};
 ghost use Rattle.tm_syntax.specs.Scopes.Parts as text;
 ghost use Rattle.tm_syntax.specs.Faults.Mismatches.{asked_faults, body_faults, mismatches, template_faults};
-ghost use Rattle.tm_types.specs.Bodies.{body_at};
+ghost use Rattle.tm_names.specs.Bodies.{body_at};
 ghost use Rattle.tm_types.specs.Firsts.{first_of};
 ghost use Rattle.tm_types.specs.Inner.ExprFaults.{exprs_faults, outside_faults};
 
@@ -12,17 +12,16 @@ use crate::firsts::{earlier_place, first_in, try_first_in};
 use crate::mismatches::asked::{asked_faults, conditions_faults};
 use crate::mismatches::bodies::body_faults;
 use crate::mismatches::heads::template_faults;
-use crate::names::TextNames;
-use crate::parts::{BodyPart, Site, body_exprs, template_bodies};
 use std::alloc::{AllocError, Global};
 use tm_base::Place;
+use tm_names::{BodyPart, Site, TextNames, body_exprs, template_bodies};
 use tm_scope::BodyName;
 use tm_syntax::tree::{Spec, Template};
 
 // The first fault in the declarations of the template of a number.
-fn head_faults<'s, 'a>(
+fn head_faults<'a>(
     alloc: Global,
-    names: &'s TextNames<'s, 'a>,
+    names: &'a TextNames<'a>,
     number: usize,
     template: &'a Template,
 ) -> Result<Option<Place>, AllocError>
@@ -35,9 +34,9 @@ fn head_faults<'s, 'a>(
 }
 
 // The first one in the declarations of templates.
-fn heads_faults<'s, 'a>(
+fn heads_faults<'a>(
     alloc: Global,
-    names: &'s TextNames<'s, 'a>,
+    names: &'a TextNames<'a>,
     templates: &'a [Template],
 ) -> Result<Option<Place>, AllocError>
     requires { templates.now ≡ names.now.templates.items }
@@ -52,9 +51,9 @@ fn heads_faults<'s, 'a>(
 }
 
 // The first one in the targets and calls of the bodies of the template of a number.
-fn template_body_faults<'s, 'a>(
+fn template_body_faults<'a>(
     alloc: Global,
-    names: &'s TextNames<'s, 'a>,
+    names: &'a TextNames<'a>,
     number: usize,
     template: &'a Template,
 ) -> Result<Option<Place>, AllocError>
@@ -67,9 +66,9 @@ fn template_body_faults<'s, 'a>(
 }
 
 // The first one in the targets and calls of the bodies of templates.
-fn bodies_faults<'s, 'a>(
+fn bodies_faults<'a>(
     alloc: Global,
-    names: &'s TextNames<'s, 'a>,
+    names: &'a TextNames<'a>,
     templates: &'a [Template],
 ) -> Result<Option<Place>, AllocError>
     requires { templates.now ≡ names.now.templates.items }
@@ -93,9 +92,9 @@ fn body_expr_faults(alloc: Global, part: &BodyPart) -> Result<Option<Place>, All
 }
 
 // The first one in the expressions of the bodies of the template of a number.
-fn inner_expr_faults<'s, 'a>(
+fn inner_expr_faults<'a>(
     alloc: Global,
-    names: &'s TextNames<'s, 'a>,
+    names: &'a TextNames<'a>,
     number: usize,
     template: &'a Template,
 ) -> Result<Option<Place>, AllocError>
@@ -108,8 +107,8 @@ fn inner_expr_faults<'s, 'a>(
 }
 
 // The first one in the goals and fairness conditions of the template of a number.
-fn outside_faults<'s, 'a>(
-    names: &'s TextNames<'s, 'a>,
+fn outside_faults<'a>(
+    names: &'a TextNames<'a>,
     number: usize,
     template: &'a Template,
 ) -> Option<Place>
@@ -123,9 +122,9 @@ fn outside_faults<'s, 'a>(
 }
 
 // The first one in the expressions of the template of a number.
-fn template_expr_faults<'s, 'a>(
+fn template_expr_faults<'a>(
     alloc: Global,
-    names: &'s TextNames<'s, 'a>,
+    names: &'a TextNames<'a>,
     number: usize,
     template: &'a Template,
 ) -> Result<Option<Place>, AllocError>
@@ -139,9 +138,9 @@ fn template_expr_faults<'s, 'a>(
 }
 
 // The first one in the expressions of templates.
-fn exprs_faults<'s, 'a>(
+fn exprs_faults<'a>(
     alloc: Global,
-    names: &'s TextNames<'s, 'a>,
+    names: &'a TextNames<'a>,
     templates: &'a [Template],
 ) -> Result<Option<Place>, AllocError>
     requires { templates.now ≡ names.now.templates.items }
@@ -158,9 +157,9 @@ fn exprs_faults<'s, 'a>(
 
 /// The first place of a text at which a type, a sort of name, a number of arguments or a result does not fit. Near
 /// linear in the text. `AllocError` is want of memory.
-pub(crate) fn first_mismatch<'s, 'a>(
+pub(crate) fn first_mismatch<'a>(
     alloc: Global,
-    names: &'s TextNames<'s, 'a>,
+    names: &'a TextNames<'a>,
     spec: &'a Spec,
 ) -> Result<Option<Place>, AllocError>
     requires { names.now ≡ spec.now }

@@ -4,14 +4,13 @@ ghost use Rattle.std.specs.Option.{option_map};
 ghost use Rattle.tm_syntax.specs.Faults.Mismatches as text;
 ghost use Rattle.tm_syntax.specs.Faults.Operands as operands;
 ghost use Rattle.tm_types.specs.Firsts.{first_of};
-ghost use Rattle.tm_types.specs.Meanings.{meaning_of};
-ghost use Rattle.tm_types.specs.Sorts.{sort_of};
+ghost use Rattle.tm_names.specs.Meanings.{meaning_of};
+ghost use Rattle.tm_names.specs.Sorts.{sort_of};
 ghost use Rattle.tm_types.specs.Wanted.{suits};
 
 use crate::firsts::place_unless;
-use crate::names::Meaning;
-use crate::sorts::Sort;
 use tm_base::Place;
+use tm_names::{Meaning, Sort};
 use tm_syntax::tree::Ident;
 
 /// What a name is wanted for.

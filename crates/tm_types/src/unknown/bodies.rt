@@ -8,23 +8,22 @@ ghost use Rattle.tm_syntax.specs.Scopes.Parts.{all_stmts, bare_targets, own_call
 ghost use Rattle.tm_syntax.specs.Faults.Marks.{first_mark};
 ghost use Rattle.tm_syntax.specs.Faults.Names.{unknown_in_body, unknown_paths};
 ghost use Rattle.tm_scope.specs.Context.{context_of};
-ghost use Rattle.tm_types.specs.Bodies.{body_at};
-ghost use Rattle.tm_types.specs.Parts.{listed_stmts};
-ghost use Rattle.tm_types.specs.ScopeNames.{mark_of};
-ghost use Rattle.tm_types.specs.Inner.LocalStmts.{declaration};
+ghost use Rattle.tm_names.specs.Bodies.{body_at};
+ghost use Rattle.tm_names.specs.Parts.{listed_stmts};
+ghost use Rattle.tm_names.specs.ScopeNames.{mark_of};
+ghost use Rattle.tm_names.specs.LocalStmts.{declaration};
 ghost use Rattle.tm_types.specs.Inner.UnknownParts.{unknown_in_stmt};
 
 use crate::firsts_named::{earlier_name, first_name_in};
-use crate::parts::{BodyPart, Site, all_stmts};
-use crate::twice::{NameMark, earlier_mark};
 use crate::unknown::exprs::unknown_path;
 use std::alloc::{AllocError, Global};
 use std::slice;
+use tm_names::{BodyPart, NameMark, Site, all_stmts, earlier_mark};
 use tm_syntax::tree::{Expr, LocalDef, Path, Stmt, Value};
 
 // In a value, which may be a call.
 #[tactic(auto, using(crate::proofs::UnknownPaths::path_lists))]
-fn unknown_in_value<'a>(site: &Site<'_, 'a>, value: &'a Value) -> Option<NameMark<'a>>
+fn unknown_in_value<'a>(site: &Site<'a>, value: &'a Value) -> Option<NameMark<'a>>
     ensures { option_map mark_of result
         ≡ first_mark (unknown_paths (context_of site.now) (value_calls (value_tree value.now))) }
 {
@@ -37,11 +36,7 @@ fn unknown_in_value<'a>(site: &Site<'_, 'a>, value: &'a Value) -> Option<NameMar
 
 // In the target of an assignment, where it has no index.
 #[tactic(auto, using(crate::proofs::UnknownPaths::path_lists))]
-fn unknown_target<'a>(
-    site: &Site<'_, 'a>,
-    path: &'a Path,
-    index: &Option<Expr>,
-) -> Option<NameMark<'a>>
+fn unknown_target<'a>(site: &Site<'a>, path: &'a Path, index: &Option<Expr>) -> Option<NameMark<'a>>
     ensures { (v : tree.ValueTree) → option_map mark_of result ≡ first_mark (unknown_paths (context_of site.now)
         (bare_targets (tree.assign path.now.names.items (option_map expr_tree index.now) v))) }
 {
@@ -53,7 +48,7 @@ fn unknown_target<'a>(
 
 // In the target and the call of an assignment.
 fn unknown_in_assignment<'a>(
-    site: &Site<'_, 'a>,
+    site: &Site<'a>,
     path: &'a Path,
     index: &Option<Expr>,
     value: &'a Value,
@@ -69,7 +64,7 @@ fn unknown_in_assignment<'a>(
 
 // In the target and the call of a statement itself, apart from the statements within it.
 #[tactic(auto, using(tm_syntax::proofs::Views::views, crate::proofs::UnknownPaths::path_lists))]
-fn unknown_in_stmt<'a>(site: &Site<'_, 'a>, stmt: &'a Stmt) -> Option<NameMark<'a>>
+fn unknown_in_stmt<'a>(site: &Site<'a>, stmt: &'a Stmt) -> Option<NameMark<'a>>
     ensures { option_map mark_of result ≡ first_mark (unknown_in_stmt (context_of site.now) (stmt_tree stmt.now)) }
 {
     match stmt {
@@ -88,7 +83,7 @@ fn unknown_in_stmt<'a>(site: &Site<'_, 'a>, stmt: &'a Stmt) -> Option<NameMark<'
 }
 
 // In the declaration of a local.
-fn unknown_in_local<'a>(site: &Site<'_, 'a>, local: &'a LocalDef) -> Option<NameMark<'a>>
+fn unknown_in_local<'a>(site: &Site<'a>, local: &'a LocalDef) -> Option<NameMark<'a>>
     ensures { option_map mark_of result
         ≡ first_mark (unknown_in_stmt (context_of site.now) (declaration (local_tree local.now))) }
 {
@@ -97,7 +92,7 @@ fn unknown_in_local<'a>(site: &Site<'_, 'a>, local: &'a LocalDef) -> Option<Name
 }
 
 // The first one in some declarations of locals.
-fn unknown_in_locals<'a>(site: &Site<'_, 'a>, locals: &'a [LocalDef]) -> Option<NameMark<'a>>
+fn unknown_in_locals<'a>(site: &Site<'a>, locals: &'a [LocalDef]) -> Option<NameMark<'a>>
     ensures { option_map mark_of result ≡ first_mark (flat_map
         (λ l. unknown_in_stmt (context_of site.now) (declaration l)) (map local_tree locals.now)) }
 {
@@ -105,7 +100,7 @@ fn unknown_in_locals<'a>(site: &Site<'_, 'a>, locals: &'a [LocalDef]) -> Option<
 }
 
 // The first one in some listed statements.
-fn unknown_in_listed<'a>(site: &Site<'_, 'a>, stmts: &[&'a Stmt]) -> Option<NameMark<'a>>
+fn unknown_in_listed<'a>(site: &Site<'a>, stmts: &[&'a Stmt]) -> Option<NameMark<'a>>
     ensures { option_map mark_of result
         ≡ first_mark (flat_map (unknown_in_stmt (context_of site.now)) (listed_stmts stmts.now)) }
 {
@@ -119,7 +114,7 @@ fn unknown_in_listed<'a>(site: &Site<'_, 'a>, stmts: &[&'a Stmt]) -> Option<Name
 /// The first one in the targets and calls of a body. `AllocError` is want of memory.
 pub(crate) fn unknown_in_body<'a>(
     alloc: Global,
-    part: &BodyPart<'_, 'a>,
+    part: &BodyPart<'a>,
 ) -> Result<Option<NameMark<'a>>, AllocError>
     ensures { IfOk result (λ first. option_map mark_of first ≡ first_mark (unknown_in_body (body_at part.now))) }
 {

@@ -16,18 +16,15 @@ ghost use Rattle.tm_syntax.specs.Faults.Names.{
   unknown_type,
 };
 ghost use Rattle.tm_scope.specs.Context.{context_of};
-ghost use Rattle.tm_types.specs.Parts.{listed_types};
-ghost use Rattle.tm_types.specs.ScopeNames.{mark_of};
-ghost use Rattle.tm_types.specs.Sorts.{sort_of};
+ghost use Rattle.tm_names.specs.Parts.{listed_types};
+ghost use Rattle.tm_names.specs.ScopeNames.{mark_of};
+ghost use Rattle.tm_names.specs.Sorts.{sort_of};
 
 use crate::firsts_named::{earlier_name, earliest_of_four, first_name_in};
-use crate::names::TextNames;
-use crate::parts::{Site, template_types};
-use crate::sorts::Sort;
-use crate::twice::{NameMark, earlier_mark};
 use crate::unknown::exprs::name_mark;
 use std::alloc::{AllocError, Global};
 use tm_base::Place;
+use tm_names::{NameMark, Site, Sort, TextNames, earlier_mark, template_types};
 use tm_syntax::tree::{Expr, Ident, InstanceDef, Port, Template, TypeName, VarDef};
 
 // The name of the template that stands for the whole.
@@ -44,7 +41,7 @@ fn undeclared<'a>(sort: Option<Sort<'a>>, name: &'a Ident) -> Option<NameMark<'a
 }
 
 // A name that the text does not declare.
-fn unknown_in_text<'a>(names: &TextNames<'_, 'a>, name: &'a Ident) -> Option<NameMark<'a>>
+fn unknown_in_text<'a>(names: &TextNames<'a>, name: &'a Ident) -> Option<NameMark<'a>>
     ensures { option_map mark_of result
         ≡ first_mark (undeclared (text_sort (spec_tree names.now) name.now.text) name.now) }
 {
@@ -52,7 +49,7 @@ fn unknown_in_text<'a>(names: &TextNames<'_, 'a>, name: &'a Ident) -> Option<Nam
 }
 
 // The name of a type that the text does not declare.
-fn unknown_type<'a>(names: &TextNames<'_, 'a>, ty: &'a TypeName) -> Option<NameMark<'a>>
+fn unknown_type<'a>(names: &TextNames<'a>, ty: &'a TypeName) -> Option<NameMark<'a>>
     ensures { option_map mark_of result ≡ first_mark (unknown_type (spec_tree names.now) ty.now) }
 {
     match ty {
@@ -63,7 +60,7 @@ fn unknown_type<'a>(names: &TextNames<'_, 'a>, ty: &'a TypeName) -> Option<NameM
 }
 
 // The name in an initial literal that the text does not declare.
-fn unknown_literal<'a>(names: &TextNames<'_, 'a>, literal: &'a Expr) -> Option<NameMark<'a>>
+fn unknown_literal<'a>(names: &TextNames<'a>, literal: &'a Expr) -> Option<NameMark<'a>>
     ensures { option_map mark_of result ≡ first_mark (unknown_literal (spec_tree names.now) (expr_tree literal.now)) }
 {
     match literal {
@@ -73,7 +70,7 @@ fn unknown_literal<'a>(names: &TextNames<'_, 'a>, literal: &'a Expr) -> Option<N
 }
 
 // The only name of a path that the text does not declare.
-fn unknown_constant<'a>(names: &TextNames<'_, 'a>, path: &'a [Ident]) -> Option<NameMark<'a>>
+fn unknown_constant<'a>(names: &TextNames<'a>, path: &'a [Ident]) -> Option<NameMark<'a>>
     ensures { option_map mark_of result ≡ first_mark (unknown_literal (spec_tree names.now) (tree.path path.now)) }
 {
     let [name] = path else {
@@ -83,7 +80,7 @@ fn unknown_constant<'a>(names: &TextNames<'_, 'a>, path: &'a [Ident]) -> Option<
 }
 
 // The first one in the initial literal of a variable.
-fn unknown_init<'a>(names: &TextNames<'_, 'a>, var: &'a VarDef) -> Option<NameMark<'a>>
+fn unknown_init<'a>(names: &TextNames<'a>, var: &'a VarDef) -> Option<NameMark<'a>>
     ensures { option_map mark_of result ≡ first_mark (flat_map (unknown_literal (spec_tree names.now))
         (option_to_list (option_map expr_tree var.now.init))) }
 {
@@ -94,7 +91,7 @@ fn unknown_init<'a>(names: &TextNames<'_, 'a>, var: &'a VarDef) -> Option<NameMa
 }
 
 // The first one in the initial literals of some variables.
-fn unknown_inits<'a>(names: &TextNames<'_, 'a>, vars: &'a [VarDef]) -> Option<NameMark<'a>>
+fn unknown_inits<'a>(names: &TextNames<'a>, vars: &'a [VarDef]) -> Option<NameMark<'a>>
     ensures { option_map mark_of result ≡ first_mark (flat_map
         (λ v. flat_map (unknown_literal (spec_tree names.now)) (option_to_list v.init)) (map var_tree vars.now)) }
 {
@@ -102,7 +99,7 @@ fn unknown_inits<'a>(names: &TextNames<'_, 'a>, vars: &'a [VarDef]) -> Option<Na
 }
 
 // The first one in some types.
-fn unknown_types<'a>(names: &TextNames<'_, 'a>, types: &[&'a TypeName]) -> Option<NameMark<'a>>
+fn unknown_types<'a>(names: &TextNames<'a>, types: &[&'a TypeName]) -> Option<NameMark<'a>>
     ensures { option_map mark_of result
         ≡ first_mark (flat_map (unknown_type (spec_tree names.now)) (listed_types types.now)) }
 {
@@ -114,7 +111,7 @@ fn unknown_types<'a>(names: &TextNames<'_, 'a>, types: &[&'a TypeName]) -> Optio
 }
 
 // The first template of some ports that the text does not declare.
-fn unknown_ports<'a>(names: &TextNames<'_, 'a>, ports: &'a [Port]) -> Option<NameMark<'a>>
+fn unknown_ports<'a>(names: &TextNames<'a>, ports: &'a [Port]) -> Option<NameMark<'a>>
     ensures { option_map mark_of result ≡ first_mark (flat_map
         (λ p. undeclared (text_sort (spec_tree names.now) p.template.text) p.template) ports.now) }
 {
@@ -122,7 +119,7 @@ fn unknown_ports<'a>(names: &TextNames<'_, 'a>, ports: &'a [Port]) -> Option<Nam
 }
 
 // An argument of an instance that is no member of the template in which the instance stands.
-fn unknown_arg<'a>(site: &Site<'_, 'a>, arg: &'a Ident) -> Option<NameMark<'a>>
+fn unknown_arg<'a>(site: &Site<'a>, arg: &'a Ident) -> Option<NameMark<'a>>
     ensures { option_map mark_of result
         ≡ first_mark (undeclared (sort_in (members (context_of site.now).template) arg.now.text) arg.now) }
 {
@@ -130,7 +127,7 @@ fn unknown_arg<'a>(site: &Site<'_, 'a>, arg: &'a Ident) -> Option<NameMark<'a>>
 }
 
 // The first one of some arguments.
-fn unknown_args<'a>(site: &Site<'_, 'a>, args: &'a [Ident]) -> Option<NameMark<'a>>
+fn unknown_args<'a>(site: &Site<'a>, args: &'a [Ident]) -> Option<NameMark<'a>>
     ensures { option_map mark_of result ≡ first_mark (flat_map
         (λ a. undeclared (sort_in (members (context_of site.now).template) a.text) a) args.now) }
 {
@@ -138,7 +135,7 @@ fn unknown_args<'a>(site: &Site<'_, 'a>, args: &'a [Ident]) -> Option<NameMark<'
 }
 
 // The first one in an instance: its template, or one of its arguments.
-fn unknown_in_instance<'a>(site: &Site<'_, 'a>, instance: &'a InstanceDef) -> Option<NameMark<'a>>
+fn unknown_in_instance<'a>(site: &Site<'a>, instance: &'a InstanceDef) -> Option<NameMark<'a>>
     ensures { option_map mark_of result ≡ first_mark
         (unknown_in_instance (context_of site.now).spec (context_of site.now).template (instance_tree instance.now)) }
 {
@@ -147,12 +144,10 @@ fn unknown_in_instance<'a>(site: &Site<'_, 'a>, instance: &'a InstanceDef) -> Op
 }
 
 // The first one in some instances.
-fn unknown_in_instances<'a>(
-    site: &Site<'_, 'a>,
-    instances: &'a [InstanceDef],
-) -> Option<NameMark<'a>>
+fn unknown_in_instances<'a>(site: &Site<'a>, instances: &'a [InstanceDef]) -> Option<NameMark<'a>>
     ensures { option_map mark_of result ≡ first_mark (flat_map
-        (unknown_in_instance (context_of site.now).spec (context_of site.now).template) (map instance_tree instances.now)) }
+        (unknown_in_instance (context_of site.now).spec (context_of site.now).template)
+        (map instance_tree instances.now)) }
 {
     first_name_in(instances, |instance| unknown_in_instance(site, instance))
 }
@@ -160,7 +155,7 @@ fn unknown_in_instances<'a>(
 /// The first one in the head, types, variables and instances of a template. `AllocError` is want of memory.
 pub(crate) fn unknown_in_template<'a>(
     alloc: Global,
-    site: &Site<'_, 'a>,
+    site: &Site<'a>,
     template: &'a Template,
 ) -> Result<Option<NameMark<'a>>, AllocError>
     requires { site.now.template ≡ template.now }
@@ -176,7 +171,7 @@ pub(crate) fn unknown_in_template<'a>(
 }
 
 /// That there is no template `main`.
-pub(crate) fn unknown_main<'a>(names: &TextNames<'_, 'a>) -> Option<NameMark<'a>>
+pub(crate) fn unknown_main<'a>(names: &TextNames<'a>) -> Option<NameMark<'a>>
     ensures { option_map mark_of result ≡ first_mark (unknown_main (spec_tree names.now)) }
 {
     match names.tables().template_number(MAIN) {

@@ -6,15 +6,13 @@ ghost use Rattle.tm_syntax.specs.Scopes.Declared as text;
 ghost use Rattle.tm_syntax.specs.Faults.Marks.{first_mark, named};
 ghost use Rattle.tm_syntax.specs.Faults.Names.{unknown_of};
 ghost use Rattle.tm_scope.specs.Context.{context_of};
-ghost use Rattle.tm_types.specs.Asked.{asked_of};
-ghost use Rattle.tm_types.specs.Meanings.{meaning_of};
-ghost use Rattle.tm_types.specs.ScopeNames.{mark_of};
+ghost use Rattle.tm_names.specs.Asked.{asked_of};
+ghost use Rattle.tm_names.specs.Meanings.{meaning_of};
+ghost use Rattle.tm_names.specs.ScopeNames.{mark_of};
 ghost use Rattle.tm_types.specs.Inner.UnknownParts.{unknown_in_asked, unknown_within};
 
 use crate::firsts_named::earlier_name;
-use crate::names::Meaning;
-use crate::parts::{Asked, ExprPart, Site};
-use crate::twice::NameMark;
+use tm_names::{Asked, ExprPart, Meaning, NameMark, Site};
 use tm_syntax::tree::{Expr, Ident};
 
 // A fault at a name.
@@ -40,7 +38,7 @@ fn unknown_of(meaning: Meaning<'_>) -> Option<NameMark<'_>>
 }
 
 // The name at which a path leads to nothing where it stands.
-pub(crate) fn unknown_path<'a>(site: &Site<'_, 'a>, path: &'a [Ident]) -> Option<NameMark<'a>>
+pub(crate) fn unknown_path<'a>(site: &Site<'a>, path: &'a [Ident]) -> Option<NameMark<'a>>
     ensures { option_map mark_of result ≡ first_mark (unknown_of (text.meaning (context_of site.now) path.now)) }
 {
     unknown_of(site.meaning(path))
@@ -48,7 +46,7 @@ pub(crate) fn unknown_path<'a>(site: &Site<'_, 'a>, path: &'a [Ident]) -> Option
 
 /// The first name in an expression at which a path leads to nothing. As deep as the expression nests.
 #[tactic(auto, using(crate::proofs::UnknownPaths::path_lists))]
-pub(crate) fn unknown_in_expr<'a>(site: &Site<'_, 'a>, e: &'a Expr) -> Option<NameMark<'a>>
+pub(crate) fn unknown_in_expr<'a>(site: &Site<'a>, e: &'a Expr) -> Option<NameMark<'a>>
     ensures { option_map mark_of result
         ≡ first_mark (unknown_within (context_of site.now) (expr_tree e.now)) }
 {
@@ -75,7 +73,7 @@ pub(crate) fn unknown_in_expr<'a>(site: &Site<'_, 'a>, e: &'a Expr) -> Option<Na
 }
 
 /// The first one in an expression for which a type is asked.
-pub(crate) fn unknown_in_asked<'a>(site: &Site<'_, 'a>, asked: &Asked<'a>) -> Option<NameMark<'a>>
+pub(crate) fn unknown_in_asked<'a>(site: &Site<'a>, asked: &Asked<'a>) -> Option<NameMark<'a>>
     ensures { option_map mark_of result
         ≡ first_mark (unknown_in_asked (context_of site.now) (asked_of asked.now)) }
 {

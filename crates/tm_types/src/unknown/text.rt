@@ -7,26 +7,31 @@ ghost use Rattle.tm_syntax.specs.Scopes.Parts as text;
 ghost use Rattle.tm_syntax.specs.Faults.Marks.{first_mark};
 ghost use Rattle.tm_syntax.specs.Faults.Names.{unknown_in_body, unknown_in_expr, unknown_in_template, unknown_names};
 ghost use Rattle.tm_scope.specs.Context.{context_of};
-ghost use Rattle.tm_types.specs.Asked.{all_asked};
-ghost use Rattle.tm_types.specs.Bodies.{body_at};
-ghost use Rattle.tm_types.specs.ScopeNames.{mark_of};
-ghost use Rattle.tm_types.specs.Inner.UnknownParts.{unknown_in_asked, unknown_in_condition, unknown_in_exprs, unknown_outside};
+ghost use Rattle.tm_names.specs.Asked.{all_asked};
+ghost use Rattle.tm_names.specs.Bodies.{body_at};
+ghost use Rattle.tm_names.specs.ScopeNames.{mark_of};
+ghost use Rattle.tm_types.specs.Inner.UnknownParts.{
+  unknown_in_asked,
+  unknown_in_condition,
+  unknown_in_exprs,
+  unknown_outside,
+};
 
 use crate::firsts_named::{earlier_name, earliest_of_four, first_name_in, try_first_name_in};
-use crate::names::TextNames;
-use crate::parts::{Asked, BodyPart, Site, body_exprs, template_bodies};
-use crate::twice::{NameMark, earlier_mark};
 use crate::unknown::bodies::unknown_in_body;
 use crate::unknown::declared::{unknown_in_template, unknown_main};
 use crate::unknown::exprs::{unknown_in_asked, unknown_in_expr};
 use std::alloc::{AllocError, Global};
+use tm_names::{
+    Asked, BodyPart, NameMark, Site, TextNames, body_exprs, earlier_mark, template_bodies,
+};
 use tm_scope::BodyName;
 use tm_syntax::tree::{Named, Spec, Template};
 
 // The first one in the declarations of the template of a number.
-fn unknown_in_head<'s, 'a>(
+fn unknown_in_head<'a>(
     alloc: Global,
-    names: &'s TextNames<'s, 'a>,
+    names: &'a TextNames<'a>,
     number: usize,
     template: &'a Template,
 ) -> Result<Option<NameMark<'a>>, AllocError>
@@ -39,7 +44,7 @@ fn unknown_in_head<'s, 'a>(
 }
 
 // The first one in listed expressions.
-fn unknown_in_listed<'a>(site: &Site<'_, 'a>, asked: &[Asked<'a>]) -> Option<NameMark<'a>>
+fn unknown_in_listed<'a>(site: &Site<'a>, asked: &[Asked<'a>]) -> Option<NameMark<'a>>
     ensures { option_map mark_of result
         ≡ first_mark (flat_map (unknown_in_asked (context_of site.now)) (all_asked asked.now)) }
 {
@@ -53,7 +58,7 @@ fn unknown_in_listed<'a>(site: &Site<'_, 'a>, asked: &[Asked<'a>]) -> Option<Nam
 // The first one in the expressions of a body.
 fn unknown_in_exprs<'a>(
     alloc: Global,
-    part: &BodyPart<'_, 'a>,
+    part: &BodyPart<'a>,
 ) -> Result<Option<NameMark<'a>>, AllocError>
     ensures { IfOk result (λ first. option_map mark_of first ≡ first_mark (unknown_in_exprs (body_at part.now))) }
 {
@@ -62,7 +67,7 @@ fn unknown_in_exprs<'a>(
 }
 
 // The first one in goals or fairness conditions.
-fn unknown_in_conditions<'a>(site: &Site<'_, 'a>, conditions: &'a [Named]) -> Option<NameMark<'a>>
+fn unknown_in_conditions<'a>(site: &Site<'a>, conditions: &'a [Named]) -> Option<NameMark<'a>>
     ensures { option_map mark_of result
         ≡ first_mark (flat_map (unknown_in_condition (context_of site.now)) (map named_tree conditions.now)) }
 {
@@ -70,8 +75,8 @@ fn unknown_in_conditions<'a>(site: &Site<'_, 'a>, conditions: &'a [Named]) -> Op
 }
 
 // The first one in the goals and fairness conditions of the template of a number.
-fn unknown_outside<'s, 'a>(
-    names: &'s TextNames<'s, 'a>,
+fn unknown_outside<'a>(
+    names: &'a TextNames<'a>,
     number: usize,
     template: &'a Template,
 ) -> Option<NameMark<'a>>
@@ -86,9 +91,9 @@ fn unknown_outside<'s, 'a>(
 }
 
 // The first one in the expressions of the bodies of the template of a number.
-fn unknown_in_values<'s, 'a>(
+fn unknown_in_values<'a>(
     alloc: Global,
-    names: &'s TextNames<'s, 'a>,
+    names: &'a TextNames<'a>,
     number: usize,
     template: &'a Template,
 ) -> Result<Option<NameMark<'a>>, AllocError>
@@ -101,9 +106,9 @@ fn unknown_in_values<'s, 'a>(
 }
 
 // The first one in the expressions of the template of a number.
-fn unknown_in_template_exprs<'s, 'a>(
+fn unknown_in_template_exprs<'a>(
     alloc: Global,
-    names: &'s TextNames<'s, 'a>,
+    names: &'a TextNames<'a>,
     number: usize,
     template: &'a Template,
 ) -> Result<Option<NameMark<'a>>, AllocError>
@@ -116,9 +121,9 @@ fn unknown_in_template_exprs<'s, 'a>(
 }
 
 // The first one in the targets and calls of the bodies of the template of a number.
-fn unknown_in_template_bodies<'s, 'a>(
+fn unknown_in_template_bodies<'a>(
     alloc: Global,
-    names: &'s TextNames<'s, 'a>,
+    names: &'a TextNames<'a>,
     number: usize,
     template: &'a Template,
 ) -> Result<Option<NameMark<'a>>, AllocError>
@@ -131,9 +136,9 @@ fn unknown_in_template_bodies<'s, 'a>(
 }
 
 // The first one in the declarations of templates.
-fn unknown_in_heads<'s, 'a>(
+fn unknown_in_heads<'a>(
     alloc: Global,
-    names: &'s TextNames<'s, 'a>,
+    names: &'a TextNames<'a>,
     templates: &'a [Template],
 ) -> Result<Option<NameMark<'a>>, AllocError>
     requires { templates.now ≡ names.now.templates.items }
@@ -148,9 +153,9 @@ fn unknown_in_heads<'s, 'a>(
 }
 
 // The first one in the expressions of templates.
-fn unknown_in_all_exprs<'s, 'a>(
+fn unknown_in_all_exprs<'a>(
     alloc: Global,
-    names: &'s TextNames<'s, 'a>,
+    names: &'a TextNames<'a>,
     templates: &'a [Template],
 ) -> Result<Option<NameMark<'a>>, AllocError>
     requires { templates.now ≡ names.now.templates.items }
@@ -166,9 +171,9 @@ fn unknown_in_all_exprs<'s, 'a>(
 }
 
 // The first one in the targets and calls of the bodies of templates.
-fn unknown_in_all_bodies<'s, 'a>(
+fn unknown_in_all_bodies<'a>(
     alloc: Global,
-    names: &'s TextNames<'s, 'a>,
+    names: &'a TextNames<'a>,
     templates: &'a [Template],
 ) -> Result<Option<NameMark<'a>>, AllocError>
     requires { templates.now ≡ names.now.templates.items }
@@ -185,9 +190,9 @@ fn unknown_in_all_bodies<'s, 'a>(
 
 /// The first name of a text that no declaration gives in its scope, or `main` at the text's start where no template
 /// has that name. `AllocError` is want of memory. Linear in the text.
-pub(crate) fn first_unknown<'s, 'a>(
+pub(crate) fn first_unknown<'a>(
     alloc: Global,
-    names: &'s TextNames<'s, 'a>,
+    names: &'a TextNames<'a>,
     spec: &'a Spec,
 ) -> Result<Option<NameMark<'a>>, AllocError>
     requires { names.now ≡ spec.now }

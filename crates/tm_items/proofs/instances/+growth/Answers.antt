@@ -141,7 +141,8 @@ add_instance-children_of-requires t c =
     let is = template_stands spec c.args.template (Some own)
     (slice_get_read spec.templates.items
     (length spec.templates.items) c.args.template own refl c.requires.within here) in
-    let size = size_is (spec_tree spec) c.args.sizes.now c.args.template (template_tree own) c.requires.sizes is in
+    let size = size_is (spec_tree spec) c.args.sizes.now c.args.template (template_tree own) c.requires.sizes is
+    (let room = c.requires.room in omega (arith, room)) in
     let sum = ap (λ is. sum_by (held_size (spec_tree spec) c.args.sizes.now) (map instance_tree is))
     c.as_slice-held.ensures.value in
     record { room = omega (arith, size, sum, c.len-number.ensures, c.requires.room) }
@@ -156,7 +157,8 @@ add_instance-add_all_held-requires t c =
     let is = template_stands spec c.args.template (Some own)
     (slice_get_read spec.templates.items
     (length spec.templates.items) c.args.template own refl c.requires.within here) in
-    let size = size_is (spec_tree spec) sizes c.args.template (template_tree own) c.requires.sizes is in
+    let size = size_is (spec_tree spec) sizes c.args.template (template_tree own) c.requires.sizes is
+    (let room = c.requires.room in omega (arith, room)) in
     let same = ap (map instance_tree) c.as_slice-held.ensures.value in
     let sum = ap (sum_by (held_size (spec_tree spec) sizes)) same in
     let nodes = c.args.nodes.now.items in
@@ -200,7 +202,8 @@ add_instance-returns t c =
     let is = template_stands spec c.args.template (Some own)
     (slice_get_read spec.templates.items
     (length spec.templates.items) c.args.template own refl c.requires.within here) in
-    let size = size_is (spec_tree spec) sizes c.args.template (template_tree own) c.requires.sizes is in
+    let size = size_is (spec_tree spec) sizes c.args.template (template_tree own) c.requires.sizes is
+    (let room = c.requires.room in omega (arith, room)) in
     let same = ap (map instance_tree) c.as_slice-held.ensures.value in
     let nodes = c.args.nodes.now.items in
     let long = length-map nodes instance_node in

@@ -1,4 +1,4 @@
-use Rattle.std.proofs.Common.{◌≡◌, Option, subst}
+use Rattle.std.proofs.Common.{Option, subst}
 use Rattle.tm_syntax.specs.declared.fault.Faulty.{Faulty}
 use Rattle.tm_syntax.specs.Tree.{SpecTree}
 use Rattle.tm_syntax.specs.Tree.View.{spec_tree}

@@ -1,4 +1,4 @@
-use Rattle.std.proofs.Common.{◌≡◌, Option, Some, List, [], ◌∷◌, subst}
+use Rattle.std.proofs.Common.{Option, Some, List, [], ◌∷◌, subst}
 use Rattle.std.proofs.lemmas.Result.{IfOk-weaker}
 use Rattle.tm_syntax.specs.declared.fault.FaultKind.{FaultKind}
 use Rattle.tm_syntax.specs.declared.fault.FaultKind.TheVariants as kind

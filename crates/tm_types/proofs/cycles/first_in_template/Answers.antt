@@ -7,7 +7,7 @@ use Rattle.tm_syntax.specs.Tree.{TaskTree}
 use Rattle.tm_syntax.specs.Tree.View.{task_tree}
 use Rattle.tm_syntax.specs.Faults.Marks.{first_mark}
 use Rattle.tm_types.specs.Inner.Looping.{looping_mark, task_mark}
-use Rattle.tm_types.specs.ScopeNames.{mark_of}
+use Rattle.tm_names.specs.ScopeNames.{mark_of}
 use Rattle.tm_types.proofs.NumberedParts.{first_from, numbered_all, numbered_more}
 use Rattle.tm_types.proofs.cycles.first_in_template.Goals as goal
 

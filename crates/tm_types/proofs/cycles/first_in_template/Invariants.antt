@@ -2,7 +2,7 @@ use Rattle.std.proofs.Common.{◌≡◌}
 use Rattle.std.specs.Option.{option_map}
 use Rattle.tm_syntax.specs.Tree.View.{task_tree}
 use Rattle.tm_types.specs.Inner.Looping.{looping_mark, task_mark}
-use Rattle.tm_types.specs.ScopeNames.{mark_of}
+use Rattle.tm_names.specs.ScopeNames.{mark_of}
 use Rattle.tm_types.proofs.NumberedParts.{either, first_from}
 use Rattle.tm_types.proofs.cycles.first_in_template.Given as goal
 

@@ -6,8 +6,8 @@ use Rattle.tm_syntax.specs.Tree.View.{template_tree}
 use Rattle.tm_syntax.specs.Faults.Cycles.{template_tasks}
 use Rattle.tm_syntax.specs.Faults.Marks.{first_mark}
 use Rattle.tm_types.specs.Inner.Looping.{looping_mark}
-use Rattle.tm_types.specs.ScopeNames.{mark_of}
-use Rattle.tm_types.proofs.BodyParts.{flat_map-flat_map}
+use Rattle.tm_names.specs.ScopeNames.{mark_of}
+use Rattle.tm_names.proofs.BodyParts.{flat_map-flat_map}
 use Rattle.tm_types.proofs.NumberedParts.{first_from, numbered_all, numbered_more}
 use Rattle.tm_types.proofs.cycles.first_in_templates.Goals as goal
 

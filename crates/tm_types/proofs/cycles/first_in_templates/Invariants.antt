@@ -4,7 +4,7 @@ use Rattle.std.specs.Option.{option_map}
 use Rattle.tm_syntax.specs.Tree.View.{template_tree}
 use Rattle.tm_syntax.specs.Faults.Cycles.{template_tasks}
 use Rattle.tm_types.specs.Inner.Looping.{looping_mark}
-use Rattle.tm_types.specs.ScopeNames.{mark_of}
+use Rattle.tm_names.specs.ScopeNames.{mark_of}
 use Rattle.tm_types.proofs.NumberedParts.{either, first_from}
 use Rattle.tm_types.proofs.cycles.first_in_templates.Given as goal
 

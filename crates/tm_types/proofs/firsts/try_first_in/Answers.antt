@@ -4,7 +4,7 @@ use Rattle.std.specs.List.{flat_map}
 use Rattle.std.proofs.lemmas.List.{take_all}
 use Rattle.tm_base.specs.declared.place.Place.{Place}
 use Rattle.tm_types.specs.Firsts.{first_of}
-use Rattle.tm_types.proofs.FirstFaults.{first_more}
+use Rattle.tm_names.proofs.FirstFaults.{first_more}
 use Rattle.tm_types.proofs.firsts.try_first_in.Goals as goal
 
 pub loop-part-preserved : goal.loop-part-preserved

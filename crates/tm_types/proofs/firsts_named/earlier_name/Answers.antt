@@ -1,9 +1,7 @@
 use Rattle.std.proofs.Common.{sym, ◌∙◌}
-use Rattle.std.specs.Option.{option_map}
 use Rattle.tm_syntax.specs.Places.{earliest_of}
 use Rattle.tm_syntax.specs.Faults.Marks.{Mark}
 use Rattle.tm_syntax.proofs.Places.{earliest-append}
-use Rattle.tm_types.specs.ScopeNames.{mark_of}
 use Rattle.tm_types.proofs.firsts_named.earlier_name.Goals as goal
 
 pub returns : goal.returns

@@ -4,8 +4,8 @@ use Rattle.std.specs.List.{flat_map}
 use Rattle.std.specs.Option.{option_map}
 use Rattle.std.proofs.lemmas.List.{take_all}
 use Rattle.tm_syntax.specs.Faults.Marks.{Mark, first_mark}
-use Rattle.tm_types.specs.ScopeNames.{mark_of}
-use Rattle.tm_types.proofs.FirstFaults.{first_more}
+use Rattle.tm_names.specs.ScopeNames.{mark_of}
+use Rattle.tm_names.proofs.FirstFaults.{first_more}
 use Rattle.tm_types.proofs.firsts_named.first_name_in.Goals as goal
 
 pub loop-part-preserved : goal.loop-part-preserved

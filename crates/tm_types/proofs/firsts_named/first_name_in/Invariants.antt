@@ -3,8 +3,8 @@ use Rattle.std.specs.List.{flat_map}
 use Rattle.std.specs.Option.{option_map}
 use Rattle.std.specs.Fn.{FnReturnsAt}
 use Rattle.tm_syntax.specs.Faults.Marks.{Mark, first_mark}
-use Rattle.tm_types.specs.declared.twice.mark.NameMark.{NameMark}
-use Rattle.tm_types.specs.ScopeNames.{mark_of}
+use Rattle.tm_names.specs.declared.scopes.mark.NameMark.{NameMark}
+use Rattle.tm_names.specs.ScopeNames.{mark_of}
 use Rattle.tm_types.proofs.firsts_named.first_name_in.Given as goal
 
 abbrev pub invariant-loop-part : goal.invariant-loop-part

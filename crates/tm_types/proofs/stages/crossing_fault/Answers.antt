@@ -1,4 +1,4 @@
-use Rattle.std.proofs.Common.{◌≡◌, Option, [], ◌∷◌, subst}
+use Rattle.std.proofs.Common.{Option, [], ◌∷◌, subst}
 use Rattle.std.proofs.lemmas.Result.{IfOk-weaker}
 use Rattle.tm_syntax.specs.declared.fault.FaultKind.TheVariants as kind
 use Rattle.tm_syntax.specs.declared.fault.Faulty.{Faulty}
@@ -20,6 +20,7 @@ returns c =
     IfOk-weaker c.location_fault.result (IsFirstOf (kind.LocationInAtomic ∷ []) spec)
     (IsFirstOf (kind.LoopWithoutLocation ∷ kind.LocationInAtomic ∷ []) spec)
     (λ r first. first_then (kind.LoopWithoutLocation ∷ []) (kind.LocationInAtomic ∷ []) spec r
-    (subst (λ (o : Option Faulty). IsFirstOf (kind.LoopWithoutLocation ∷ []) spec o) c.in_default.is c.in_ok-fault.ensures)
+    (subst (λ (o : Option Faulty). IsFirstOf (kind.LoopWithoutLocation ∷ []) spec o) c.in_default.is
+    c.in_ok-fault.ensures)
     first)
     c.location_fault.ensures

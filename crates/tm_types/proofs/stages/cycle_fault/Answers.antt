@@ -6,7 +6,7 @@ use Rattle.tm_syntax.specs.Tree.{SpecTree}
 use Rattle.tm_syntax.specs.Tree.View.{spec_tree}
 use Rattle.tm_syntax.specs.Faults.{fault}
 use Rattle.tm_types.specs.Answer.{IsFirstOf}
-use Rattle.tm_types.specs.ScopeNames.{mark_of}
+use Rattle.tm_names.specs.ScopeNames.{mark_of}
 use Rattle.tm_types.proofs.FirstOfKinds.{of_found}
 use Rattle.tm_types.proofs.stages.cycle_fault.Goals as goal
 

@@ -1,4 +1,4 @@
-use Rattle.std.proofs.Common.{◌≡◌, Option, [], ◌∷◌, subst}
+use Rattle.std.proofs.Common.{Option, [], ◌∷◌, subst}
 use Rattle.std.proofs.lemmas.Result.{IfOk-weaker}
 use Rattle.tm_syntax.specs.declared.fault.FaultKind.TheVariants as kind
 use Rattle.tm_syntax.specs.declared.fault.Faulty.{Faulty}

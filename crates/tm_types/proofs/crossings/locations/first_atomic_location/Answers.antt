@@ -11,7 +11,7 @@ use Rattle.tm_types.specs.Firsts.{first_of}
 use Rattle.tm_types.specs.Inner.Crossings.{task_locations_by}
 use Rattle.tm_types.proofs.AtomicLocations.{atomic_locations-by_templates, template_locations}
 use Rattle.tm_types.proofs.EndlessLoops.{marks_read}
-use Rattle.tm_types.proofs.FirstFaults.{first_more}
+use Rattle.tm_names.proofs.FirstFaults.{first_more}
 use Rattle.tm_types.proofs.crossings.locations.first_atomic_location.Goals as goal
 
 pub loop-number-preserved : goal.loop-number-preserved

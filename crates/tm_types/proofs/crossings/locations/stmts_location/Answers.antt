@@ -3,7 +3,7 @@ use Rattle.tm_syntax.specs.Tree.View.{stmt_tree, stmt_trees}
 use Rattle.tm_syntax.specs.Scopes.Parts.{all_stmts}
 use Rattle.tm_scope.specs.Marks.{is_marked}
 use Rattle.tm_types.specs.Inner.Crossings.{locations_of}
-use Rattle.tm_types.proofs.ListedStmts.{first_of_listed}
+use Rattle.tm_types.proofs.ListedFaults.{first_of_listed}
 use Rattle.tm_types.proofs.crossings.locations.stmts_location.Goals as goal
 
 pub returns : goal.returns

@@ -10,7 +10,7 @@ use Rattle.tm_scope.specs.Marks.{is_marked}
 use Rattle.tm_types.specs.Firsts.{first_of}
 use Rattle.tm_types.specs.Inner.Crossings.{body_loops, in_bodies}
 use Rattle.tm_types.proofs.EndlessLoops.{endless_loops-by_templates, marks_read, template_loops}
-use Rattle.tm_types.proofs.FirstFaults.{first_more}
+use Rattle.tm_names.proofs.FirstFaults.{first_more}
 use Rattle.tm_types.proofs.crossings.loops.first_endless_loop.Goals as goal
 
 pub loop-number-preserved : goal.loop-number-preserved

@@ -5,7 +5,8 @@ use Rattle.tm_syntax.specs.Scopes.Parts.{all_stmts}
 use Rattle.tm_scope.specs.Marks.{is_marked}
 use Rattle.tm_types.specs.Firsts.{first_of}
 use Rattle.tm_types.specs.Inner.Crossings.{loops_of}
-use Rattle.tm_types.proofs.ListedStmts.{first_of_listed, flat_map-none, flat_map-stmts_in}
+use Rattle.tm_names.proofs.ListedStmts.{flat_map-none, flat_map-stmts_in}
+use Rattle.tm_types.proofs.ListedFaults.{first_of_listed}
 use Rattle.tm_types.proofs.crossings.loops.first_loop.Goals as goal
 
 pub returns : goal.returns

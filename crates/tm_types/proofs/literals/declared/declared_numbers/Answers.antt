@@ -5,7 +5,7 @@ use Rattle.tm_syntax.specs.Tree.View.{template_tree, var_tree}
 use Rattle.tm_syntax.specs.Scopes.Parts.{template_types}
 use Rattle.tm_syntax.specs.Faults.Literals.{type_numbers, var_numbers}
 use Rattle.tm_types.specs.Firsts.{first_of}
-use Rattle.tm_types.specs.Parts.{listed_types}
+use Rattle.tm_names.specs.Parts.{listed_types}
 use Rattle.tm_types.proofs.literals.declared.declared_numbers.Goals as goal
 
 pub returns : goal.returns

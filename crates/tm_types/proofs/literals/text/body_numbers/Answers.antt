@@ -1,8 +1,8 @@
-use Rattle.std.proofs.Common.{◌≡◌, List, rules, sym, ap, ◌∙◌}
+use Rattle.std.proofs.Common.{rules, sym, ap, ◌∙◌}
 use Rattle.std.specs.List.{flat_map}
 use Rattle.std.proofs.lemmas.List.Folds.{flat_map-map}
 use Rattle.tm_scope.specs.Context.{context_of}
-use Rattle.tm_types.specs.Asked.{asked_of}
+use Rattle.tm_names.specs.Asked.{asked_of}
 use Rattle.tm_types.specs.Firsts.{first_of}
 use Rattle.tm_types.specs.Inner.Numbers.{asked_numbers_in}
 use Rattle.tm_types.proofs.literals.text.body_numbers.Goals as goal

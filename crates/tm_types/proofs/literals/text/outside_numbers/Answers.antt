@@ -1,4 +1,4 @@
-use Rattle.std.proofs.Common.{◌≡◌, Option, Some, unwrap_or, map, sym, ap, ◌∙◌}
+use Rattle.std.proofs.Common.{◌≡◌, Option, unwrap_or, map, sym, ap, ◌∙◌}
 use Rattle.std.specs.List.{flat_map}
 use Rattle.tm_syntax.specs.declared.tree.Template.{Template}
 use Rattle.tm_syntax.specs.Tree.{SpecTree, TemplateTree}

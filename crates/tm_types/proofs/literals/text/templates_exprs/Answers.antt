@@ -1,7 +1,6 @@
-use Rattle.std.proofs.Common.{◌≡◌, Some, get_or, slice_get, sym, ap, ◌∙◌, arith}
+use Rattle.std.proofs.Common.{ap, ◌∙◌, arith}
 use Rattle.std.specs.List.{flat_map}
 use Rattle.std.proofs.lemmas.List.{take_all}
-use Rattle.std.proofs.lemmas.Option.{slice_get-get_or}
 use Rattle.tm_base.specs.declared.place.Place.{Place}
 use Rattle.tm_syntax.specs.declared.tree.Template.{Template}
 use Rattle.tm_syntax.specs.Scopes.Parts.{template_exprs}
@@ -9,7 +8,7 @@ use Rattle.tm_syntax.specs.Tree.View.{spec_tree, template_tree}
 use Rattle.tm_syntax.specs.Faults.Literals.{asked_numbers}
 use Rattle.tm_types.specs.Firsts.{first_of}
 use Rattle.tm_types.proofs.TextExprs.{text_split}
-use Rattle.tm_types.proofs.FirstFaults.{first_more}
+use Rattle.tm_names.proofs.FirstFaults.{first_more}
 use Rattle.tm_types.proofs.literals.text.templates_exprs.Goals as goal
 
 pub loop-number-preserved : goal.loop-number-preserved
@@ -18,7 +17,8 @@ loop-number-preserved c =
     (λ (t : Template). flat_map asked_numbers (template_exprs (spec_tree c.args.names.now) (template_tree t)))
     c.args.templates.now c.loop-number.number c.index-templates-number.result c.loop-number.first
     c.in_ok-template_numbers.field-0 c.earlier_place-first.result (omega (arith, c.loop-number-test.true))
-    c.index-templates-number.is c.in_ok-template_numbers.ensures c.earlier_place-first.ensures.earlier c.loop-number.invariant
+    c.index-templates-number.is c.in_ok-template_numbers.ensures c.earlier_place-first.ensures.earlier
+    c.loop-number.invariant
 
 pub returns : goal.returns
 returns c =

@@ -2,7 +2,7 @@ use Rattle.std.proofs.Common.{ap, ◌∙◌}
 use Rattle.tm_syntax.specs.Scopes.Types.{own_type}
 use Rattle.tm_syntax.specs.Faults.Operands.{expr_faults, value_faults}
 use Rattle.tm_scope.specs.Context.{context_of}
-use Rattle.tm_types.specs.Asked.{asked_of}
+use Rattle.tm_names.specs.Asked.{asked_of}
 use Rattle.tm_types.specs.Firsts.{first_of}
 use Rattle.tm_types.proofs.mismatches.asked.asked_faults.Goals as goal
 

@@ -5,9 +5,9 @@ use Rattle.tm_syntax.specs.Tree.View.{body_tree, local_tree, stmt_trees}
 use Rattle.tm_syntax.specs.Scopes.Parts.{all_stmts}
 use Rattle.tm_scope.specs.Context.{context_of}
 use Rattle.tm_types.specs.Firsts.{first_of}
-use Rattle.tm_types.specs.Inner.LocalStmts.{declaration}
+use Rattle.tm_names.specs.LocalStmts.{declaration}
 use Rattle.tm_types.specs.Inner.StmtFaults.{stmt_faults}
-use Rattle.tm_types.proofs.ListedStmts.{flat_map-stmts_in}
+use Rattle.tm_names.proofs.ListedStmts.{flat_map-stmts_in}
 use Rattle.tm_types.proofs.mismatches.bodies.body_faults.Goals as goal
 
 pub returns : goal.returns

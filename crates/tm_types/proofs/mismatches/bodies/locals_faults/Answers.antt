@@ -4,7 +4,7 @@ use Rattle.tm_syntax.specs.Tree.{LocalTree}
 use Rattle.tm_syntax.specs.Tree.View.{local_tree}
 use Rattle.tm_scope.specs.Context.{context_of}
 use Rattle.tm_types.specs.Firsts.{first_of}
-use Rattle.tm_types.specs.Inner.LocalStmts.{declaration}
+use Rattle.tm_names.specs.LocalStmts.{declaration}
 use Rattle.tm_types.specs.Inner.StmtFaults.{stmt_faults}
 use Rattle.tm_types.proofs.mismatches.bodies.locals_faults.Goals as goal
 

@@ -3,7 +3,7 @@ use Rattle.tm_syntax.specs.Tree.View.{stmt_tree, stmt_trees}
 use Rattle.tm_syntax.specs.Scopes.Parts.{all_stmts}
 use Rattle.tm_scope.specs.Context.{context_of}
 use Rattle.tm_types.specs.Inner.StmtFaults.{stmt_faults}
-use Rattle.tm_types.proofs.ListedStmts.{first_of_listed}
+use Rattle.tm_types.proofs.ListedFaults.{first_of_listed}
 use Rattle.tm_types.proofs.mismatches.bodies.stmts_faults.Goals as goal
 
 pub returns : goal.returns

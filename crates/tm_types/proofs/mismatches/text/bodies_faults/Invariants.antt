@@ -10,5 +10,6 @@ use Rattle.tm_types.proofs.mismatches.text.bodies_faults.Given as goal
 abbrev pub invariant-loop-number : goal.invariant-loop-number
 invariant-loop-number l =
     l.first
-    ≡ first_of (flat_map (λ (t : Template). flat_map body_faults (template_bodies (spec_tree l.names) (template_tree t)))
+    ≡ first_of (flat_map (λ (t : Template). flat_map body_faults
+    (template_bodies (spec_tree l.names) (template_tree t)))
     (take l.number l.templates))

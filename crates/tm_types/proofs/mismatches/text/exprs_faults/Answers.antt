@@ -7,7 +7,7 @@ use Rattle.tm_syntax.specs.Scopes.Parts.{template_exprs}
 use Rattle.tm_syntax.specs.Tree.View.{spec_tree, template_tree}
 use Rattle.tm_syntax.specs.Faults.Mismatches.{asked_faults}
 use Rattle.tm_types.specs.Firsts.{first_of}
-use Rattle.tm_types.proofs.FirstFaults.{first_more}
+use Rattle.tm_names.proofs.FirstFaults.{first_more}
 use Rattle.tm_types.proofs.TextExprs.{text_split}
 use Rattle.tm_types.proofs.mismatches.text.exprs_faults.Goals as goal
 

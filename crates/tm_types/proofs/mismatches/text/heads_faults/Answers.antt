@@ -7,7 +7,7 @@ use Rattle.tm_syntax.specs.declared.tree.Template.{Template}
 use Rattle.tm_syntax.specs.Tree.View.{spec_tree, template_tree}
 use Rattle.tm_syntax.specs.Faults.Mismatches.{template_faults}
 use Rattle.tm_types.specs.Firsts.{first_of}
-use Rattle.tm_types.proofs.FirstFaults.{first_more}
+use Rattle.tm_names.proofs.FirstFaults.{first_more}
 use Rattle.tm_types.proofs.mismatches.text.heads_faults.Goals as goal
 
 pub loop-number-preserved : goal.loop-number-preserved

@@ -3,7 +3,7 @@ use Rattle.std.specs.List.{flat_map}
 use Rattle.std.proofs.lemmas.List.Folds.{flat_map-map}
 use Rattle.tm_base.specs.declared.place.Place.{Place}
 use Rattle.tm_syntax.specs.Faults.Mismatches.{body_faults}
-use Rattle.tm_types.specs.Bodies.{body_at}
+use Rattle.tm_names.specs.Bodies.{body_at}
 use Rattle.tm_types.specs.Firsts.{first_of}
 use Rattle.tm_types.proofs.mismatches.text.template_body_faults.Goals as goal
 

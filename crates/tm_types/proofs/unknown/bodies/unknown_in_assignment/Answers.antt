@@ -3,7 +3,7 @@ use Rattle.tm_syntax.specs.Tree.{assign}
 use Rattle.tm_syntax.specs.Tree.View.{expr_tree, value_tree}
 use Rattle.tm_syntax.specs.Scopes.Parts.{bare_targets, value_calls}
 use Rattle.tm_scope.specs.Context.{context_of}
-use Rattle.tm_types.specs.ScopeNames.{mark_of}
+use Rattle.tm_names.specs.ScopeNames.{mark_of}
 use Rattle.tm_types.proofs.UnknownPaths.{both_paths}
 use Rattle.tm_types.proofs.unknown.bodies.unknown_in_assignment.Goals as goal
 

@@ -8,10 +8,10 @@ use Rattle.tm_syntax.specs.Tree.View.{body_tree, local_tree, stmt_trees}
 use Rattle.tm_syntax.specs.Scopes.Parts.{all_stmts}
 use Rattle.tm_syntax.specs.Faults.Marks.{first_mark}
 use Rattle.tm_scope.specs.Context.{context_of}
-use Rattle.tm_types.specs.Parts.{listed_stmts}
-use Rattle.tm_types.specs.Inner.LocalStmts.{declaration}
+use Rattle.tm_names.specs.Parts.{listed_stmts}
+use Rattle.tm_names.specs.LocalStmts.{declaration}
 use Rattle.tm_types.specs.Inner.UnknownParts.{unknown_in_stmt}
-use Rattle.tm_types.proofs.ListedStmts.{flat_map-stmts_in}
+use Rattle.tm_names.proofs.ListedStmts.{flat_map-stmts_in}
 use Rattle.tm_types.proofs.unknown.bodies.unknown_in_body.Goals as goal
 
 pub returns : goal.returns

@@ -6,7 +6,7 @@ use Rattle.tm_syntax.specs.declared.tree.Stmt.{Stmt}
 use Rattle.tm_syntax.specs.Tree.View.{stmt_tree}
 use Rattle.tm_syntax.specs.Faults.Marks.{first_mark}
 use Rattle.tm_scope.specs.Context.{context_of}
-use Rattle.tm_types.specs.ScopeNames.{mark_of}
+use Rattle.tm_names.specs.ScopeNames.{mark_of}
 use Rattle.tm_types.specs.Inner.UnknownParts.{unknown_in_stmt}
 use Rattle.tm_types.proofs.unknown.bodies.unknown_in_listed.Given as goal
 

@@ -5,7 +5,7 @@ use Rattle.tm_syntax.specs.Tree.{LocalTree}
 use Rattle.tm_syntax.specs.Tree.View.{local_tree}
 use Rattle.tm_syntax.specs.Faults.Marks.{first_mark}
 use Rattle.tm_scope.specs.Context.{context_of}
-use Rattle.tm_types.specs.Inner.LocalStmts.{declaration}
+use Rattle.tm_names.specs.LocalStmts.{declaration}
 use Rattle.tm_types.specs.Inner.UnknownParts.{unknown_in_stmt}
 use Rattle.tm_types.proofs.unknown.bodies.unknown_in_locals.Goals as goal
 

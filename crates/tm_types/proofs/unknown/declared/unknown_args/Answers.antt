@@ -8,4 +8,5 @@ use Rattle.tm_types.proofs.unknown.declared.unknown_args.Goals as goal
 pub returns : goal.returns
 returns c =
     c.first_name_in.ensures
-    (λ (a : Ident). undeclared (sort_in (members (context_of c.args.site.now).template) a.text) a) (λ a r is. search rules)
+    (λ (a : Ident). undeclared (sort_in (members (context_of c.args.site.now).template) a.text) a)
+    (λ a r is. search rules)

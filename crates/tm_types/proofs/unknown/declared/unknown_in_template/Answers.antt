@@ -1,4 +1,4 @@
-use Rattle.std.proofs.Common.{◌≡◌, List, map, ap, ◌∙◌, sym}
+use Rattle.std.proofs.Common.{List, map, ap, ◌∙◌}
 use Rattle.std.specs.List.{flat_map}
 use Rattle.std.specs.Option.{option_to_list}
 use Rattle.tm_syntax.specs.declared.tree.InstanceDef.{InstanceDef}
@@ -12,7 +12,7 @@ use Rattle.tm_syntax.specs.Scopes.Declared.{text_sort}
 use Rattle.tm_syntax.specs.Faults.Marks.{first_mark}
 use Rattle.tm_syntax.specs.Faults.Names.{undeclared, unknown_in_instance, unknown_literal, unknown_type}
 use Rattle.tm_scope.specs.Context.{context_of}
-use Rattle.tm_types.specs.Parts.{listed_types}
+use Rattle.tm_names.specs.Parts.{listed_types}
 use Rattle.tm_types.proofs.unknown.declared.unknown_in_template.Goals as goal
 
 pub returns : goal.returns
@@ -21,7 +21,8 @@ returns c =
     let t : Template = c.args.template.now in
     c.earliest_of_four.ensures _ _ _ _
     (c.unknown_ports-in_ports.ensures
-    ∙ ap (λ (s : Spec). first_mark (flat_map (λ (p : Port). undeclared (text_sort (spec_tree s) p.template.text) p.template)
+    ∙ ap (λ (s : Spec). first_mark
+    (flat_map (λ (p : Port). undeclared (text_sort (spec_tree s) p.template.text) p.template)
     c.as_slice.result.now)) c.names.ensures
     ∙ ap (λ (ps : List Port). first_mark (flat_map (λ (p : Port). undeclared (text_sort at.spec p.template.text)
     p.template) ps)) c.as_slice.ensures.value)

@@ -7,5 +7,6 @@ use Rattle.tm_types.proofs.unknown.declared.unknown_ports.Goals as goal
 
 pub returns : goal.returns
 returns c =
-    c.first_name_in.ensures (λ (p : Port). undeclared (text_sort (spec_tree c.args.names.now) p.template.text) p.template)
+    c.first_name_in.ensures
+    (λ (p : Port). undeclared (text_sort (spec_tree c.args.names.now) p.template.text) p.template)
     (λ p r is. search rules)

@@ -8,8 +8,8 @@ use Rattle.tm_syntax.specs.declared.tree.TypeName.{TypeName}
 use Rattle.tm_syntax.specs.Tree.View.{spec_tree}
 use Rattle.tm_syntax.specs.Faults.Marks.{Mark, first_mark}
 use Rattle.tm_syntax.specs.Faults.Names.{unknown_type}
-use Rattle.tm_types.specs.ScopeNames.{mark_of}
-use Rattle.tm_types.proofs.FirstFaults.{first_more}
+use Rattle.tm_names.specs.ScopeNames.{mark_of}
+use Rattle.tm_names.proofs.FirstFaults.{first_more}
 use Rattle.tm_types.proofs.unknown.declared.unknown_types.Goals as goal
 
 pub loop-ty-preserved : goal.loop-ty-preserved

@@ -6,7 +6,7 @@ use Rattle.tm_syntax.specs.declared.tree.TypeName.{TypeName}
 use Rattle.tm_syntax.specs.Tree.View.{spec_tree}
 use Rattle.tm_syntax.specs.Faults.Marks.{first_mark}
 use Rattle.tm_syntax.specs.Faults.Names.{unknown_type}
-use Rattle.tm_types.specs.ScopeNames.{mark_of}
+use Rattle.tm_names.specs.ScopeNames.{mark_of}
 use Rattle.tm_types.proofs.unknown.declared.unknown_types.Given as goal
 
 abbrev pub invariant-loop-ty : goal.invariant-loop-ty

@@ -1,4 +1,4 @@
-use Rattle.std.proofs.Common.{◌≡◌, List, map, ap, sym, ◌∙◌}
+use Rattle.std.proofs.Common.{ap, ◌∙◌}
 use Rattle.std.specs.List.{flat_map}
 use Rattle.tm_syntax.specs.declared.tree.Spec.{Spec}
 use Rattle.tm_syntax.specs.Tree.{SpecTree}
@@ -16,5 +16,7 @@ returns c =
     (c.unknown_main.ensures ∙ ap (λ (s : Spec). first_mark (unknown_main (spec_tree s))) c.requires)
     (c.in_ok-in_heads.ensures ∙ ap (λ (s : Spec). first_mark
     (flat_map (unknown_in_template (spec_tree s)) (spec_tree s).templates)) c.requires)
-    (c.in_ok-in_exprs.ensures ∙ ap (λ (s : Spec). first_mark (flat_map unknown_in_expr (exprs (spec_tree s)))) c.requires)
-    (c.in_ok-in_bodies.ensures ∙ ap (λ (s : Spec). first_mark (flat_map unknown_in_body (bodies (spec_tree s)))) c.requires)
+    (c.in_ok-in_exprs.ensures
+    ∙ ap (λ (s : Spec). first_mark (flat_map unknown_in_expr (exprs (spec_tree s)))) c.requires)
+    (c.in_ok-in_bodies.ensures
+    ∙ ap (λ (s : Spec). first_mark (flat_map unknown_in_body (bodies (spec_tree s)))) c.requires)

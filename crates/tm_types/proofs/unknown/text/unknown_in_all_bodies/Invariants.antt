@@ -6,11 +6,12 @@ use Rattle.tm_syntax.specs.Tree.View.{spec_tree, template_tree}
 use Rattle.tm_syntax.specs.Scopes.Parts.{template_bodies}
 use Rattle.tm_syntax.specs.Faults.Marks.{first_mark}
 use Rattle.tm_syntax.specs.Faults.Names.{unknown_in_body}
-use Rattle.tm_types.specs.ScopeNames.{mark_of}
+use Rattle.tm_names.specs.ScopeNames.{mark_of}
 use Rattle.tm_types.proofs.unknown.text.unknown_in_all_bodies.Given as goal
 
 abbrev pub invariant-loop-number : goal.invariant-loop-number
 invariant-loop-number l =
     option_map mark_of l.first
-    ≡ first_mark (flat_map (λ (t : Template). flat_map unknown_in_body (template_bodies (spec_tree l.names) (template_tree t)))
+    ≡ first_mark (flat_map
+    (λ (t : Template). flat_map unknown_in_body (template_bodies (spec_tree l.names) (template_tree t)))
     (take l.number l.templates))

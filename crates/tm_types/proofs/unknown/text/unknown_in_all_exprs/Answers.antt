@@ -1,4 +1,4 @@
-use Rattle.std.proofs.Common.{◌≡◌, List, sym, ap, ◌∙◌, arith}
+use Rattle.std.proofs.Common.{List, ap, ◌∙◌, arith}
 use Rattle.std.specs.List.{flat_map}
 use Rattle.std.specs.Option.{option_map}
 use Rattle.std.proofs.lemmas.List.{take_all}
@@ -7,8 +7,8 @@ use Rattle.tm_syntax.specs.Tree.View.{spec_tree, template_tree}
 use Rattle.tm_syntax.specs.Scopes.Parts.{template_exprs}
 use Rattle.tm_syntax.specs.Faults.Marks.{Mark, first_mark}
 use Rattle.tm_syntax.specs.Faults.Names.{unknown_in_expr}
-use Rattle.tm_types.specs.ScopeNames.{mark_of}
-use Rattle.tm_types.proofs.FirstFaults.{first_more}
+use Rattle.tm_names.specs.ScopeNames.{mark_of}
+use Rattle.tm_names.proofs.FirstFaults.{first_more}
 use Rattle.tm_types.proofs.TextExprs.{text_split}
 use Rattle.tm_types.proofs.unknown.text.unknown_in_all_exprs.Goals as goal
 

@@ -1,8 +1,8 @@
-use Rattle.std.proofs.Common.{List, ap, ◌∙◌}
+use Rattle.std.proofs.Common.{ap, ◌∙◌}
 use Rattle.std.specs.List.{flat_map}
 use Rattle.tm_syntax.specs.Faults.Marks.{first_mark}
 use Rattle.tm_scope.specs.Context.{context_of}
-use Rattle.tm_types.specs.Asked.{all_asked}
+use Rattle.tm_names.specs.Asked.{all_asked}
 use Rattle.tm_types.specs.Inner.UnknownParts.{unknown_in_asked}
 use Rattle.tm_types.proofs.unknown.text.unknown_in_exprs.Goals as goal
 

@@ -5,7 +5,7 @@ use Rattle.tm_syntax.specs.declared.tree.Spec.{Spec}
 use Rattle.tm_syntax.specs.Tree.View.{spec_tree, template_tree}
 use Rattle.tm_syntax.specs.Faults.Marks.{first_mark}
 use Rattle.tm_syntax.specs.Faults.Names.{unknown_in_template}
-use Rattle.tm_types.specs.ScopeNames.{mark_of}
+use Rattle.tm_names.specs.ScopeNames.{mark_of}
 use Rattle.tm_types.proofs.unknown.text.unknown_in_head.Goals as goal
 
 pub unknown_in_template-requires : goal.unknown_in_template-requires

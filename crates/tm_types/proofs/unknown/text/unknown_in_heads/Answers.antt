@@ -1,4 +1,4 @@
-use Rattle.std.proofs.Common.{◌≡◌, List, sym, ap, ◌∙◌, arith}
+use Rattle.std.proofs.Common.{List, sym, ap, ◌∙◌, arith}
 use Rattle.std.specs.List.{flat_map}
 use Rattle.std.specs.Option.{option_map}
 use Rattle.std.proofs.lemmas.List.{take_all}
@@ -7,8 +7,8 @@ use Rattle.tm_syntax.specs.declared.tree.Template.{Template}
 use Rattle.tm_syntax.specs.Tree.View.{spec_tree, template_tree}
 use Rattle.tm_syntax.specs.Faults.Marks.{Mark, first_mark}
 use Rattle.tm_syntax.specs.Faults.Names.{unknown_in_template}
-use Rattle.tm_types.specs.ScopeNames.{mark_of}
-use Rattle.tm_types.proofs.FirstFaults.{first_more}
+use Rattle.tm_names.specs.ScopeNames.{mark_of}
+use Rattle.tm_names.proofs.FirstFaults.{first_more}
 use Rattle.tm_types.proofs.unknown.text.unknown_in_heads.Goals as goal
 
 pub loop-number-preserved : goal.loop-number-preserved
@@ -27,4 +27,5 @@ returns c =
     c.loop-number.invariant
     ∙ ap (λ (ts : List Template). first_mark (flat_map unknown ts))
     (take_all c.loop-number.number c.args.templates.now (omega (arith, c.loop-number-test.false)) ∙ c.requires)
-    ∙ ap first_mark (sym (flat_map-map (unknown_in_template (spec_tree c.args.names.now)) template_tree c.args.names.now.templates.items))
+    ∙ ap first_mark (sym (flat_map-map (unknown_in_template (spec_tree c.args.names.now)) template_tree
+    c.args.names.now.templates.items))

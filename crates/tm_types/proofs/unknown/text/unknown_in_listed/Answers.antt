@@ -5,11 +5,11 @@ use Rattle.std.proofs.lemmas.List.{take_all}
 use Rattle.std.proofs.lemmas.List.Folds.{flat_map-map}
 use Rattle.tm_syntax.specs.Faults.Marks.{Mark, first_mark}
 use Rattle.tm_scope.specs.Context.{context_of}
-use Rattle.tm_types.specs.Asked.{asked_of}
-use Rattle.tm_types.specs.ScopeNames.{mark_of}
+use Rattle.tm_names.specs.Asked.{asked_of}
+use Rattle.tm_names.specs.ScopeNames.{mark_of}
 use Rattle.tm_types.specs.Inner.UnknownParts.{unknown_in_asked}
-use Rattle.tm_types.specs.declared.parts.asked.Asked.{Asked}
-use Rattle.tm_types.proofs.FirstFaults.{first_more}
+use Rattle.tm_names.specs.declared.parts.asked.Asked.{Asked}
+use Rattle.tm_names.proofs.FirstFaults.{first_more}
 use Rattle.tm_types.proofs.unknown.text.unknown_in_listed.Goals as goal
 
 pub loop-e-preserved : goal.loop-e-preserved

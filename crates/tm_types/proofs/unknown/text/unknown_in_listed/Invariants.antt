@@ -3,10 +3,10 @@ use Rattle.std.specs.List.{flat_map}
 use Rattle.std.specs.Option.{option_map}
 use Rattle.tm_syntax.specs.Faults.Marks.{first_mark}
 use Rattle.tm_scope.specs.Context.{context_of}
-use Rattle.tm_types.specs.Asked.{asked_of}
-use Rattle.tm_types.specs.ScopeNames.{mark_of}
+use Rattle.tm_names.specs.Asked.{asked_of}
+use Rattle.tm_names.specs.ScopeNames.{mark_of}
 use Rattle.tm_types.specs.Inner.UnknownParts.{unknown_in_asked}
-use Rattle.tm_types.specs.declared.parts.asked.Asked.{Asked}
+use Rattle.tm_names.specs.declared.parts.asked.Asked.{Asked}
 use Rattle.tm_types.proofs.unknown.text.unknown_in_listed.Given as goal
 
 abbrev pub invariant-loop-e : goal.invariant-loop-e

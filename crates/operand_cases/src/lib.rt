@@ -1,0 +1,5 @@
+//! The bits that numbers need.
+#![tactic(auto)]
+
+#[cfg(test)]
+mod tests;

@@ -1,0 +1,17 @@
+pub mod AskedArgs
+pub mod BodyParts
+pub mod BodyScopes
+pub mod FirstFaults
+pub mod FirstTemplates
+pub mod ListSteps
+pub mod ListedBodies
+pub mod ListedStmts
+pub mod PathMeanings
+pub mod Repeats
+pub mod ScopeLists
+pub mod ScopeSteps
+pub mod SpelledNames
+pub mod StmtRows
+pub mod TaskViews
+pub mod Together
+pub mod TypeLists

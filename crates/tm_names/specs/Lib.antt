@@ -1,0 +1,10 @@
+pub mod Asked
+pub mod Bodies
+pub mod Inner
+pub mod LocalStmts
+pub mod Meanings
+pub mod Parts
+pub mod ScopeNames
+pub mod Sites
+pub mod Sorts
+pub mod TextScopes

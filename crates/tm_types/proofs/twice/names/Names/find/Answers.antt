@@ -1,7 +1,0 @@
-use Rattle.std.proofs.Common.{ap, ◌∙◌}
-use Rattle.std.specs.Option.{option_map}
-use Rattle.tm_types.specs.Sorts.{declared_of}
-use Rattle.tm_types.proofs.twice.names.Names.find.Goals as goal
-
-pub returns : goal.returns
-returns c = ap (option_map declared_of) (c.copied.ensures ∙ c.get.ensures.value)
