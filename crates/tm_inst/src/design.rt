@@ -1,0 +1,87 @@
+//! The design of a checked specification, phase by phase.
+ghost use Rattle.std.specs.Prelude.{◌≡◌, IfErr, IfOk, MatchResult, false};
+ghost use Rattle.tm_syntax.specs.declared.fault.Faulty as fault;
+ghost use Rattle.tm_syntax.specs.Tree.View.{spec_tree};
+ghost use Rattle.tm_syntax.specs.Design.View.{design_tree};
+ghost use Rattle.tm_syntax.specs.Faults.{HasTreeFault, IsTyped};
+ghost use Rattle.tm_scope.specs.Graph.{graph_of};
+ghost use Rattle.tm_counts.specs.TemplateOrders.{AreOrdered};
+ghost use Rattle.tm_inst.specs.Answer.{IsMemoryOr, IsSoundButAtoms, tells_atoms};
+ghost use Rattle.tm_inst.specs.Inner.Parts.{HasParts};
+ghost use Rattle.tm_inst.specs.ShortTexts.{IsOfShortText};
+
+use crate::calls::call_order_of;
+use crate::faults::template_cycle;
+use crate::parts::{Parts, list_parts};
+use std::alloc::Global;
+use tm_counts::{TemplateOrder, first_limit, template_order};
+use tm_scope::Scopes;
+use tm_syntax::design::Design;
+use tm_syntax::fault::FrontError;
+use tm_syntax::tree::Spec;
+use tm_syntax::typed::Typed;
+
+/// Makes the design of a checked specification, whose tree is that of a text of at most 1 MiB: its instances, variables
+/// and items, numbered.
+///
+/// `Faulty` is `F11`, the first template that holds itself, or else `F12`, the first limit that is not kept, in the
+/// order of the limits; the specification is dropped then. The limit on atoms, the last one, is not looked at. `Memory`
+/// is want of memory. `Ok` gives the design: apart from the limit on atoms, neither fault holds. Near linear in the
+/// text and in what is listed.
+pub fn instantiate(alloc: Global, typed: Typed) -> Result<Design, FrontError>
+    requires { IsOfShortText (spec_tree typed.spec) }
+    ensures tree { IfOk result (λ design. design.spec ≡ typed.spec) }
+    ensures sound { IfOk result (λ design. IsSoundButAtoms (design_tree design)) }
+    ensures faulty { IfErr result (IsMemoryOr (HasTreeFault (spec_tree typed.spec))) }
+
+    // Where there is such a fault, nothing else is told but want of memory.
+    ensures told { (f : fault.Faulty) → HasTreeFault (spec_tree typed.spec) f → tells_atoms f.detail ≡ false
+        → MatchResult result (λ _. ⊥) (IsMemoryOr (λ g. g ≡ f)) }
+{
+    let parts = parts_of(alloc, &typed.spec)?;
+    Ok(Design {
+        spec: typed.spec,
+        instances: parts.instances,
+        vars: parts.vars,
+        processes: parts.items.processes,
+        tasks: parts.items.tasks,
+        goals: parts.items.goals,
+        fairs: parts.items.fairs,
+    })
+}
+
+// What the design of a specification lists.
+fn parts_of(alloc: Global, spec: &Spec) -> Result<Parts, FrontError>
+    requires typed { IsTyped (spec_tree spec.now) }
+    requires short { IsOfShortText (spec_tree spec.now) }
+    ensures ok { IfOk result (HasParts (spec_tree spec.now)) }
+    ensures faulty { IfErr result (IsMemoryOr (HasTreeFault (spec_tree spec.now))) }
+{
+    let scopes = Scopes::new(alloc, spec)?;
+    match template_order(alloc, &scopes)? {
+        TemplateOrder::Cyclic(name) => Err(FrontError::Faulty(template_cycle(alloc, name)?)),
+        TemplateOrder::Ordered(graph, order) => {
+            ordered_parts(alloc, &scopes, graph.as_slice(), order.as_slice())
+        }
+    }
+}
+
+// The same, given an order of its templates, of which none holds itself.
+fn ordered_parts(
+    alloc: Global,
+    scopes: &Scopes,
+    graph: &[Vec<usize>],
+    order: &[usize],
+) -> Result<Parts, FrontError>
+    requires typed { IsTyped (spec_tree scopes.now) }
+    requires short { IsOfShortText (spec_tree scopes.now) }
+    requires ordered { AreOrdered (spec_tree scopes.now) (graph_of graph.now) order.now }
+    ensures ok { IfOk result (HasParts (spec_tree scopes.now)) }
+    ensures faulty { IfErr result (IsMemoryOr (HasTreeFault (spec_tree scopes.now))) }
+{
+    let calls = call_order_of(alloc, scopes)?;
+    match first_limit(alloc, scopes, graph, order, calls.as_slice())? {
+        Some(fault) => Err(FrontError::Faulty(fault)),
+        None => Ok(list_parts(alloc, scopes, graph, order, calls.as_slice())?),
+    }
+}

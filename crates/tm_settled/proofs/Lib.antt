@@ -1,0 +1,12 @@
+pub mod ConstantValues
+pub mod Dots
+pub mod FoundCells
+pub mod Frames
+pub mod Holders
+pub mod Indices
+pub mod Once
+pub mod Parts
+pub mod PathMeanings
+pub mod PathTypes
+pub mod SettledDesigns
+pub mod Sites
