@@ -1,0 +1,13 @@
+pub mod Along
+pub mod Apart
+pub mod Choices
+pub mod Ends
+pub mod Forms
+pub mod Joining
+pub mod Later
+pub mod Memories
+pub mod Merging
+pub mod Operands
+pub mod Puts
+pub mod Reading
+pub mod StepCells

@@ -1,0 +1,6 @@
+pub mod Inner
+pub mod Kept
+pub mod Made
+pub mod Merged
+pub mod Operators
+pub mod Valued
