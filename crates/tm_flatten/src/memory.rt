@@ -118,6 +118,16 @@ impl TermMemory {
         Ok(TermMemory { values, step })
     }
 
+    /// A copy, linear in the cells. `AllocError` is want of memory.
+    pub fn copied(&self, alloc: Global) -> Result<TermMemory, AllocError>
+        ensures { IfOk result (λ copy. copy ≡ self.now) }
+    {
+        Ok(TermMemory {
+            values: Vec::from_slice(alloc, &self.values)?,
+            step: self.step.copied()?,
+        })
+    }
+
     // The term in a cell, if there is one.
     fn find(&self, at: SiteBody, cell: CellNumber) -> Option<TermId>
         ensures { result ≡ found_in self.now at cell }

@@ -65,6 +65,27 @@ impl<'s> TermReader<'s> {
         TermReader { scope, scopes, at }
     }
 
+    /// The body, by whose tables cells are found.
+    pub fn scope(&self) -> &CellScope<'s>
+        ensures { result.now ≡ self.now }
+    {
+        &self.scope
+    }
+
+    /// The tables of the text.
+    pub fn scopes(&self) -> &'s Scopes<'s>
+        ensures { result.now ≡ self.now.tables.spec }
+    {
+        self.scopes
+    }
+
+    /// The instance and the body of its template.
+    pub fn at(&self) -> SiteBody
+        ensures { result ≡ self.now.at }
+    {
+        self.at
+    }
+
     // The length of the array that a path means, 0 where there is none.
     fn length(&self, path: &[Ident]) -> u64
         ensures { (c : Context) → context_at self.now ≡ Some c → result ≡ unwrap_or (array_length c path.now) 0 }

@@ -11,7 +11,8 @@ use Rattle.tm_syntax.specs.Tree.{InstanceTree, TemplateTree}
 use Rattle.tm_syntax.specs.Scopes.Names.{is_spelled, template_number, template_named, neighbor_template, template_along}
 use Rattle.tm_syntax.specs.Design.{DesignTree, InstanceNode, neighbor, IsDeclared, IsSubtree, subtree, IsForest, none_left, one_more, AreInstances}
 use Rattle.tm_syntax.specs.Design.Scope.{Site, site, site_along}
-use Rattle.tm_syntax.specs.Faults.{IsSound}
+use Rattle.tm_syntax.specs.declared.fault.FaultKind.TheVariants as kind
+use Rattle.tm_syntax.specs.Faults.{IsFree, IsSound}
 use Rattle.tm_scope.proofs.FirstNames.{first-filter_map, only-filter_map}
 use Rattle.tm_scope.proofs.Entries.{at-there, below_or_not, same_or_not}
 use Rattle.tm_scope.proofs.Positions.{find-position, position-below}
@@ -357,9 +358,12 @@ module _ (d : DesignTree) where
     all-fit are n s here =
         subtree-fits 0 (length d.instances) are.all (main-fits are) n (omega arith) (within n s here) s here
 
+-- where names are known and told apart, all that is asked fits, and the instances are those of the text, paths lead by it
+pub joined_leads : (d : DesignTree) → IsFree d.spec kind.UnknownName → IsFree d.spec kind.Twice →
+    IsFree d.spec kind.Mismatch → AreInstances d.spec d.instances → LeadsByText d
+joined_leads d known once matching instances = λ n s path there.
+    paths-lead d (all-fit d (record { known = known; once = once; matching = matching }) instances) path n s there
+
 -- in a design that keeps its facts paths lead by the text
 pub sound_leads : (d : DesignTree) → IsSound d → LeadsByText d
-sound_leads d sound = λ n s path there.
-    paths-lead d
-    (all-fit d (record { known = sound.known; once = sound.once; matching = sound.matching }) sound.numbered.instances)
-    path n s there
+sound_leads d sound = joined_leads d sound.known sound.once sound.matching sound.numbered.instances

@@ -1,14 +1,15 @@
 //! Laws of locations over their definitions alone.
 ghost use Rattle.std.specs.Prelude.{◌≡◌, ◌≤◌, ℕ, suc, List, [], Some, false, length};
 ghost use Rattle.tm_base.specs.declared.place.Place as placed;
+ghost use Rattle.tm_syntax.specs.declared.fault.FaultKind.TheVariants as kind;
 ghost use Rattle.tm_syntax.specs.declared.member.Member as numbered;
 ghost use Rattle.tm_syntax.specs.Tree.{BodyTree};
 ghost use Rattle.tm_syntax.specs.Scopes.Pauses.{body_pauses, call_depth};
-ghost use Rattle.tm_syntax.specs.Design.{DesignTree};
+ghost use Rattle.tm_syntax.specs.Design.{AreInstances, DesignTree};
 ghost use Rattle.tm_syntax.specs.Design.Locations.{body_locations};
 ghost use Rattle.tm_syntax.specs.Design.Scope.{Scope, Site, site};
 ghost use Rattle.tm_syntax.specs.Design.Work.{WorkItem};
-ghost use Rattle.tm_syntax.specs.Faults.{IsSound};
+ghost use Rattle.tm_syntax.specs.Faults.{IsFree, IsSound};
 ghost use Rattle.tm_scope.specs.CallOrder.{CoversTasks, IsCallOrder};
 ghost use Rattle.tm_locations.specs.Locations.{LeadsByText};
 
@@ -16,6 +17,13 @@ ghost use Rattle.tm_locations.specs.Locations.{LeadsByText};
 #[tactic(auto, using(crate::proofs::TextLeads::sound_leads))]
 pub fn sound_designs_lead_by_text()
     ensures { (d : DesignTree) → IsSound d → LeadsByText d }
+{}
+
+/// So it is where names are known and told apart, all that is asked fits, and the instances are those of the text.
+#[tactic(auto, using(crate::proofs::TextLeads::joined_leads))]
+pub fn joined_designs_lead_by_text()
+    ensures { (d : DesignTree) → IsFree d.spec kind.UnknownName → IsFree d.spec kind.Twice → IsFree d.spec kind.Mismatch
+        → AreInstances d.spec d.instances → LeadsByText d }
 {}
 
 /// A body that does not pause holds no location.

@@ -12,6 +12,7 @@ mod walk;
 
 pub use find::find_locations;
 pub use laws::{
-    bodies_that_do_not_pause_hold_no_location, locations_settle, sound_designs_lead_by_text,
+    bodies_that_do_not_pause_hold_no_location, joined_designs_lead_by_text, locations_settle,
+    sound_designs_lead_by_text,
 };
 pub use table::{LocationRow, Locations, RestNode, TrailNode, Work};

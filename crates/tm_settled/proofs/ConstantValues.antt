@@ -1,4 +1,5 @@
--- The value of an enum constant is one of its type, and its name is a word where those of all constants are.
+-- The value of an enum constant is one of its type, and its name is a word where those of all constants are. The values
+-- of a type fit its bits.
 use Rattle.std.proofs.Common.{◌≡◌, ℕ, zero, suc, ◌+◌, ◌-◌, ◌^◌, ◌<◌, ◌≤◌, Bool, true, false, cond, Option, None, Some, List, [], ◌∷◌, ◌++◌, ◌⊎◌, inl, inr, map, length, append_assoc, refl, sym, ap, ◌∙◌, subst, arith, true≢false}
 use Rattle.std.specs.Prelude.{not, slice_get, position, find, is_some, nat_lt, unwrap_or, ◌||◌}
 use Rattle.std.specs.Option.{option_map, option_and_then, option_map_or}
@@ -44,6 +45,14 @@ reached (suc count) low v n most below = by (nat_lt n (2 ^ low)) refl (reached c
 
 below_bits : (v n : ℕ) → v ≤ n → v < 2 ^ 64 → v < 2 ^ bits_of_number n
 below_bits v n most small = reached 63 1 v n most small
+
+-- a value of a type, if it is a number of 64 bits, is below 2 to the power of the type's bits
+pub value_below_bits : (spec : SpecTree) (ty : Ty) (v : ℕ) → v < type_size spec ty → v < 2 ^ 64 →
+    v < 2 ^ type_bits spec ty
+value_below_bits spec types.Bool v less small = less
+value_below_bits spec (types.Uint n) v less small = less
+value_below_bits spec (types.Enum name) v less small =
+    below_bits v (type_size spec (types.Enum name) - 1) (omega (arith, less)) small
 
 -- the value of a constant stands in the first enum that has it
 first_value : (name : List ℕ) (es : List EnumTree) →
@@ -132,10 +141,10 @@ module _ (spec : SpecTree) (name : Ident) (ty : Ty) (is : constant_type spec (na
       subst IsWordLike (sym (spelled name.text x.0 x.2))
       (holds_in IsWord c.enum.constants (holds_in EnumWords spec.enums words there.0) x.1)
 
-  -- its value is one of its type, where it has 64 bits
-  pub constant_below : repeats (text_names spec) ≡ [] → unwrap_or (constant_value spec name.text) 0 < 2 ^ 64 →
-      unwrap_or (constant_value spec name.text) 0 < 2 ^ type_bits spec ty
-  constant_below once small = by (position (is_spelled name.text) c.enum.constants) refl
+  -- its value is one of its type
+  pub constant_in_type : repeats (text_names spec) ≡ [] →
+      unwrap_or (constant_value spec name.text) 0 < type_size spec ty
+  constant_in_type once = by (position (is_spelled name.text) c.enum.constants) refl
     where
       c : HasConstant
       c = has_constant
@@ -159,16 +168,12 @@ module _ (spec : SpecTree) (name : Ident) (ty : Ty) (is : constant_type spec (na
           ap (λ o. option_map_or (λ (e : EnumTree). length e.constants) o 0) (first.1 ∙ ap Some (sym one))
 
       by : (o : Option ℕ) → position (is_spelled name.text) c.enum.constants ≡ o →
-          unwrap_or (constant_value spec name.text) 0 < 2 ^ type_bits spec ty
+          unwrap_or (constant_value spec name.text) 0 < type_size spec ty
       by None at =
           absurd (true≢false (sym there.1
           ∙ sym (is_some-position (is_spelled name.text) c.enum.constants) ∙ ap is_some at))
       by (Some k) at =
           let value : unwrap_or (constant_value spec name.text) 0 ≡ k = ap (λ o. unwrap_or o 0) (valued ∙ at) in
-          let few = position-below (is_spelled name.text) c.enum.constants k at in
-          let most : k ≤ length c.enum.constants - 1 = omega (arith, few) in
-          let fits : k < 2 ^ bits_of_number (length c.enum.constants - 1) =
-          below_bits k (length c.enum.constants - 1) most (subst (λ n. n < 2 ^ 64) value small) in
-          subst (λ n. n < 2 ^ type_bits spec ty) (sym value)
-          (subst (λ t. k < 2 ^ type_bits spec t) c.ty_is
-          (subst (λ n. k < 2 ^ bits_of_number (n - 1)) (sym size) fits))
+          let few : k < length c.enum.constants = position-below (is_spelled name.text) c.enum.constants k at in
+          subst (λ n. n < type_size spec ty) (sym value)
+          (subst (λ t. k < type_size spec t) c.ty_is (subst (λ n. k < n) (sym size) few))

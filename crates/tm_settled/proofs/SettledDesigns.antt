@@ -13,11 +13,11 @@ use Rattle.tm_syntax.specs.Scopes.Names.{is_spelled, number_of, type_of}
 use Rattle.tm_syntax.specs.Scopes.Context.{Context, Slot, Frame, frame_of, slot_named, slot_of, variable_of}
 use Rattle.tm_syntax.specs.Scopes.Types.{either_type, named_type, constant_type, own_type, array_length}
 use Rattle.tm_syntax.specs.Scopes.Declared.{declared, an_array, a_variable, var_sort, slots, members}
-use Rattle.tm_syntax.specs.Design.{DesignTree, member_path}
+use Rattle.tm_syntax.specs.Design.{DesignTree, IsDesign, member_path}
 use Rattle.tm_syntax.specs.Design.Scope.{Scope, Site, site, context, length_in}
 use Rattle.tm_syntax.specs.Design.Cells.{Cell, member_cell, cell, cell_type}
-use Rattle.tm_syntax.specs.Design.Sizes.{type_bits}
-use Rattle.tm_syntax.specs.Faults.{IsOfText, IsSound}
+use Rattle.tm_syntax.specs.Design.Sizes.{type_size}
+use Rattle.tm_syntax.specs.Faults.{IsOfText, IsSound, IsTyped}
 use Rattle.tm_syntax.specs.Faults.Operands.{is_valued}
 use Rattle.tm_typing.specs.HasType.{IsOfSort}
 use Rattle.tm_typing.proofs.Declaring.{same_spelling, alike}
@@ -30,9 +30,9 @@ use Rattle.tm_typing.proofs.Slots.{here}
 use Rattle.tm_typing.proofs.Sound.{checked}
 use Rattle.tm_typing.proofs.Words.{IsShort, VarWords, TemplateWords, EnumWords, text_words, constant_words}
 use Rattle.tm_locations.specs.Locations.{LeadsByText}
-use Rattle.tm_locations.proofs.TextLeads.{sound_leads}
+use Rattle.tm_locations.proofs.TextLeads.{joined_leads}
 use Rattle.tm_settled.specs.Settled.{constant_at, AreSettled}
-use Rattle.tm_settled.proofs.ConstantValues.{constant_word, constant_below}
+use Rattle.tm_settled.proofs.ConstantValues.{constant_word, constant_in_type, value_below_bits}
 use Rattle.tm_settled.proofs.Dots.{one_number}
 use Rattle.tm_settled.proofs.FoundCells.{is_site, found_type, found_there, none_there, own_there, no_own, cell_own, cell_member, IsMember, member_there, member_is}
 use Rattle.tm_settled.proofs.Frames.{is_frame, slot_declared, each_body_once}
@@ -43,16 +43,16 @@ use Rattle.tm_settled.proofs.PathTypes.{IsNumbered, plain_path, variable_type, e
 use Rattle.tm_settled.proofs.Sites.{site_in}
 
 -- what is known of a design
-record IsKnown (d : DesignTree) : Type 0 where
-  numbered : IsNumbered d.spec d.instances
-  vars : d.vars ≡ vars_of_all d.spec d.instances
-  named : IsNamed d.spec
-  leads : LeadsByText d
-  constants : AllByRecursion EnumWords d.spec.enums
+pub record IsKnown (d : DesignTree) : Type 0 where
+  pub numbered : IsNumbered d.spec d.instances
+  pub vars : d.vars ≡ vars_of_all d.spec d.instances
+  pub named : IsNamed d.spec
+  pub leads : LeadsByText d
+  pub constants : AllByRecursion EnumWords d.spec.enums
 
 module _ (d : DesignTree) (known : IsKnown d) (scope : Scope) (at : Site) (stands : site d scope.instance ≡ Some at)
   where
-    abbrev in_text : Context
+    abbrev pub in_text : Context
     in_text = here d.spec at.template scope.body
 
     template_there : In at.template d.spec.templates
@@ -69,7 +69,7 @@ module _ (d : DesignTree) (known : IsKnown d) (scope : Scope) (at : Site) (stand
         holds_in VarWords m.site.template.vars
         (holds_in TemplateWords d.spec.templates known.numbered.words inside).vars m.among
 
-    member_found : (names : List Ident) (w : VarTree) → variable_of in_text names ≡ Some w →
+    pub member_found : (names : List Ident) (w : VarTree) → variable_of in_text names ≡ Some w →
         IsMember d known.vars known.numbered scope at stands names w
     member_found names w e = member_there d known.vars known.numbered scope at stands known.leads names w e
 
@@ -137,21 +137,18 @@ module _ (d : DesignTree) (known : IsKnown d) (scope : Scope) (at : Site) (stand
         by None is valued = is
         by (Some n) is valued = contrary valued
 
-    constants_at : (names : List Ident) (ty : Ty) → own_type in_text (path names) ≡ Some ty →
-        IsOfSort is_valued in_text names → cell d scope names None ≡ None → constant_at d names < 2 ^ 64 →
-        constant_at d names < 2 ^ type_bits d.spec ty
-    constants_at names ty own fits none small =
-        by (slot_of in_text names) refl (variable_of in_text names) refl own
+    pub constants_at : (names : List Ident) (ty : Ty) → own_type in_text (path names) ≡ Some ty →
+        IsOfSort is_valued in_text names → cell d scope names None ≡ None → constant_at d names < type_size d.spec ty
+    constants_at names ty own fits none = by (slot_of in_text names) refl (variable_of in_text names) refl own
       where
-        by_name : (ns : List Ident) → constant_type d.spec ns ≡ Some ty → constant_at d ns < 2 ^ 64 →
-            constant_at d ns < 2 ^ type_bits d.spec ty
-        by_name [] is few = no_thing is
-        by_name (name ∷ next ∷ ns) is few = no_thing is
-        by_name (name ∷ []) is few = constant_below d.spec name ty is known.named.text_once few
+        by_name : (ns : List Ident) → constant_type d.spec ns ≡ Some ty → constant_at d ns < type_size d.spec ty
+        by_name [] is = no_thing is
+        by_name (name ∷ next ∷ ns) is = no_thing is
+        by_name (name ∷ []) is = constant_in_type d.spec name ty is known.named.text_once
 
         by : (s : Option Slot) → slot_of in_text names ≡ s → (w : Option VarTree) → variable_of in_text names ≡ w →
             either_type (either_type (option_map (λ (s : Slot). s.ty) s) (option_map (λ (v : VarTree). type_of v.ty) w))
-            (constant_type d.spec names) ≡ Some ty → constant_at d names < 2 ^ type_bits d.spec ty
+            (constant_type d.spec names) ≡ Some ty → constant_at d names < type_size d.spec ty
         by (Some s) slot w variable is =
             let c = own_there d known.vars known.numbered scope at stands names s slot in
             no_thing (sym none ∙ cell_own d known.vars known.numbered scope at stands names None c.0 c.1)
@@ -164,7 +161,7 @@ module _ (d : DesignTree) (known : IsKnown d) (scope : Scope) (at : Site) (stand
             ∙ cell_member d known.vars known.numbered scope at stands names None
             (no_own d known.vars known.numbered scope at stands names slot)
             ∙ member_is d known.vars known.numbered scope at stands names None w m ∙ c.1)
-        by None slot None variable is = by_name names is small
+        by None slot None variable is = by_name names is
 
     elements_at : (names : List Ident) (index : ℕ) (ty : Ty) (found : Cell) → named_type in_text names ≡ Some ty →
         cell d scope names (Some index) ≡ Some found → cell_type d found ≡ Some ty
@@ -243,12 +240,12 @@ module _ (d : DesignTree) (known : IsKnown d) (scope : Scope) (at : Site) (stand
         by (Some w) variable e = of_length w variable w.size refl e
 
 -- where the text of a scope stands
-record StandsAt (d : DesignTree) (scope : Scope) (c : Context) : Type 0 where
-  at : Site
-  is : site d scope.instance ≡ Some at
-  same : here d.spec at.template scope.body ≡ c
+pub record StandsAt (d : DesignTree) (scope : Scope) (c : Context) : Type 0 where
+  pub at : Site
+  pub is : site d scope.instance ≡ Some at
+  pub same : here d.spec at.template scope.body ≡ c
 
-stands_at : (d : DesignTree) (scope : Scope) (c : Context) → context d scope ≡ Some c → StandsAt d scope c
+pub stands_at : (d : DesignTree) (scope : Scope) (c : Context) → context d scope ≡ Some c → StandsAt d scope c
 stands_at d scope c e = by (site d scope.instance) refl e
   where
     by : (o : Option Site) → site d scope.instance ≡ o →
@@ -264,8 +261,9 @@ known_settled d known = record {
       (ap (λ c. own_type c (path names)) s.same ∙ own) there;
   constants = λ scope c names ty e own fits none small.
       let s = stands_at d scope c e in
-      constants_at d known scope s.at s.is names ty (ap (λ c. own_type c (path names)) s.same ∙ own)
-      (subst (λ c. IsOfSort is_valued c names) (sym s.same) fits) none small;
+      value_below_bits d.spec ty (constant_at d names)
+      (constants_at d known scope s.at s.is names ty (ap (λ c. own_type c (path names)) s.same ∙ own)
+      (subst (λ c. IsOfSort is_valued c names) (sym s.same) fits) none) small;
   elements = λ scope c names index ty found e own there.
       let s = stands_at d scope c e in
       elements_at d known scope s.at s.is names index ty found (ap (λ c. named_type c names) s.same ∙ own) there;
@@ -283,19 +281,27 @@ known_settled d known = record {
             let s = stands_at d scope c e in
             ends_at d known scope s.at s.is names size index (ap (λ c. array_length c names) s.same ∙ rest) past
 
--- so is each design that keeps its facts, of a text
-pub settled : (d : DesignTree) → IsSound d → IsOfText d.spec → AreSettled d
-settled d sound of =
-    let spec_named = named d.spec (checked d sound of) in
-    known_settled d (record {
+-- what is known of the design of a checked tree
+pub known_of : (d : DesignTree) → IsTyped d.spec → IsDesign d → IsKnown d
+known_of d typed numbered =
+    let spec_named = named d.spec typed in
+    record {
       numbered = record {
-        roots = sound.numbered.instances;
-        twice = sound.once;
+        roots = numbered.instances;
+        twice = typed.once;
         once = spec_named.once;
-        words = text_words d.spec of;
+        words = text_words d.spec typed.of_text;
       };
-      vars = sound.numbered.vars;
+      vars = numbered.vars;
       named = spec_named;
-      leads = sound_leads d sound;
-      constants = constant_words d.spec of;
-    })
+      leads = joined_leads d typed.known typed.once typed.matching numbered.instances;
+      constants = constant_words d.spec typed.of_text;
+    }
+
+-- so its cells are settled
+pub checked_settled : (d : DesignTree) → IsTyped d.spec → IsDesign d → AreSettled d
+checked_settled d typed numbered = known_settled d (known_of d typed numbered)
+
+-- and those of each design that keeps its facts, of a text
+pub settled : (d : DesignTree) → IsSound d → IsOfText d.spec → AreSettled d
+settled d sound of = checked_settled d (checked d sound of) sound.numbered

@@ -1,5 +1,5 @@
 //! The terms of parameters and locals that live for one step.
-ghost use Rattle.std.specs.Prelude.{◌≡◌, [], Some, OnOk, if◌then◌else◌};
+ghost use Rattle.std.specs.Prelude.{◌≡◌, [], IfOk, Some, OnOk, if◌then◌else◌};
 ghost use Rattle.tm_flatten.specs.Kept.{same_cell, step_term};
 ghost use Rattle.tm_term.specs.Table.{IsSound};
 ghost use Rattle.tm_flat.specs.Steps.{IsTerm};
@@ -61,6 +61,15 @@ impl StepTerms {
     {
         self.kept.insert(cell, id)?;
         Ok(())
+    }
+
+    /// A copy. `AllocError` is want of memory.
+    pub fn copied(&self) -> Result<StepTerms, AllocError>
+        ensures { IfOk result (λ copy. copy ≡ self.now) }
+    {
+        Ok(StepTerms {
+            kept: self.kept.clone()?,
+        })
     }
 
     // Gives a parameter or local that has no term yet the one that a truth chooses of two lists.

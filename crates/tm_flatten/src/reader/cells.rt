@@ -18,8 +18,8 @@ use tm_syntax::tree::Ident;
 use tm_term::{Term, TermId, Terms};
 
 impl<'s> TermReader<'s> {
-    // The term of a number of a type.
-    pub(crate) fn number_term(
+    /// The term of a number of a type.
+    pub fn number_term(
         &self,
         terms: &mut Terms,
         number: u64,

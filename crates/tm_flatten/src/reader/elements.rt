@@ -52,8 +52,8 @@ pub(crate) fn past_end(
 }
 
 impl<'s> TermReader<'s> {
-    // The term of the element of a number; where there is none it is 0.
-    fn element_at(
+    /// The term of the element of a number; where there is none it is 0. `text` is a buffer.
+    pub fn element_at(
         &self,
         terms: &mut Terms,
         memory: &TermMemory,

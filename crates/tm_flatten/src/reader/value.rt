@@ -260,9 +260,9 @@ impl<'s> TermReader<'s> {
         })
     }
 
-    // The terms of an element of an array.
+    /// The terms of an element of an array, by its path and its index: what `value` gives of it.
     #[cycle(value)]
-    fn element(
+    pub fn element(
         &self,
         terms: &mut Terms,
         memory: &TermMemory,
