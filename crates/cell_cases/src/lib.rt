@@ -1,0 +1,5 @@
+//! The cells that paths mean.
+#![tactic(auto)]
+
+#[cfg(test)]
+mod cells;

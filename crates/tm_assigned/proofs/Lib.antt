@@ -1,0 +1,4 @@
+pub mod Coded
+pub mod InputLevels
+pub mod Numbers
+pub mod Pieces

@@ -1,0 +1,17 @@
+use Rattle.std.proofs.Common.{refl, subst}
+use Rattle.tm_flows.specs.Flows.{FlowTerms, PutsAt}
+use Rattle.tm_flows.proofs.flow.Flow.with.Goals as goal
+
+pub returns : goal.returns
+returns c =
+    let g : FlowTerms = record {
+      guard = c.self.inside.guard;
+      memory = c.put.new.self;
+      position = c.self.inside.position;
+    } in
+    subst (λ (f : FlowTerms). PutsAt c.args.at c.args.cell c.args.id f g) c.self.view_is (record {
+      guard = refl;
+      position = refl;
+      memory = λ x t ty memory typed term. c.in_ok-put.ensures.memory x t ty memory typed term;
+      keeps = λ x apart u v m cell keeps there. c.in_ok-put.ensures.keeps x u v m cell apart keeps there;
+    })

@@ -1,0 +1,4 @@
+pub mod LeastValues
+pub mod Orders
+pub mod Partition
+pub mod Weights

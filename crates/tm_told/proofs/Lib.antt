@@ -1,0 +1,5 @@
+pub mod Bits
+pub mod Games
+pub mod Steps
+pub mod Tables
+pub mod Tasks

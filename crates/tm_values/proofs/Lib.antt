@@ -1,0 +1,12 @@
+pub mod Bits
+pub mod Forms
+pub mod Keeping
+pub mod Leaves
+pub mod Outside
+pub mod Putting
+pub mod Reading
+pub mod Sizes
+pub mod StepCells
+pub mod Stops
+pub mod Wholes
+pub mod Widths
