@@ -1,23 +1,27 @@
 //! The design of a checked specification, phase by phase.
-ghost use Rattle.std.specs.Prelude.{◌≡◌, IfErr, IfOk, MatchResult, false};
+ghost use Rattle.std.specs.Prelude.{◌≡◌, ◌≤◌, IfErr, IfOk, MatchResult, length};
 ghost use Rattle.tm_syntax.specs.declared.fault.Faulty as fault;
 ghost use Rattle.tm_syntax.specs.Tree.View.{spec_tree};
 ghost use Rattle.tm_syntax.specs.Design.View.{design_tree};
-ghost use Rattle.tm_syntax.specs.Faults.{HasTreeFault, IsTyped};
+ghost use Rattle.tm_syntax.specs.Scopes.Pauses.{call_depth};
+ghost use Rattle.tm_syntax.specs.Faults.{HasTreeFault, IsSound, IsTyped};
+ghost use Rattle.tm_scope.specs.CallOrder.{CoversTasks, IsCallOrder};
 ghost use Rattle.tm_scope.specs.Graph.{graph_of};
 ghost use Rattle.tm_counts.specs.TemplateOrders.{AreOrdered};
-ghost use Rattle.tm_inst.specs.Answer.{IsMemoryOr, IsSoundButAtoms, tells_atoms};
-ghost use Rattle.tm_inst.specs.Inner.Parts.{HasParts};
+ghost use Rattle.tm_inst.specs.Answer.{IsMemoryOr, IsWithinCounts};
+ghost use Rattle.tm_inst.specs.Inner.Parts.{HasSoundParts};
 ghost use Rattle.tm_inst.specs.ShortTexts.{IsOfShortText};
 
+use crate::atoms::with_few_atoms;
 use crate::calls::call_order_of;
 use crate::faults::template_cycle;
-use crate::parts::{Parts, list_parts};
+use crate::parts::{Parts, list_parts, pausing_of};
 use std::alloc::Global;
 use tm_counts::{TemplateOrder, first_limit, template_order};
 use tm_scope::Scopes;
 use tm_syntax::design::Design;
 use tm_syntax::fault::FrontError;
+use tm_syntax::member::Member;
 use tm_syntax::tree::Spec;
 use tm_syntax::typed::Typed;
 
@@ -25,17 +29,17 @@ use tm_syntax::typed::Typed;
 /// and items, numbered.
 ///
 /// `Faulty` is `F11`, the first template that holds itself, or else `F12`, the first limit that is not kept, in the
-/// order of the limits; the specification is dropped then. The limit on atoms, the last one, is not looked at. `Memory`
-/// is want of memory. `Ok` gives the design: apart from the limit on atoms, neither fault holds. Near linear in the
-/// text and in what is listed.
+/// order of the limits; the specification is dropped then. `Memory` is want of memory. `Ok` gives the design: neither
+/// fault holds. Near linear in the text, in what is listed and in the bodies of the instances, but for the heights of
+/// comparisons within comparisons.
 pub fn instantiate(alloc: Global, typed: Typed) -> Result<Design, FrontError>
     requires { IsOfShortText (spec_tree typed.spec) }
     ensures tree { IfOk result (λ design. design.spec ≡ typed.spec) }
-    ensures sound { IfOk result (λ design. IsSoundButAtoms (design_tree design)) }
+    ensures sound { IfOk result (λ design. IsSound (design_tree design)) }
     ensures faulty { IfErr result (IsMemoryOr (HasTreeFault (spec_tree typed.spec))) }
 
     // Where there is such a fault, nothing else is told but want of memory.
-    ensures told { (f : fault.Faulty) → HasTreeFault (spec_tree typed.spec) f → tells_atoms f.detail ≡ false
+    ensures told { (f : fault.Faulty) → HasTreeFault (spec_tree typed.spec) f
         → MatchResult result (λ _. ⊥) (IsMemoryOr (λ g. g ≡ f)) }
 {
     let parts = parts_of(alloc, &typed.spec)?;
@@ -54,7 +58,7 @@ pub fn instantiate(alloc: Global, typed: Typed) -> Result<Design, FrontError>
 fn parts_of(alloc: Global, spec: &Spec) -> Result<Parts, FrontError>
     requires typed { IsTyped (spec_tree spec.now) }
     requires short { IsOfShortText (spec_tree spec.now) }
-    ensures ok { IfOk result (HasParts (spec_tree spec.now)) }
+    ensures ok { IfOk result (HasSoundParts (spec_tree spec.now)) }
     ensures faulty { IfErr result (IsMemoryOr (HasTreeFault (spec_tree spec.now))) }
 {
     let scopes = Scopes::new(alloc, spec)?;
@@ -76,12 +80,35 @@ fn ordered_parts(
     requires typed { IsTyped (spec_tree scopes.now) }
     requires short { IsOfShortText (spec_tree scopes.now) }
     requires ordered { AreOrdered (spec_tree scopes.now) (graph_of graph.now) order.now }
-    ensures ok { IfOk result (HasParts (spec_tree scopes.now)) }
+    ensures ok { IfOk result (HasSoundParts (spec_tree scopes.now)) }
     ensures faulty { IfErr result (IsMemoryOr (HasTreeFault (spec_tree scopes.now))) }
 {
     let calls = call_order_of(alloc, scopes)?;
     match first_limit(alloc, scopes, graph, order, calls.as_slice())? {
         Some(fault) => Err(FrontError::Faulty(fault)),
-        None => Ok(list_parts(alloc, scopes, graph, order, calls.as_slice())?),
+        None => counted_parts(alloc, scopes, graph, order, calls.as_slice()),
     }
+}
+
+// The same, given an order of its tasks as well, where each limit that is counted over the text is kept.
+fn counted_parts(
+    alloc: Global,
+    scopes: &Scopes,
+    graph: &[Vec<usize>],
+    order: &[usize],
+    calls: &[Member],
+) -> Result<Parts, FrontError>
+    requires typed { IsTyped (spec_tree scopes.now) }
+    requires short_text { IsOfShortText (spec_tree scopes.now) }
+    requires within { IsWithinCounts (spec_tree scopes.now) }
+    requires templates { AreOrdered (spec_tree scopes.now) (graph_of graph.now) order.now }
+    requires ordered { IsCallOrder (spec_tree scopes.now) calls.now }
+    requires covers { CoversTasks (spec_tree scopes.now) calls.now }
+    requires short { length calls.now ≤ call_depth (spec_tree scopes.now) }
+    ensures ok { IfOk result (HasSoundParts (spec_tree scopes.now)) }
+    ensures faulty { IfErr result (IsMemoryOr (HasTreeFault (spec_tree scopes.now))) }
+{
+    let pausing = pausing_of(alloc, scopes, calls)?;
+    let parts = list_parts(alloc, scopes, graph, order, &pausing)?;
+    with_few_atoms(alloc, scopes, &pausing, parts)
 }

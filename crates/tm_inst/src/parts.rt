@@ -29,28 +29,24 @@ pub(crate) struct Parts {
 
 /// What the design of a specification lists that is within its limits. `AllocError` is want of memory.
 ///
-/// `graph` and `order` are what `template_order` of `tm_counts` answers, and `calls` what `call_order` of `tm_scope`
-/// does.
+/// `graph` and `order` are what `template_order` of `tm_counts` answers, and `pausing` are the tasks that may pause.
 pub(crate) fn list_parts(
     alloc: Global,
     scopes: &Scopes,
     graph: &[Vec<usize>],
     order: &[usize],
-    calls: &[Member],
+    pausing: &TaskSet,
 ) -> Result<Parts, AllocError>
     requires typed { IsTyped (spec_tree scopes.now) }
     requires short_text { IsOfShortText (spec_tree scopes.now) }
     requires within { IsWithinCounts (spec_tree scopes.now) }
     requires templates { AreOrdered (spec_tree scopes.now) (graph_of graph.now) order.now }
-    requires ordered { IsCallOrder (spec_tree scopes.now) calls.now }
-    requires covers { CoversTasks (spec_tree scopes.now) calls.now }
-    requires short { length calls.now ≤ call_depth (spec_tree scopes.now) }
+    requires pausing { ArePausing (spec_tree scopes.now) pausing.now }
     ensures { IfOk result (HasParts (spec_tree scopes.now)) }
 {
     let sizes = template_sizes(alloc, graph, order)?;
     let instances = list_instances(alloc, scopes, sizes.as_slice(), main_number(scopes))?;
-    let pausing = pausing(alloc, scopes, calls)?;
-    let vars = variables(alloc, scopes, &pausing, instances.as_slice())?;
+    let vars = variables(alloc, scopes, pausing, instances.as_slice())?;
     let items = list_items(alloc, scopes.spec(), instances.as_slice())?;
     Ok(Parts {
         instances,
@@ -70,8 +66,12 @@ fn main_number(scopes: &Scopes) -> usize
     }
 }
 
-// The tasks that may pause, from an order of all tasks.
-fn pausing(alloc: Global, scopes: &Scopes, calls: &[Member]) -> Result<TaskSet, AllocError>
+/// The tasks that may pause, from an order of all tasks. `AllocError` is want of memory.
+pub(crate) fn pausing_of(
+    alloc: Global,
+    scopes: &Scopes,
+    calls: &[Member],
+) -> Result<TaskSet, AllocError>
     requires ordered { IsCallOrder (spec_tree scopes.now) calls.now }
     requires covers { CoversTasks (spec_tree scopes.now) calls.now }
     requires short { length calls.now ≤ call_depth (spec_tree scopes.now) }

@@ -16,7 +16,7 @@ returns-in-Some-clause-faulty c =
     subst (HasTreeFault spec) (sym found.2)
     (limit_told spec c.requires.typed found.0 c.requires.ordered.acyclic found.1)
 
-pub list_parts-requires-clause-covers : goal.list_parts-requires-clause-covers
-list_parts-requires-clause-covers c =
+pub counted_parts-requires-clause-covers : goal.counted_parts-requires-clause-covers
+counted_parts-requires-clause-covers c =
     subst (λ (calls : List Member). CoversTasks (spec_tree c.args.scopes.now) calls)
     (sym c.as_slice-in-None.ensures.value) c.in_ok-calls.ensures.covers

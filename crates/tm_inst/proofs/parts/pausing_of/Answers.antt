@@ -1,5 +1,5 @@
 use Rattle.tm_syntax.specs.Tree.View.{spec_tree}
-use Rattle.tm_inst.proofs.parts.pausing.Goals as goal
+use Rattle.tm_inst.proofs.parts.pausing_of.Goals as goal
 
 pub returns : goal.returns
 returns c =

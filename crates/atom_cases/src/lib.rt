@@ -1,0 +1,5 @@
+//! Counts of the atoms of texts.
+#![tactic(auto)]
+
+#[cfg(test)]
+mod tests;

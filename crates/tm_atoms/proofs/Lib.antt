@@ -1,0 +1,16 @@
+pub mod BodyTables
+pub mod ExprAtoms
+pub mod Listing
+pub mod Noting
+pub mod Numbered
+pub mod Pools
+pub mod Ranking
+pub mod Resolving
+pub mod SameAtoms
+pub mod Settling
+pub mod Tables
+pub mod TaskSites
+pub mod WalkCalls
+pub mod WalkSteps
+pub mod WalkWeights
+pub mod Walking

@@ -1,0 +1,178 @@
+//! Finds the atoms of a design's conditions.
+ghost use Rattle.std.specs.Prelude.{◌≡◌, ℕ, IfOk, IfSome, List, OnOk, Option, length, map};
+ghost use Rattle.std.specs.List.{flat_map};
+ghost use Rattle.std.specs.Option.{option_copied, option_map};
+ghost use Rattle.tm_syntax.specs.Tree as tree;
+ghost use Rattle.tm_syntax.specs.Tree.View.{body_tree, expr_tree};
+ghost use Rattle.tm_syntax.specs.Design.{DesignTree};
+ghost use Rattle.tm_syntax.specs.Design.Atoms.{first_atoms, named_atoms, pool_atoms, process_atoms, task_atoms};
+ghost use Rattle.tm_syntax.specs.Design.Scope.{Scope};
+ghost use Rattle.tm_scope.specs.Cells.{HasCells, scope_of};
+ghost use Rattle.tm_atoms.specs.Atoms.{atom_of, listed};
+ghost use Rattle.tm_locations.specs.Locations.{LeadsByText};
+ghost use Rattle.tm_atoms.specs.Conditions.{HasConditions};
+ghost use Rattle.tm_atoms.specs.Orders.{HasCallOrder};
+ghost use Rattle.tm_atoms.specs.Inner.Bodies.{named_seen, seen};
+ghost use Rattle.tm_atoms.specs.Inner.Ranks.{IsRanked};
+ghost use Rattle.tm_atoms.specs.Inner.Walks.{HasWalked, IsIdle, IsRoot, seen_atoms, tables_of};
+
+use crate::atoms::Atoms;
+use crate::bodies::{Bodies, BodyAt};
+use crate::walk::Walk;
+use std::alloc::{AllocError, Global};
+use tm_scope::{BodyName, Cells, Scopes, SiteBody};
+use tm_syntax::design::{Instance, Item};
+use tm_syntax::tree::Expr;
+
+/// The items of a design whose conditions have atoms.
+#[derive(Clone, Copy)]
+pub struct Conditions<'i> {
+    pub goals: &'i [Item],
+    /// The declared fairness conditions.
+    pub fairs: &'i [Item],
+    pub processes: &'i [Item],
+    /// The controllable tasks.
+    pub tasks: &'i [Item],
+}
+
+/// The atoms of a design's conditions, each once, in order: those of the goals and of the declared fairness conditions,
+/// then those of the conditions in processes and in controllable tasks, with called bodies at the place of the call.
+/// Atoms that mention what lives for one step are left out.
+///
+/// `instances` are those of the cells. Where paths lead by the text, and calls are in the order that `call_order` of
+/// `tm_scope` finds, these are the atoms of the design's pool, and their number is the one that is limited.
+///
+/// Linear in the goals, fairness conditions, and bodies of the instances, but for the heights of comparisons within
+/// comparisons: a called body is walked once for each instance, however many calls reach it. `AllocError` is want of
+/// memory.
+pub fn list_atoms<'t>(
+    alloc: Global,
+    cells: &Cells,
+    scopes: &Scopes<'t>,
+    instances: &[Instance],
+    conditions: Conditions<'_>,
+) -> Result<Atoms<'t>, AllocError>
+    requires text { scopes.now ≡ cells.now.spec }
+    requires instances { instances.now ≡ cells.now.instances }
+    ensures atoms { IfOk result (λ t. (d : DesignTree) → HasCells cells.now d → HasConditions conditions.entry d →
+        LeadsByText d → HasCallOrder d.spec → map atom_of (listed t) ≡ pool_atoms d) }
+    ensures count { IfOk result (λ t. (d : DesignTree) → HasCells cells.now d → HasConditions conditions.entry d →
+        LeadsByText d → HasCallOrder d.spec → length (listed t) ≡ length (pool_atoms d)) }
+    ensures first { IfOk result (λ t. (d : DesignTree) → HasCells cells.now d → HasConditions conditions.entry d →
+        t.first ≡ first_atoms d) }
+{
+    let bodies = Bodies::new(cells, scopes, instances);
+    let mut walk = Walk::new(alloc);
+    note_goals(&mut walk, &bodies, conditions.goals)?;
+    note_fairs(&mut walk, &bodies, conditions.fairs)?;
+    let first = walk.pool.atoms.len();
+    note_processes(&mut walk, &bodies, conditions.processes)?;
+    note_tasks(&mut walk, &bodies, conditions.tasks)?;
+    Ok(Atoms {
+        atoms: walk.pool.atoms,
+        first,
+    })
+}
+
+// Notes the atoms of goals.
+fn note_goals<'t>(
+    walk: &mut Walk<'t>,
+    bodies: &Bodies<'_, 't>,
+    goals: &[Item],
+) -> Result<(), AllocError>
+    ensures { OnOk result ((d : DesignTree) → HasCells bodies.now d → IsIdle d (tables_of walk.old) →
+        HasWalked d (tables_of walk.old) (tables_of walk.new) (flat_map (named_atoms d (λ t. t.goals)) goals.now)) }
+{
+    for item in goals {
+        note_named(walk, bodies, item, bodies.goal(item))?;
+    }
+    Ok(())
+}
+
+// Notes the atoms of fairness conditions.
+fn note_fairs<'t>(
+    walk: &mut Walk<'t>,
+    bodies: &Bodies<'_, 't>,
+    fairs: &[Item],
+) -> Result<(), AllocError>
+    ensures { OnOk result ((d : DesignTree) → HasCells bodies.now d → IsIdle d (tables_of walk.old) →
+        HasWalked d (tables_of walk.old) (tables_of walk.new) (flat_map (named_atoms d (λ t. t.fairs)) fairs.now)) }
+{
+    for item in fairs {
+        note_named(walk, bodies, item, bodies.fair(item))?;
+    }
+    Ok(())
+}
+
+// Notes the atoms of processes.
+fn note_processes<'t>(
+    walk: &mut Walk<'t>,
+    bodies: &Bodies<'_, 't>,
+    processes: &[Item],
+) -> Result<(), AllocError>
+    ensures { OnOk result ((d : DesignTree) → HasCells bodies.now d → (rank : Scope → ℕ) → IsRanked d rank →
+        IsIdle d (tables_of walk.old) →
+        HasWalked d (tables_of walk.old) (tables_of walk.new) (flat_map (process_atoms d) processes.now)) }
+{
+    for item in processes {
+        note_body(walk, bodies, bodies.process(item))?;
+    }
+    Ok(())
+}
+
+// Notes the atoms of controllable tasks.
+fn note_tasks<'t>(
+    walk: &mut Walk<'t>,
+    bodies: &Bodies<'_, 't>,
+    tasks: &[Item],
+) -> Result<(), AllocError>
+    ensures { OnOk result ((d : DesignTree) → HasCells bodies.now d → (rank : Scope → ℕ) → IsRanked d rank →
+        IsIdle d (tables_of walk.old) →
+        HasWalked d (tables_of walk.old) (tables_of walk.new) (flat_map (task_atoms d) tasks.now)) }
+{
+    for item in tasks {
+        note_body(walk, bodies, bodies.task(item))?;
+    }
+    Ok(())
+}
+
+// Notes the atoms of a goal or a fairness condition, if it is there.
+fn note_named<'t>(
+    walk: &mut Walk<'t>,
+    bodies: &Bodies<'_, 't>,
+    item: &Item,
+    named: Option<&'t Expr>,
+) -> Result<(), AllocError>
+    ensures { OnOk result ((d : DesignTree) → HasCells bodies.now d →
+        (sort : tree.TemplateTree → List tree.NamedTree) →
+        option_map expr_tree (option_copied named.entry) ≡ named_seen d sort item.now →
+        IsIdle d (tables_of walk.old) →
+        HasWalked d (tables_of walk.old) (tables_of walk.new) (named_atoms d sort item.now)) }
+{
+    let outside = SiteBody {
+        instance: item.instance,
+        body: BodyName::Outside,
+    };
+    match named {
+        Some(e) => walk.note_condition(bodies, outside, e),
+        None => Ok(()),
+    }
+}
+
+// Notes the atoms of a body, if it is there.
+fn note_body<'t>(
+    walk: &mut Walk<'t>,
+    bodies: &Bodies<'_, 't>,
+    at: Option<BodyAt<'t>>,
+) -> Result<(), AllocError>
+    ensures { OnOk result ((d : DesignTree) → HasCells bodies.now d → (rank : Scope → ℕ) → IsRanked d rank →
+        (found : Option (Scope × tree.BodyTree)) →
+        option_map (λ b. seen (scope_of b.scope) (body_tree b.body.now)) at.entry ≡ found →
+        IfSome found (IsRoot d rank) → IsIdle d (tables_of walk.old) →
+        HasWalked d (tables_of walk.old) (tables_of walk.new) (seen_atoms d found)) }
+{
+    match at {
+        Some(at) => walk.walk_body(bodies, at.scope, at.body),
+        None => Ok(()),
+    }
+}
