@@ -1,0 +1,201 @@
+//! Elements of arrays as targets of assignments.
+ghost use Rattle.std.specs.Prelude.{◌≡◌, ◌^◌, ◌<◌, ◌≤◌, ℕ, IfOk, Some, min};
+ghost use Rattle.tm_syntax.specs.declared.design.Ty as resolved;
+ghost use Rattle.tm_syntax.specs.Tree as trees;
+ghost use Rattle.tm_syntax.specs.Tree.View.{expr_tree};
+ghost use Rattle.tm_scope.specs.Types.{ty_of};
+ghost use Rattle.tm_bits.specs.Arithmetic.{IsWidth};
+ghost use Rattle.tm_term.specs.Table.{IsKnown, IsSound, width_of};
+ghost use Rattle.tm_typing.specs.HasType.{IsSized};
+ghost use Rattle.tm_operands.specs.Typed.{HasTypeAt};
+ghost use Rattle.tm_flat.specs.Steps.{IsTerm};
+ghost use Rattle.tm_flatten.specs.Merged.{AreApart};
+ghost use Rattle.tm_flatten.specs.Valued.{CellHasType, bits_in};
+ghost use Rattle.tm_flows.specs.Flows.{AreEnds, IsFlow};
+ghost use Rattle.tm_flows.specs.Statements.{AreSettledCells, AsksOne, LeadsThrough};
+ghost use Rattle.tm_steps.specs.Elements.{PutsElement, PutsOne, PutsSome};
+
+use std::alloc::AllocError;
+use tm_bits::greatest;
+use tm_flatten::{TermReader, make};
+use tm_flows::{Ends, Flow, Operand, put, target_type, value_operand};
+use tm_operands::index_type;
+use tm_scope::ExprType;
+use tm_syntax::tree::{Expr, Ident};
+use tm_term::{Term, TermId, Terms};
+
+// How many elements an index of a width can number in an array of a length.
+fn reached(width: u8, length: u64) -> u64
+    requires { IsWidth width }
+    ensures { result ≡ min length (2 ^ width) }
+{
+    let most = greatest(width);
+    if length <= most { length } else { most + 1 }
+}
+
+// Values an element of an array where runs stand: those at which it overruns fail.
+fn element<'s>(
+    reader: &TermReader<'s>,
+    terms: &mut Terms,
+    ends: &mut Ends,
+    flow: Flow,
+    path: &[Ident],
+    index: &Expr,
+    asked: ExprType<'s>,
+    text: &mut Vec<u8>,
+) -> Result<Operand, AllocError>
+    requires typed { HasTypeAt reader.now (ty_of asked) (trees.element path.now (expr_tree index.now)) }
+    requires settled { AreSettledCells reader.now }
+    requires sound { IsSound terms.old }
+    requires flow { IsFlow reader.now.tables terms.old flow }
+    requires ends { AreEnds reader.now.tables terms.old ends.old }
+    ensures { IfOk result (AsksOne reader.now (ty_of asked.entry) (trees.element path.now (expr_tree index.now))
+        terms.old terms.new flow ends.old ends.new) }
+{
+    let valued = reader.element(terms, flow.memory(), path, index, asked, text)?;
+    ends.fail(terms, &flow, valued.overrun)?;
+    let goes = flow.without(terms, valued.overrun)?;
+    Ok(Operand {
+        flow: goes,
+        value: valued.value,
+    })
+}
+
+// Puts a term into the element of a number where another term is that number; elsewhere it stays as it is.
+fn put_one<'s>(
+    reader: &TermReader<'s>,
+    terms: &mut Terms,
+    flow: Flow,
+    path: &[Ident],
+    number: u64,
+    index: TermId,
+    id: TermId,
+    ty: ExprType<'s>,
+    text: &mut Vec<u8>,
+) -> Result<Flow, AllocError>
+    requires sized { IsSized (ty_of ty) }
+    requires typed { CellHasType reader.now path.now (Some number) (ty_of ty) }
+    requires settled { AreSettledCells reader.now }
+    requires apart { AreApart reader.now.tables }
+    requires sound { IsSound terms.old }
+    requires flow { IsFlow reader.now.tables terms.old flow }
+    requires known { IsKnown terms.old index }
+    requires below { number < 2 ^ width_of terms.old index }
+    requires term { IsTerm terms.old (bits_in reader.now (ty_of ty)) id }
+    ensures { IfOk result (PutsOne reader.now path.now number index id terms.old terms.new flow) }
+{
+    let element = reader.element_at(terms, flow.memory(), path, number, ty, text)?;
+    let width = terms.width(index);
+    let constant = make(terms, Term::Const(width, number))?;
+    let here = make(terms, Term::Eq(index, constant))?;
+    let value = make(terms, Term::Ite(here, id, element))?;
+    let goes = put(reader, flow, path, Some(number), value, text)?;
+    Ok(goes)
+}
+
+// Puts a term into the element that another term numbers, where it is one of so many, each of which the index can
+// number. Linear in the count.
+fn put_some<'s>(
+    reader: &TermReader<'s>,
+    terms: &mut Terms,
+    flow: Flow,
+    path: &[Ident],
+    index: TermId,
+    count: u64,
+    id: TermId,
+    ty: ExprType<'s>,
+    text: &mut Vec<u8>,
+) -> Result<Flow, AllocError>
+    requires sized { IsSized (ty_of ty) }
+    requires typed { (k : ℕ) → CellHasType reader.now path.now (Some k) (ty_of ty) }
+    requires settled { AreSettledCells reader.now }
+    requires apart { AreApart reader.now.tables }
+    requires sound { IsSound terms.old }
+    requires flow { IsFlow reader.now.tables terms.old flow }
+    requires known { IsKnown terms.old index }
+    requires within { count ≤ 2 ^ width_of terms.old index }
+    requires term { IsTerm terms.old (bits_in reader.now (ty_of ty)) id }
+    ensures { IfOk result (PutsSome reader.now path.now index count id terms.old terms.new flow) }
+{
+    let mut goes = flow;
+    for number in 0..count {
+        goes = put_one(reader, terms, goes, path, number, index, id, ty, text)?;
+    }
+    Ok(goes)
+}
+
+// Puts a term into the element that an index numbers, where it does not overrun.
+fn put_element<'s>(
+    reader: &TermReader<'s>,
+    terms: &mut Terms,
+    flow: Flow,
+    path: &[Ident],
+    index: &Expr,
+    id: TermId,
+    ty: ExprType<'s>,
+    text: &mut Vec<u8>,
+) -> Result<Flow, AllocError>
+    requires typed { HasTypeAt reader.now (ty_of ty) (trees.element path.now (expr_tree index.now)) }
+    requires settled { AreSettledCells reader.now }
+    requires apart { AreApart reader.now.tables }
+    requires sound { IsSound terms.old }
+    requires flow { IsFlow reader.now.tables terms.old flow }
+    requires term { IsTerm terms.old (bits_in reader.now (ty_of ty)) id }
+    ensures { IfOk result (PutsElement reader.now path.now (expr_tree index.now) id terms.old terms.new flow) }
+{
+    if let Expr::Number(number) = index {
+        let goes = put(
+            reader,
+            flow,
+            path,
+            Some(number.value.unwrap_or(0)),
+            id,
+            text,
+        )?;
+        return Ok(goes);
+    }
+    let length = reader.scope().array_length(path).unwrap_or(0);
+    let asked = index_type(reader.scope(), index);
+    let number = reader.value(terms, flow.memory(), index, asked, text)?;
+    let count = reached(terms.width(number.value), length);
+    let goes = put_some(reader, terms, flow, path, number.value, count, id, ty, text)?;
+    Ok(goes)
+}
+
+/// Leads runs through an assignment of a value to an element of an array. Linear in its length. `text` is a buffer.
+pub fn assigned_element(
+    reader: &TermReader<'_>,
+    terms: &mut Terms,
+    ends: &mut Ends,
+    flow: Flow,
+    path: &[Ident],
+    index: &Expr,
+    e: &Expr,
+    text: &mut Vec<u8>,
+) -> Result<Flow, AllocError>
+    requires typed { (ty : resolved.Ty) × HasTypeAt reader.now ty (trees.element path.now (expr_tree index.now))
+        × HasTypeAt reader.now ty (expr_tree e.now) }
+    requires settled { AreSettledCells reader.now }
+    requires apart { AreApart reader.now.tables }
+    requires sound { IsSound terms.old }
+    requires flow { IsFlow reader.now.tables terms.old flow }
+    requires ends { AreEnds reader.now.tables terms.old ends.old }
+    ensures { (first : ℕ) → IfOk result (λ g. LeadsThrough reader.now first
+        (trees.assign path.now (Some (expr_tree index.now)) (trees.plain (expr_tree e.now))) terms.old terms.new flow
+        ends.old (Some g) ends.new) }
+{
+    let asked = target_type(reader, path);
+    let within = element(reader, terms, ends, flow, path, index, asked, text)?;
+    let valued = value_operand(reader, terms, ends, within.flow, e, asked, text)?;
+    let goes = put_element(
+        reader,
+        terms,
+        valued.flow,
+        path,
+        index,
+        valued.value,
+        asked,
+        text,
+    )?;
+    Ok(goes)
+}

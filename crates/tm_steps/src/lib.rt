@@ -1,0 +1,12 @@
+//! Leads runs through further statements of a design as terms: assignments to elements and of choices, and branches.
+#![tactic(auto)]
+
+mod branches;
+mod choices;
+mod elements;
+mod stars;
+
+pub use branches::{Branches, parted};
+pub use choices::choice_number;
+pub use elements::assigned_element;
+pub use stars::{chosen, within};
