@@ -5,6 +5,9 @@ ghost use Rattle.tm_syntax.specs.Scopes.Pauses.{call_depth};
 ghost use Rattle.tm_scope.specs.CallOrder.{CoversTasks, IsCallOrder};
 ghost use Rattle.tm_scope.specs.Cells.{ArePausing};
 
+mod parameters;
+
+use parameters::check_parameters;
 use std::alloc::{AllocError, Global};
 use std::process::Abort;
 use std::test::Fail;
@@ -29,13 +32,14 @@ uint<8> asked;
 endtemplate
 template Dev(Os host)
 uint<8> data[2];
-process tx { uint<8> sent = 0; play(sent); }
+process tx { uint<8> sent = 0; play(sent, sent); }
 task controllable write(uint<8> value) { uint<8> seen = value; data[0] = seen; }
-task uncontrollable play(uint<8> tone) { pause; }
+task uncontrollable play(uint<8> tone, uint<8> loud) { pause; }
+procedure void mark(bool on, uint<8> at) { data[at] = 0; }
 endtemplate";
 
 /// The state variables, each with the instance that holds it.
-const VARS: [Kept; 5] = [
+const VARS: [Kept; 6] = [
     Kept {
         path: "os.asked",
         instance: 1,
@@ -54,6 +58,10 @@ const VARS: [Kept; 5] = [
     },
     Kept {
         path: "dev.play.tone",
+        instance: 2,
+    },
+    Kept {
+        path: "dev.play.loud",
         instance: 2,
     },
 ];
@@ -81,6 +89,8 @@ const TX: BodyName = BodyName::Process(0);
 const WRITE: BodyName = BodyName::Task(0);
 
 const PLAY: BodyName = BodyName::Task(1);
+
+const MARK: BodyName = BodyName::Task(2);
 
 const ROWS: [Row; 10] = [
     Row {
@@ -254,7 +264,7 @@ fn check_rows<R: AllocGlobal + Abort>(rt: &R, cells: &Cells) -> Result<(), Fail>
     Ok(())
 }
 
-/// The tables of a design lead each row's path to its cell.
+/// The tables of a design give each row's path its cell, and the parameters of each task theirs.
 fn check_tables<R: AllocGlobal + Abort>(
     rt: &R,
     spec: &Spec,
@@ -267,7 +277,8 @@ fn check_tables<R: AllocGlobal + Abort>(
     requires pausing { ArePausing (spec_tree spec.now) pausing.now }
 {
     let cells = Cells::new(rt.alloc(), spec, scopes, instances, vars, pausing)?;
-    check_rows(rt, &cells)
+    check_rows(rt, &cells)?;
+    check_parameters(rt, &cells, spec, instances)
 }
 
 fn check_text<R: AllocGlobal + Abort>(rt: &R, spec: &Spec) -> Result<(), Fail> {

@@ -1,4 +1,4 @@
-//! The cells that paths mean.
+//! The cells that paths and parameters mean.
 #![tactic(auto)]
 
 #[cfg(test)]
