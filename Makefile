@@ -3,7 +3,7 @@
 # make test: the gate.
 .PHONY: run build test
 
-EXAMPLE = examples/flag
+EXAMPLE = examples/transmitter
 PLAY = run $(CURDIR)/$(EXAMPLE)/spec $(CURDIR)/$(EXAMPLE)/driver.c $(CURDIR)/$(EXAMPLE)/choices
 
 run:

@@ -9,7 +9,7 @@ ghost use Rattle.tm_scope.specs.Cells.{ArePausing};
 use std::alloc::{AllocError, Global};
 use std::test::Fail;
 use tm_atoms::{Conditions, list_atoms};
-use tm_inst::instantiate;
+use tm_front::read_specification;
 use tm_lex::{MAX_TEXT_LEN, lex};
 use tm_parse::parse;
 use tm_scope::{Cells, Scopes, TaskSet, call_order, ordered_tasks_are_pausing, pausing_tasks};
@@ -17,7 +17,6 @@ use tm_syntax::design::Design;
 use tm_syntax::fault::FrontError;
 use tm_syntax::member::Member;
 use tm_syntax::tree::Spec;
-use tm_types::check_types;
 
 /// A text, and what is told of its atoms.
 struct Case {
@@ -112,16 +111,6 @@ fn read(alloc: Global, text: &[u8]) -> Result<Spec, FrontError>
     parse(alloc, text, tokens.as_slice())
 }
 
-/// The design of a text.
-fn built(alloc: Global, text: &[u8]) -> Result<Design, FrontError>
-    requires { length text.now ≤ MAX_TEXT_LEN }
-{
-    let tokens = lex(alloc, text)?;
-    let spec = parse(alloc, text, tokens.as_slice())?;
-    let typed = check_types(alloc, spec)?;
-    instantiate(alloc, typed)
-}
-
 /// The tasks of a text that may pause, from an order of all tasks.
 fn pausing_of(alloc: Global, scopes: &Scopes, calls: &[Member]) -> Result<TaskSet, AllocError>
     requires ordered { IsCallOrder (spec_tree scopes.now) calls.now }
@@ -173,8 +162,8 @@ fn answer(alloc: Global, text: &[u8]) -> Result<String, AllocError> {
     if text.len() > MAX_TEXT_LEN {
         return format!(in alloc; "long");
     }
-    match built(alloc, text) {
-        Ok(design) => told(alloc, &design.spec, &design),
+    match read_specification(alloc, text) {
+        Ok(read) => told(alloc, &read.design.spec, &read.design),
         Err(FrontError::Memory) => Err(AllocError),
         Err(FrontError::Faulty(fault)) => format!(in alloc; "{:?}", fault.kind),
     }
@@ -208,12 +197,12 @@ fn deep_text(alloc: Global) -> Result<String, AllocError> {
 fn deep_answer(alloc: Global) -> Result<String, FrontError> {
     let text = deep_text(alloc)?;
     let bytes = text.as_bytes();
-    let design = built(alloc, SHALLOW.as_bytes())?;
+    let shallow = read_specification(alloc, SHALLOW.as_bytes())?;
     if bytes.len() > MAX_TEXT_LEN {
         return Err(FrontError::Memory);
     }
     let spec = read(alloc, bytes)?;
-    Ok(told(alloc, &spec, &design)?)
+    Ok(told(alloc, &spec, &shallow.design)?)
 }
 
 #[test]

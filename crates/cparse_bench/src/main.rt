@@ -2,6 +2,7 @@
 #![tactic(auto)]
 
 mod reading;
+mod specification;
 mod task;
 
 use anyhow::{Context, Result};

@@ -1,21 +1,13 @@
 //! What a text gets from the reader of drivers.
 
+use crate::specification::design;
 use anyhow::{Context, Result};
 use std::alloc::Global;
 use tm_cparse::{BadDriver, ReadDriverError, read_driver};
-use tm_small::read_small;
-
-/// The specification over which drivers are read.
-const SPECIFICATION: &[u8] = b"template main
-bool a = false;
-task controllable set() { a = true; }
-process p { ...; }
-endtemplate
-";
 
 /// How many bytes and blocks a text has, or else its fault.
 pub fn reading(alloc: Global, text: &[u8]) -> Result<String> {
-    let design = read_small(alloc, SPECIFICATION)?.with_context(|| "no design")?;
+    let design = design(alloc)?.with_context(|| "no design")?;
     let bytes = text.len();
     match read_driver(alloc, &design, text) {
         Ok(blocks) => {

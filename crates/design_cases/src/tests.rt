@@ -1,5 +1,4 @@
 //! Designs and faults of texts. Expected lines are written by hand from the rules of numbering.
-ghost use Rattle.std.specs.Prelude.{◌≤◌, length};
 
 mod designs;
 mod faults;
@@ -10,12 +9,9 @@ use std::alloc::{AllocError, Global};
 use std::process::Abort;
 use std::test::Fail;
 use tm_base::Name;
-use tm_inst::instantiate;
-use tm_lex::{MAX_TEXT_LEN, lex};
-use tm_parse::parse;
+use tm_front::{MOST_BYTES, read_specification};
 use tm_syntax::design::{Design, Instance, Item, Var};
 use tm_syntax::fault::{Detail, Faulty, FrontError};
-use tm_types::check_types;
 
 /// A text, and what it gets.
 pub(crate) struct Case {
@@ -94,23 +90,13 @@ fn fault_told(alloc: Global, fault: &Faulty) -> Result<String, AllocError> {
     Ok(told)
 }
 
-/// The design of a text.
-fn built(alloc: Global, text: &[u8]) -> Result<Design, FrontError>
-    requires { length text.now ≤ MAX_TEXT_LEN }
-{
-    let tokens = lex(alloc, text)?;
-    let spec = parse(alloc, text, tokens.as_slice())?;
-    let typed = check_types(alloc, spec)?;
-    instantiate(alloc, typed)
-}
-
 /// What a text gets: its design, or its fault.
 fn answer(alloc: Global, text: &[u8]) -> Result<String, AllocError> {
-    if text.len() > MAX_TEXT_LEN {
+    if text.len() > MOST_BYTES {
         return format!(in alloc; "long");
     }
-    match built(alloc, text) {
-        Ok(design) => design_told(alloc, &design),
+    match read_specification(alloc, text) {
+        Ok(read) => design_told(alloc, &read.design),
         Err(FrontError::Memory) => format!(in alloc; "memory"),
         Err(FrontError::Faulty(fault)) => fault_told(alloc, &fault),
     }

@@ -198,7 +198,7 @@ fn nested(alloc: Global, count: usize) -> Result<Vec<u8>, AllocError> {
 #[test]
 fn judges_blocks(rt: HostRuntime) -> Result<(), Fail> {
     let alloc = rt.alloc();
-    let design = design(alloc)?;
+    let design = design(alloc)?.ok_or("no design")?;
     for row in &BLOCKS {
         let text = driver(alloc, row.text)?;
         let verdict = found(alloc, &design, text.as_slice())?;
@@ -211,7 +211,7 @@ fn judges_blocks(rt: HostRuntime) -> Result<(), Fail> {
 #[test]
 fn judges_expressions(rt: HostRuntime) -> Result<(), Fail> {
     let alloc = rt.alloc();
-    let design = design(alloc)?;
+    let design = design(alloc)?.ok_or("no design")?;
     for row in &EXPRESSIONS {
         let text = driver(alloc, row.text)?;
         let verdict = found(alloc, &design, text.as_slice())?;
@@ -224,7 +224,7 @@ fn judges_expressions(rt: HostRuntime) -> Result<(), Fail> {
 #[test]
 fn judges_texts(rt: HostRuntime) -> Result<(), Fail> {
     let alloc = rt.alloc();
-    let design = design(alloc)?;
+    let design = design(alloc)?.ok_or("no design")?;
     for row in &TEXTS {
         let verdict = found(alloc, &design, row.text)?;
         assert_eq!(rt; verdict.kind, row.want);
@@ -261,7 +261,7 @@ const DEPTHS: [Depth; 3] = [
 #[test]
 fn keeps_the_limits(rt: HostRuntime) -> Result<(), Fail> {
     let alloc = rt.alloc();
-    let design = design(alloc)?;
+    let design = design(alloc)?.ok_or("no design")?;
     for row in &DEPTHS {
         let text = nested(alloc, row.count)?;
         let verdict = found(alloc, &design, text.as_slice())?;
@@ -300,7 +300,7 @@ L5:
 #[test]
 fn reads_each_operator(rt: HostRuntime) -> Result<(), Fail> {
     let alloc = rt.alloc();
-    let design = design(alloc)?;
+    let design = design(alloc)?.ok_or("no design")?;
     match read_driver(alloc, &design, PRINTED) {
         Ok(blocks) => assert_eq!(rt; blocks.blocks().len(), 6),
         Err(_) => assert!(rt; false),

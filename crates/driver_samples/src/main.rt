@@ -6,6 +6,7 @@
 mod answers;
 mod draw;
 mod sample;
+mod specification;
 #[cfg(test)]
 mod tests;
 

@@ -1,28 +1,17 @@
 //! A drawn driver as text.
 use crate::answers::push_answers;
 use crate::draw::blocks;
+use crate::specification::design;
 use anyhow::{Context, Result};
 use rand_core::SeedableRng;
 use rand_pcg::Pcg32;
 use std::alloc::Global;
 use tm_cir::Blocks;
 use tm_cprint::print;
-use tm_small::read_small;
-
-/// The specification over which drivers are drawn.
-pub const SPECIFICATION: &[u8] = b"template main
-bool a = false;
-bool b = false;
-bool c = false;
-task controllable set() { b = true; }
-task controllable clear() { b = false; }
-process p { ...; ...; }
-endtemplate
-";
 
 /// The driver of a seed: its C text, a line `answers`, and a line for each of some states with the answer there.
 pub fn sample(alloc: Global, seed: u64) -> Result<String> {
-    let design = read_small(alloc, SPECIFICATION)?.with_context(|| "no design")?;
+    let design = design(alloc)?.with_context(|| "no design")?;
     let mut rng = Pcg32::seed_from_u64(seed);
     let blocks = Blocks::new(&design, blocks(alloc, &mut rng)?).with_context(|| "no driver")?;
     let mut text = String::from_utf8(print(alloc, &design, &blocks)?).with_context(|| "no text")?;

@@ -1,7 +1,7 @@
 //! Drivers that are drawn, printed and read back.
 
 use crate::draw::blocks;
-use crate::sample::SPECIFICATION;
+use crate::specification;
 use rand_core::SeedableRng;
 use rand_pcg::Pcg32;
 use std::alloc::{AllocError, Global};
@@ -9,7 +9,6 @@ use std::test::Fail;
 use tm_cir::Blocks;
 use tm_cparse::read_driver;
 use tm_cprint::print;
-use tm_small::read_small;
 use tm_syntax::design::Design;
 
 /// How many drivers are drawn.
@@ -51,7 +50,7 @@ fn is_read_back(alloc: Global, design: &Design, seed: u64) -> Result<bool, Alloc
 #[test]
 fn reads_what_is_printed(rt: HostRuntime) -> Result<(), Fail> {
     let alloc = rt.alloc();
-    let design = read_small(alloc, SPECIFICATION)?;
+    let design = specification::design(alloc)?;
     assert!(rt; design.is_some());
     if let Some(design) = design {
         for seed in 0..DRIVERS {

@@ -1,12 +1,14 @@
 //! Worked drivers, with the texts that they have.
+
 use std::alloc::{AllocError, Global};
 use std::test::Fail;
 use tm_bits::ShiftOperator;
 use tm_cir::block::{Comparison, Junction, NumOperator};
 use tm_cir::{Block, Blocks, Num64, Truth};
 use tm_cprint::print;
-use tm_small::read_small;
+use tm_front::read_specification;
 use tm_syntax::design::Design;
+use tm_syntax::fault::FrontError;
 
 const SPECIFICATION: &[u8] = b"template main
 bool a = false;
@@ -53,6 +55,15 @@ L2:
 \treturn;
 }
 ";
+
+/// The design of the specification.
+fn design(alloc: Global) -> Result<Option<Design>, AllocError> {
+    match read_specification(alloc, SPECIFICATION) {
+        Ok(read) => Ok(Some(read.design)),
+        Err(FrontError::Faulty(_)) => Ok(None),
+        Err(FrontError::Memory) => Err(AllocError),
+    }
+}
 
 /// The text of these blocks, if they fit the design.
 fn printed(alloc: Global, design: &Design, list: Vec<Block>) -> Result<Vec<u8>, AllocError> {
@@ -106,7 +117,7 @@ fn mixed(alloc: Global) -> Result<Vec<Block>, AllocError> {
 #[test]
 fn prints_the_worked_drivers(rt: HostRuntime) -> Result<(), Fail> {
     let alloc = rt.alloc();
-    let design = read_small(alloc, SPECIFICATION)?.ok_or("no design")?;
+    let design = design(alloc)?.ok_or("no design")?;
     let smallest = vec![in alloc; Block::Call(0, Vec::new(alloc))]?;
     let text = printed(alloc, &design, smallest)?;
     assert_eq!(rt; text.as_slice(), SMALLEST);

@@ -1,20 +1,16 @@
 //! First states of designs. Expected states are written by hand from the rules of the language.
-ghost use Rattle.std.specs.Prelude.{◌≤◌, IfOk, length};
 ghost use Rattle.tm_syntax.specs.Design.View.{design_tree};
 ghost use Rattle.tm_syntax.specs.Faults.{IsSound};
 
 use std::alloc::{AllocError, Global};
 use std::process::Abort;
 use std::test::Fail;
-use tm_inst::instantiate;
-use tm_lex::{MAX_TEXT_LEN, lex};
-use tm_parse::parse;
+use tm_front::{MOST_BYTES, read_specification};
 use tm_scope::Scopes;
 use tm_sem::SemError;
 use tm_states::first_state;
 use tm_syntax::design::Design;
 use tm_syntax::fault::FrontError;
-use tm_types::check_types;
 
 /// A text, choices, and what they give.
 struct Case {
@@ -95,17 +91,6 @@ const CASES: [Case; 9] = [
     },
 ];
 
-/// The design of a text.
-fn built(alloc: Global, text: &[u8]) -> Result<Design, FrontError>
-    requires { length text.now ≤ MAX_TEXT_LEN }
-    ensures { IfOk result (λ design. IsSound (design_tree design)) }
-{
-    let tokens = lex(alloc, text)?;
-    let spec = parse(alloc, text, tokens.as_slice())?;
-    let typed = check_types(alloc, spec)?;
-    instantiate(alloc, typed)
-}
-
 /// The state that choices give a design to begin with, as a line.
 fn begun(alloc: Global, design: &Design, choices: &[u64]) -> Result<String, AllocError>
     requires { IsSound (design_tree design.now) }
@@ -125,11 +110,11 @@ fn begun(alloc: Global, design: &Design, choices: &[u64]) -> Result<String, Allo
 /// What a text and choices give.
 fn answer(alloc: Global, case: &Case) -> Result<String, AllocError> {
     let text = case.text.as_bytes();
-    if text.len() > MAX_TEXT_LEN {
+    if text.len() > MOST_BYTES {
         return format!(in alloc; "long");
     }
-    match built(alloc, text) {
-        Ok(design) => begun(alloc, &design, case.choices),
+    match read_specification(alloc, text) {
+        Ok(read) => begun(alloc, &read.design, case.choices),
         Err(FrontError::Memory) => Err(AllocError),
         Err(FrontError::Faulty(_)) => format!(in alloc; "faulty"),
     }

@@ -1,92 +1,109 @@
 -- A command has one end.
-use Rattle.std.proofs.Common.{◌≡◌, ℕ, ◌<◌, ◌≤◌, Option, None, Some, Ok, Err, List, length, refl, sym, ap, subst, ◌∙◌}
-use Rattle.std.proofs.Common.{arith}
+use Rattle.std.proofs.Common.{◌≡◌, ℕ, ◌<◌, ◌≤◌, true, false, Option, None, Some, Ok, Err, List, length, refl, sym, ap}
+use Rattle.std.proofs.Common.{subst, ◌∙◌, arith}
+use Rattle.tm_syntax.specs.declared.fault.Faulty.{Faulty as Fault}
 use Rattle.tm_syntax.specs.Limits.{file_limit}
 use Rattle.tm_base.specs.Files.{IsLonger}
 use Rattle.tm_syntax.specs.Design.{DesignTree}
-use Rattle.tm_small.specs.SmallText.{IsSmallText}
-use Rattle.tm_small.proofs.Determined.{one_design}
+use Rattle.tm_syntax.specs.Tokens.{AreTokens}
+use Rattle.tm_syntax.specs.Faults.{FaultOf}
+use Rattle.tm_syntax.proofs.Tokens.{tokens_agree}
+use Rattle.tm_allowed.specs.Assuming.{has_assume}
 use Rattle.tm_cir.specs.Tree.{BlockTree}
-use Rattle.tm_cir.specs.SmallText.{IsSmallDriverText}
-use Rattle.tm_cir.proofs.DriverTexts.{one_driver}
+use Rattle.tm_cir.proofs.Text.Whole.{one_driver}
+use Rattle.tm_cparse.specs.declared.bad.BadDriver.{BadDriver}
+use Rattle.tm_cparse.specs.Faults.{IsDriverFile, HasFault}
+use Rattle.tm_cparse.proofs.Files.{file_no_fault}
+use Rattle.tm_cparse.proofs.OneFault.{one_fault}
 use Rattle.termite.specs.declared.ending.Ending.{Ending}
 use Rattle.termite.specs.declared.ending.Ending.TheVariants.{BadText}
-use Rattle.termite.specs.declared.ending.Bad.TheVariants.{Choices}
+use Rattle.termite.specs.declared.ending.Bad.TheVariants.{Driver, Choices}
 use Rattle.termite.specs.Script.{ScriptData}
-use Rattle.termite.specs.Words.{Command, run}
+use Rattle.termite.specs.Words.{Command, run, generate, migrate}
 use Rattle.termite.specs.Choices.{reading_of}
-use Rattle.termite.specs.Inputs.{TellsDesign, TellsNoDesign, TellsBlocks, TellsNoBlocks, TellsScript, TellsBadLine}
-use Rattle.termite.specs.Inputs.{NoDesign, unread_spec, NoBlocks, unread_driver, long_driver, NoScript, long_choices}
-use Rattle.termite.specs.Inputs.{bad_choices}
+use Rattle.tm_front.specs.Specification.{IsDesignText}
+use Rattle.termite.specs.Inputs.{TellsDesign, TellsFault, TellsAssume, TellsBlocks, TellsBadDriver}
+use Rattle.termite.specs.Inputs.{TellsScript, TellsBadLine, faulty_spec, NoDesign, no_specification, assuming_spec}
+use Rattle.termite.specs.Inputs.{NoBlocks, long_driver, bad_driver, NoScript, long_choices, bad_choices}
 use Rattle.termite.specs.Run.{Loads, Refused, no_design, no_blocks, no_script, RunEnds, refused, ended}
 use Rattle.termite.specs.Commands.{CommandEnds}
 use Rattle.termite.specs.Played.{Ends}
+use Rattle.termite.proofs.Migrating.{one_migrate_end}
 use Rattle.termite.proofs.OneEnd.{one_end}
-
--- a text within the limit is not longer
-not_longer : (told : Option (List ℕ)) (text : List ℕ) → told ≡ Some text → length text ≤ file_limit →
-    IsLonger told file_limit → ⊥
-not_longer told text is short long =
-    let longer : file_limit < length text = subst (λ (t : Option (List ℕ)). IsLonger t file_limit) is long in
-    omega arith
+use Rattle.termite.proofs.Telling.{not_longer, one_no_specification, one_text}
+use Rattle.termite.proofs.Texts.{one_design, design_no_fault, design_names}
 
 module _ (contents : List ℕ → Option (List ℕ)) where
-  -- a file tells one text
-  one_text : (name text other : List ℕ) → contents name ≡ Some text → contents name ≡ Some other → other ≡ text
-  one_text name text other p q = let same : Some other ≡ Some text = sym q ∙ p in cc
-
   told_design : (spec : List ℕ) (d e : DesignTree) → TellsDesign contents spec d → TellsDesign contents spec e → d ≡ e
   told_design spec d e p q =
-      one_design p.text d e p.spelled
-      (subst (λ (t : List ℕ). IsSmallText t e) (one_text spec p.text q.text p.told q.told) q.spelled)
+      one_design p.text p.tokens q.tokens d e p.is
+      (subst (λ (t : List ℕ). IsDesignText t q.tokens e) (one_text contents spec p.text q.text p.told q.told) q.is)
 
   told_blocks : (driver : List ℕ) (d : DesignTree) (bs cs : List BlockTree) → TellsBlocks contents driver d bs →
       TellsBlocks contents driver d cs → bs ≡ cs
   told_blocks driver d bs cs p q =
-      one_driver d p.text bs cs p.spelled
-      (subst (λ (t : List ℕ). IsSmallDriverText d t cs) (one_text driver p.text q.text p.told q.told) q.spelled)
+      one_driver d p.text bs cs p.is.is
+      (subst (λ (t : List ℕ). IsDriverFile d t cs) (one_text contents driver p.text q.text p.told q.told) q.is).is
 
   told_script : (choices : List ℕ) (d : DesignTree) (c e : ScriptData) → TellsScript contents choices d c →
       TellsScript contents choices d e → c ≡ e
   told_script choices d c e p q =
       let same : Ok c ≡ Ok e =
-      sym p.reads ∙ ap (reading_of d.processes) (sym (one_text choices p.text q.text p.told q.told)) ∙ q.reads in cc
+      sym p.reads ∙ ap (reading_of d.processes) (sym (one_text contents choices p.text q.text p.told q.told)) ∙ q.reads in cc
 
   told_line : (choices : List ℕ) (d : DesignTree) (n k : ℕ) → TellsBadLine contents choices d n →
       TellsBadLine contents choices d k → n ≡ k
   told_line choices d n k p q =
       let same : Err n ≡ Err k =
-      sym p.reads ∙ ap (reading_of d.processes) (sym (one_text choices p.text q.text p.told q.told)) ∙ q.reads in cc
+      sym p.reads ∙ ap (reading_of d.processes) (sym (one_text contents choices p.text q.text p.told q.told)) ∙ q.reads in cc
 
   no_bad_line : (choices : List ℕ) (d : DesignTree) (c : ScriptData) (n : ℕ) → TellsScript contents choices d c →
       TellsBadLine contents choices d n → ⊥
   no_bad_line choices d c n p q =
       let same : Ok c ≡ Err n =
-      sym p.reads ∙ ap (reading_of d.processes) (sym (one_text choices p.text q.text p.told q.told)) ∙ q.reads in cc
+      sym p.reads ∙ ap (reading_of d.processes) (sym (one_text contents choices p.text q.text p.told q.told)) ∙ q.reads in cc
 
   driver_short : (driver : List ℕ) (d : DesignTree) (bs : List BlockTree) → TellsBlocks contents driver d bs →
       IsLonger (contents driver) file_limit → ⊥
-  driver_short driver d bs p long = not_longer (contents driver) p.text p.told p.spelled.short long
+  driver_short driver d bs p long = not_longer (contents driver) p.text p.told p.is.short long
 
-  no_design_told : (spec : List ℕ) (d : DesignTree) → TellsNoDesign contents spec → TellsDesign contents spec d → ⊥
-  no_design_told spec d p q = p.none d
-      (subst (λ (t : List ℕ). IsSmallText t d) (one_text spec p.text q.text p.told q.told) q.spelled)
+  no_fault_told : (spec : List ℕ) (d : DesignTree) (f : Fault) → TellsFault contents spec f →
+      TellsDesign contents spec d → ⊥
+  no_fault_told spec d f p q =
+      design_no_fault p.text q.tokens d f
+      (subst (λ (t : List ℕ). IsDesignText t q.tokens d) (one_text contents spec p.text q.text p.told q.told) q.is) p.fault
 
-  no_blocks_told : (driver : List ℕ) (d : DesignTree) (bs : List BlockTree) → TellsNoBlocks contents driver d →
-      TellsBlocks contents driver d bs → ⊥
-  no_blocks_told driver d bs p q =
-      p.none bs (subst (λ (t : List ℕ). IsSmallDriverText d t bs) (one_text driver p.text q.text p.told q.told)
-      q.spelled)
+  no_assume_told : (spec : List ℕ) (d : DesignTree) → TellsAssume contents spec → TellsDesign contents spec d → ⊥
+  no_assume_told spec d p q =
+      let are : AreTokens p.text q.tokens =
+      subst (λ (t : List ℕ). AreTokens t q.tokens) (one_text contents spec p.text q.text p.told q.told) q.is.are_tokens in
+      let same : p.tokens ≡ q.tokens = tokens_agree p.text p.tokens q.tokens p.is.are_tokens are in
+      let both : true ≡ false = sym p.has ∙ ap has_assume same ∙ q.without in
+      cc
+
+  no_assume_faulty : (spec : List ℕ) (f : Fault) → TellsFault contents spec f → TellsAssume contents spec → ⊥
+  no_assume_faulty spec f p q =
+      design_no_fault p.text q.tokens q.design f
+      (subst (λ (t : List ℕ). IsDesignText t q.tokens q.design) (one_text contents spec p.text q.text p.told q.told) q.is) p.fault
+
+  no_bad_told : (driver : List ℕ) (spec : List ℕ) (d : DesignTree) (bs : List BlockTree) (bad : BadDriver) →
+      TellsDesign contents spec d → TellsBadDriver contents driver d bad → TellsBlocks contents driver d bs → ⊥
+  no_bad_told driver spec d bs bad design p q =
+      file_no_fault d p.text bs bad (design_names design.text design.tokens d design.is)
+      (subst (λ (t : List ℕ). IsDriverFile d t bs) (one_text contents driver p.text q.text p.told q.told) q.is) p.fault
 
   -- a file that tells a design is no reason to stop
   design_read : (spec : List ℕ) (d : DesignTree) (ending : Ending) → TellsDesign contents spec d →
       NoDesign contents spec ending → ⊥
-  design_read spec d ending design (unread_spec none) = no_design_told spec d none design
+  design_read spec d ending design (no_specification (faulty_spec {f = f} fault)) =
+      no_fault_told spec d f fault design
+  design_read spec d ending design (assuming_spec assume) = no_assume_told spec d assume design
 
-  blocks_read : (driver : List ℕ) (d : DesignTree) (bs : List BlockTree) (ending : Ending) →
-      TellsBlocks contents driver d bs → NoBlocks contents driver d ending → ⊥
-  blocks_read driver d bs ending blocks (unread_driver none) = no_blocks_told driver d bs none blocks
-  blocks_read driver d bs ending blocks (long_driver long) = driver_short driver d bs blocks long
+  blocks_read : (driver : List ℕ) (spec : List ℕ) (d : DesignTree) (bs : List BlockTree) (ending : Ending) →
+      TellsDesign contents spec d → TellsBlocks contents driver d bs → NoBlocks contents driver d ending → ⊥
+  blocks_read driver spec d bs ending design blocks (bad_driver {bad = bad} fault) =
+      no_bad_told driver spec d bs bad design fault blocks
+  blocks_read driver spec d bs ending design blocks (long_driver long) = driver_short driver d bs blocks long
 
   script_read : (choices : List ℕ) (d : DesignTree) (c : ScriptData) (ending : Ending) →
       TellsScript contents choices d c → NoScript contents choices d ending → ⊥
@@ -97,14 +114,23 @@ module _ (contents : List ℕ → Option (List ℕ)) where
   -- a file is refused for one cause
   one_no_design : (spec : List ℕ) (one other : Ending) → NoDesign contents spec one → NoDesign contents spec other →
       one ≡ other
-  one_no_design spec one other (unread_spec p) (unread_spec q) = refl
+  one_no_design spec one other (no_specification p) (no_specification q) =
+      one_no_specification contents spec one other p q
+  one_no_design spec one other (no_specification (faulty_spec {f = f} p)) (assuming_spec q) =
+      absurd (no_assume_faulty spec f p q)
+  one_no_design spec one other (assuming_spec p) (no_specification (faulty_spec {f = f} q)) =
+      absurd (no_assume_faulty spec f q p)
+  one_no_design spec one other (assuming_spec p) (assuming_spec q) = refl
 
   one_no_blocks : (driver : List ℕ) (d : DesignTree) (one other : Ending) → NoBlocks contents driver d one →
       NoBlocks contents driver d other → one ≡ other
-  one_no_blocks driver d one other (unread_driver p) (unread_driver q) = refl
-  one_no_blocks driver d one other (unread_driver p) (long_driver q) =
+  one_no_blocks driver d one other (bad_driver {bad = bad} p) (bad_driver {bad = found} q) =
+      ap (λ (b : BadDriver). BadText driver (Driver b))
+      (one_fault d p.text bad found p.fault
+      (subst (λ (t : List ℕ). HasFault d t found) (one_text contents driver p.text q.text p.told q.told) q.fault))
+  one_no_blocks driver d one other (bad_driver p) (long_driver q) =
       absurd (not_longer (contents driver) p.text p.told p.short q)
-  one_no_blocks driver d one other (long_driver p) (unread_driver q) =
+  one_no_blocks driver d one other (long_driver p) (bad_driver q) =
       absurd (not_longer (contents driver) q.text q.told q.short p)
   one_no_blocks driver d one other (long_driver p) (long_driver q) = refl
 
@@ -140,7 +166,7 @@ module _ (contents : List ℕ → Option (List ℕ)) where
         Loads contents spec driver choices d bs c → Refused contents spec driver choices ending → ⊥
     not_refused d bs c ending loads (no_design none) = design_read spec d ending loads.design none
     not_refused d bs c ending loads (no_blocks {d = e} design none) =
-        blocks_read driver d bs ending loads.blocks (no_blocks_of d e ending loads.design design none)
+        blocks_read driver spec d bs ending loads.design loads.blocks (no_blocks_of d e ending loads.design design none)
     not_refused d bs c ending loads (no_script {d = e} design blocks none) =
         script_read choices d c ending loads.script (no_script_of d e ending loads.design design none)
 
@@ -155,11 +181,11 @@ module _ (contents : List ℕ → Option (List ℕ)) where
     one_refusal one other (no_blocks {d = d} design p) (no_blocks {d = e} others q) =
         one_no_blocks driver d one other p (no_blocks_of d e other design others q)
     one_refusal one other (no_blocks {d = d} design p) (no_script {d = e} {bs = bs} others blocks q) =
-        absurd (blocks_read driver d bs one (blocks_of d e bs design others blocks) p)
+        absurd (blocks_read driver spec d bs one design (blocks_of d e bs design others blocks) p)
     one_refusal one other (no_script {d = d} design blocks p) (no_design q) =
         absurd (design_read spec d other design q)
     one_refusal one other (no_script {d = d} {bs = bs} design blocks p) (no_blocks {d = e} others q) =
-        absurd (blocks_read driver d bs other blocks (no_blocks_of d e other design others q))
+        absurd (blocks_read driver spec d bs other design blocks (no_blocks_of d e other design others q))
     one_refusal one other (no_script {d = d} design blocks p) (no_script {d = e} others more q) =
         one_no_script choices d one other p (no_script_of d e other design others q)
 
@@ -202,3 +228,6 @@ module _ (contents : List ℕ → Option (List ℕ)) where
   one_command_end None text other_text one other p q = p.1 ∙ sym q.1
   one_command_end (Some (run spec driver choices)) text other_text one other p q =
       one_run_end spec driver choices text other_text one other p q
+  one_command_end (Some (generate registers out)) text other_text one other p q = p.1 ∙ sym q.1
+  one_command_end (Some (migrate spec cert out)) text other_text one other p q =
+      one_migrate_end contents spec cert one other p.1 q.1

@@ -1,7 +1,7 @@
 -- What holds while the choices are played.
 use Rattle.std.proofs.Common.{◌≡◌, ℕ, zero, suc, ◌+◌, ◌<◌, ◌≤◌, Bool, Option, None, Some, Result, Ok, Err, List, []}
 use Rattle.std.proofs.Common.{◌∷◌, ◌++◌, length, take, drop, get_or, min, sym, ap, subst, ◌∙◌, arith, append_assoc}
-use Rattle.std.specs.Prelude.{IsTrue, OnErr, slice_get}
+use Rattle.std.specs.Prelude.{IsTrue, OnOk, OnErr, slice_get}
 use Rattle.std.specs.List.{flat_map}
 use Rattle.std.proofs.lemmas.List.{append-nil, take_all, take_min, take-append-le}
 use Rattle.std.proofs.Math.Seq.{take-append-add}
@@ -56,6 +56,12 @@ pub on_err : {T E P : Type 0} (r : Result T E) → P → OnErr r P
 on_err (Ok x) p = tt
 on_err (Err e) p = p
 
+-- a line that was put is the same line
+pub ok_as : {T E : Type 0} (r : Result T E) (P : Type 0) (line text before now : List ℕ) → line ≡ text →
+    OnOk r (P → now ≡ before ++ line) → OnOk r (P → now ≡ before ++ text)
+ok_as (Ok x) P line text before now is put = λ p. put p ∙ ap (λ t. before ++ t) is
+ok_as (Err e) P line text before now is put = tt
+
 -- what was put of one line before an error was put of the same line
 pub err_as : {T E : Type 0} (r : Result T E) (P : Type 0) (line text before now : List ℕ) → line ≡ text →
     OnErr r (P → AppendsPrefix line before now) → OnErr r (P → AppendsPrefix text before now)
@@ -84,6 +90,12 @@ begun d bs c choices (Some p) begin begins is same =
     let at : p ≡ begin = cc in
     let here : Begins d choices (Some begin) = subst (λ q. Begins d choices (Some q)) at begins in
     reaches_first d bs c begin.state begin.goal (subst (λ cs. IsFirst d cs begin.state) same here.0) here.1 here.2.goal
+
+pub begun_position : (d : DesignTree) (choices : List ℕ) (p : Option Position) (begin : Position) →
+    Begins d choices p → p ≡ Some begin → IsPosition d 0 begin
+begun_position d choices None begin begins is = cc
+begun_position d choices (Some p) begin begins is =
+    let at : p ≡ begin = cc in subst (IsPosition d 0) at begins.2
 
 -- a step that leads on
 pub led_on : (d : DesignTree) (bs : List BlockTree) (c : ScriptData) (n : ℕ) (p : Position) (text : List ℕ)

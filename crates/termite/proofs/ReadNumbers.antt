@@ -7,7 +7,7 @@ use Rattle.std.specs.Str.{all_ascii_digits}
 use Rattle.std.proofs.lemmas.Bool.{lt-ltb}
 use Rattle.std.proofs.lemmas.Bool.Decides.{nat_tests}
 use Rattle.std.proofs.lemmas.List.{drop_all}
-use Rattle.termite.specs.Choices.{value_after, digits_after}
+use Rattle.termite.specs.Numbers.{value_after, digits_after}
 
 -- digits that follow make a number no smaller
 value_grows : (n : ℕ) (ds : List ℕ) → n ≤ value_after n ds

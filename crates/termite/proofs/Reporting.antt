@@ -10,11 +10,11 @@ use Rattle.termite.specs.declared.ending.Ending.{Ending}
 use Rattle.termite.specs.declared.ending.Failure.{Failure}
 use Rattle.termite.specs.declared.ending.Failure.TheVariants.{ReadFault, WriteFault, Memory}
 use Rattle.termite.specs.Words.{Command}
-use Rattle.termite.specs.World.{FilesData, SinkData, sink_data, OnlyReads}
+use Rattle.termite.specs.World.{FilesData, SinkData, sink_data}
 use Rattle.termite.specs.Commands.{read_names, IsCommandPart, MayEnd}
 use Rattle.termite.specs.Report.{ending_text, failure_text, outcome_text}
 use Rattle.termite.specs.Headline.{AreTold, HasCause, IsComplete, IsShown, IsLongShown, whole_report, fault_report}
-use Rattle.termite.specs.Headline.{part_report, IsCut, Takes, Reports, EndsWithLines}
+use Rattle.termite.specs.Headline.{write_report, part_report, IsCut, Takes, Reports, EndsWithLines, Leaves, KeepsFiles}
 use Rattle.termite.specs.Inner.Stopping.{IsSinkFailure}
 use Rattle.termite.specs.Inner.Obeying.{PutBefore, Obeys}
 use Rattle.termite.proofs.Completing.{one_command_end}
@@ -28,10 +28,10 @@ pub record Keeps (command : Option Command) (old new : FilesData) (out after : S
   pub complete : IsComplete old command outcome
   pub possible : IfOk outcome (MayEnd command)
   pub long : IfOk outcome (IsLongShown old new)
-  pub fault : IfErr outcome (IsShown (read_names command) old new out after)
+  pub fault : IfErr outcome (IsShown command old new out after)
   pub report : Reports command old new out after outcome
   pub last_line : EndsWithLines out after outcome
-  pub files : OnlyReads old new
+  pub files : KeepsFiles command old new outcome
 
 rose_on : (last : Option ℕ) (a b c : ℕ) → b ≤ c → Rose last a b → Rose last a c
 rose_on last a b c le rose = omega arith
@@ -42,17 +42,17 @@ put_nothing mid now cut = cut.1 ∙ ap (λ t. mid ++ t) (take_all cut.0 [] (omeg
 
 module _ (command : Option Command) (old new : FilesData) {B : Type 0} (O : SinkGhosts B) (x y z : B) where
   shown_on : (failure : Failure) → O.faults y ≤ O.faults z →
-      IsShown (read_names command) old new (sink_data O x) (sink_data O y) failure →
-      IsShown (read_names command) old new (sink_data O x) (sink_data O z) failure
-  shown_on (WriteFault name) le shown =
-      (shown.0, rose_on O.last_count (O.faults x) (O.faults y) (O.faults z) le shown.1)
+      IsShown command old new (sink_data O x) (sink_data O y) failure →
+      IsShown command old new (sink_data O x) (sink_data O z) failure
+  shown_on (WriteFault []) le shown = rose_on O.last_count (O.faults x) (O.faults y) (O.faults z) le shown
+  shown_on (WriteFault (b ∷ bs)) le shown = shown
   shown_on (ReadFault name) le shown = shown
   shown_on Memory le shown = tt
 
   shown_later : (failure : Failure) → O.faults x ≤ O.faults y → IsSinkFailure (sink_data O y) (sink_data O z) failure →
-      IsShown (read_names command) old new (sink_data O x) (sink_data O z) failure
-  shown_later (WriteFault name) le failed =
-      (failed.0, rose_later O.last_count (O.faults x) (O.faults y) (O.faults z) le failed.1)
+      IsShown command old new (sink_data O x) (sink_data O z) failure
+  shown_later (WriteFault []) le failed = rose_later O.last_count (O.faults x) (O.faults y) (O.faults z) le failed.1
+  shown_later (WriteFault (b ∷ bs)) le failed = let none : b ∷ bs ≡ [] = failed.0 in cc
   shown_later (ReadFault name) le failed = elim failed [ ]
   shown_later Memory le failed = tt
 
@@ -67,14 +67,14 @@ module _ (command : Option Command) (old new : FilesData) {B : Type 0} (O : Sink
       (text, part_report so_put, subst (λ n. AppendsPrefix text (O.written x) n) (sym same) cut)
 
   takes_failure : (failure : Failure) →
-      IsShown (read_names command) old new (sink_data O x) (sink_data O y) failure →
+      IsShown command old new (sink_data O x) (sink_data O y) failure →
       PutBefore (IsCommandPart old.contents command) (O.written x) (O.written y) failure →
       O.written z ≡ O.written y ++ failure_text failure →
       Takes command old new (O.written x) (O.written z) (Err failure)
   takes_failure (ReadFault name) shown put all = all ∙ ap (λ m. m ++ failure_text (ReadFault name)) put
   takes_failure (WriteFault []) shown put all =
       part_stays put.0 put.1 put.2 (all ∙ append-nil (O.written y))
-  takes_failure (WriteFault (b ∷ bs)) shown put all = let none : b ∷ bs ≡ [] = shown.0 in cc
+  takes_failure (WriteFault (b ∷ bs)) shown put all = all ∙ ap (λ m. m ++ failure_text (WriteFault (b ∷ bs))) put
   takes_failure Memory shown put all = part_stays put.0 put.1 put.2 (all ∙ append-nil (O.written y))
 
   -- the lines that tell the outcome were put
@@ -99,7 +99,7 @@ module _ (command : Option Command) (old new : FilesData) {B : Type 0} (O : Sink
       (obeys.grows sink).0,
       lines_behind (obeys.grows sink).0 (ending_text ending) (obeys.grows sink).1 (lines sink),
     );
-    files = obeys.only_reads;
+    files = obeys.files;
   }
   keeps_whole (Err failure) obeys lines le = record {
     cause = λ told. tt;
@@ -112,11 +112,11 @@ module _ (command : Option Command) (old new : FilesData) {B : Type 0} (O : Sink
       (obeys.grows sink).0,
       lines_behind (obeys.grows sink).0 (failure_text failure) (obeys.grows sink).1 (lines sink),
     );
-    files = obeys.only_reads;
+    files = obeys.files;
   }
 
   cut_failure : (failure : Failure) →
-      IsShown (read_names command) old new (sink_data O x) (sink_data O y) failure →
+      IsShown command old new (sink_data O x) (sink_data O y) failure →
       PutBefore (IsCommandPart old.contents command) (O.written x) (O.written y) failure →
       AppendsPrefix (failure_text failure) (O.written y) (O.written z) →
       IsCut command old new (O.written x) (O.written z)
@@ -127,7 +127,11 @@ module _ (command : Option Command) (old new : FilesData) {B : Type 0} (O : Sink
   )
   cut_failure (WriteFault []) shown put cut =
       part_stays put.0 put.1 put.2 (put_nothing (O.written y) (O.written z) cut)
-  cut_failure (WriteFault (b ∷ bs)) shown put cut = let none : b ∷ bs ≡ [] = shown.0 in cc
+  cut_failure (WriteFault (b ∷ bs)) shown put cut = (
+    failure_text (WriteFault (b ∷ bs)),
+    write_report b bs shown.0 shown.1,
+    subst (λ m. AppendsPrefix (failure_text (WriteFault (b ∷ bs))) m (O.written z)) put cut,
+  )
   cut_failure Memory shown put cut = part_stays put.0 put.1 put.2 (put_nothing (O.written y) (O.written z) cut)
 
   cut_outcome : (outcome : Result Ending Failure) →
@@ -145,7 +149,8 @@ module _ (command : Option Command) (old new : FilesData) {B : Type 0} (O : Sink
   takes_cut : (failure : Failure) → IsSinkFailure (sink_data O y) (sink_data O z) failure →
       IsCut command old new (O.written x) (O.written z) →
       Takes command old new (O.written x) (O.written z) (Err failure)
-  takes_cut (WriteFault name) failed cut = cut
+  takes_cut (WriteFault []) failed cut = cut
+  takes_cut (WriteFault (b ∷ bs)) failed cut = let none : b ∷ bs ≡ [] = failed.0 in cc
   takes_cut Memory failed cut = cut
   takes_cut (ReadFault name) failed cut = elim failed [ ]
 
@@ -155,6 +160,12 @@ module _ (command : Option Command) (old new : FilesData) {B : Type 0} (O : Sink
   no_line_behind (WriteFault []) text failed all = all ∙ ap (λ t. O.written x ++ t) (sym (append-nil text))
   no_line_behind (WriteFault (b ∷ bs)) text failed all = let none : b ∷ bs ≡ [] = failed.0 in cc
   no_line_behind (ReadFault name) text failed all = elim failed [ ]
+
+  put_leaves : (failure : Failure) → IsSinkFailure (sink_data O y) (sink_data O z) failure →
+      Leaves command old new (Err failure)
+  put_leaves Memory failed = tt
+  put_leaves (WriteFault name) failed = tt
+  put_leaves (ReadFault name) failed = elim failed [ ]
 
   -- some first part of them was put
   pub keeps_cut : (outcome : Result Ending Failure) (failure : Failure) →
@@ -175,5 +186,5 @@ module _ (command : Option Command) (old new : FilesData) {B : Type 0} (O : Sink
           (lines_behind (obeys.grows sink).0 (take (cut sink).0 (outcome_text outcome)) (obeys.grows sink).1
           (cut sink).1),
     );
-    files = obeys.only_reads;
+    files = record { touched = obeys.files.touched; left = λ tells. put_leaves failure failed };
   }

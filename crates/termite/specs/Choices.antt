@@ -1,17 +1,18 @@
 -- The readings of a text of choices: a start line, and a line for each step.
-use Rattle.std.specs.Prelude.{◌≡◌, ℕ, ◌+◌, ◌-◌, ◌*◌, ◌^◌, Bool, true, false, ◌==◌, ◌||◌, ◌&&◌, not, nat_lt, Option}
+use Rattle.std.specs.Prelude.{◌≡◌, ℕ, Bool, true, false, ◌==◌, ◌||◌, not, Option}
 use Rattle.std.specs.Prelude.{None, Some, Result, Ok, Err, List, [], ◌∷◌, length, filter, position, codes}
 use Rattle.std.specs.Prelude.{if◌then◌else◌}
 use Rattle.std.specs.Bool.{then_some}
 use Rattle.std.specs.Option.{option_map, option_map_or, option_and_then}
 use Rattle.std.specs.List.{slice_split, enumerate_from}
-use Rattle.std.specs.Str.{bytes_eq, all_ascii_digits}
+use Rattle.std.specs.Str.{bytes_eq}
 use Rattle.std.specs.Str.Lines.{lines}
 use Rattle.tm_syntax.specs.declared.design.Item.{Item}
 use Rattle.termite.specs.declared.input.script.Actor.{Actor}
 use Rattle.termite.specs.declared.input.script.Actor.TheVariants.{Stutter, Process, Driver}
 use Rattle.termite.specs.declared.input.choices.ScriptError.{ScriptError}
 use Rattle.termite.specs.declared.input.choices.ScriptError.TheVariants.{BadLine, Memory}
+use Rattle.termite.specs.Numbers.{digits_after}
 use Rattle.termite.specs.Script.{TurnData, ScriptData}
 
 -- some digits, and no zero before others
@@ -19,15 +20,6 @@ abbrev pub is_shortest : List ℕ → Bool
 is_shortest [] = false
 is_shortest (d ∷ []) = true
 is_shortest (d ∷ e ∷ ds) = not (d == 48)
-
--- the number that decimal digits write behind those of n
-abbrev pub value_after : ℕ → List ℕ → ℕ
-value_after n [] = n
-value_after n (d ∷ ds) = value_after (n * 10 + (d - 48)) ds
-
--- the number that decimal digits write behind those of n, where it is below 2 ^ 64
-abbrev pub digits_after : ℕ → List ℕ → Option ℕ
-digits_after n ds = then_some (all_ascii_digits ds && nat_lt (value_after n ds) (2 ^ 64)) (value_after n ds)
 
 -- a number: decimal digits without a zero before them, below 2 ^ 64
 abbrev pub number_of : List ℕ → Option ℕ

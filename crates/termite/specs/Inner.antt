@@ -1,4 +1,5 @@
 pub mod Advance
 pub mod Obeying
+pub mod Reading
 pub mod Splitting
 pub mod Stopping

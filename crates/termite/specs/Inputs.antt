@@ -1,15 +1,28 @@
--- What files tell: a design, blocks or choices, or why they tell none.
-use Rattle.std.specs.Prelude.{◌≡◌, ℕ, ◌≤◌, Option, Some, Ok, Err, List, length, Contains}
-use Rattle.tm_syntax.specs.Limits.{file_limit}
+-- What files tell: a design, blocks, choices or a certificate, or why they tell none.
+use Rattle.std.specs.Prelude.{◌≡◌, ℕ, ◌≤◌, true, false, Option, Some, Ok, Err, List, length, Contains}
 use Rattle.tm_base.specs.Files.{IsLonger}
+use Rattle.tm_syntax.specs.declared.fault.Faulty.{Faulty as Fault}
+use Rattle.tm_syntax.specs.declared.token.Token.{Token}
+use Rattle.tm_syntax.specs.Limits.{specification_limit, file_limit}
+use Rattle.tm_syntax.specs.Tokens.{AreTokens}
+use Rattle.tm_syntax.specs.Grammar.Faults.{IsTree}
 use Rattle.tm_syntax.specs.Design.{DesignTree}
+use Rattle.tm_syntax.specs.Faults.{FaultOf, IsSound}
+use Rattle.tm_allowed.specs.Assuming.{has_assume}
+use Rattle.tm_front.specs.Specification.{IsDesignText}
 use Rattle.tm_cir.specs.Tree.{BlockTree}
-use Rattle.tm_small.specs.SmallText.{IsSmallText}
-use Rattle.tm_cir.specs.SmallText.{IsSmallDriverText}
+use Rattle.tm_cparse.specs.declared.bad.BadDriver.{BadDriver}
+use Rattle.tm_cparse.specs.Faults.{IsDriverFile, HasFault}
+use Rattle.tm_cert.specs.declared.cert.Cert.{Cert as Certificate}
+use Rattle.tm_cert.specs.declared.refusal.BadCert.{BadCert}
+use Rattle.tm_cert.specs.declared.shape.Kind.TheVariants.{Either}
+use Rattle.tm_cert.specs.CertValue.{IsCertText}
+use Rattle.tm_cert.specs.Judge.{judge_text}
+use Rattle.tm_shape.specs.Shape.{shape_of}
 use Rattle.termite.specs.declared.ending.Ending.{Ending}
-use Rattle.termite.specs.declared.ending.Ending.TheVariants.{BadText, Unbuilt}
+use Rattle.termite.specs.declared.ending.Ending.TheVariants.{Faulty, BadText, Unbuilt}
 use Rattle.termite.specs.declared.ending.Bad.{Bad}
-use Rattle.termite.specs.declared.ending.Bad.TheVariants.{TooLong, Choices}
+use Rattle.termite.specs.declared.ending.Bad.TheVariants.{TooLong, Driver, Cert, Choices}
 use Rattle.termite.specs.Script.{ScriptData}
 use Rattle.termite.specs.Choices.{reading_of}
 
@@ -18,30 +31,49 @@ abbrev pub Tells : (List ℕ → Option (List ℕ)) → List ℕ → List ℕ �
 Tells contents name text = contents name ≡ Some text
 
 -- SPEC tells this design
+pub record TellsSpecification (contents : List ℕ → Option (List ℕ)) (spec : List ℕ) (d : DesignTree) : Type 0 where
+  pub text : List ℕ
+  pub tokens : List Token
+  pub told : Tells contents spec text
+  pub is : IsDesignText text tokens d
+
+-- SPEC tells this design, without the word `assume`
 pub record TellsDesign (contents : List ℕ → Option (List ℕ)) (spec : List ℕ) (d : DesignTree) : Type 0 where
   pub text : List ℕ
+  pub tokens : List Token
   pub told : Tells contents spec text
-  pub spelled : IsSmallText text d
+  pub is : IsDesignText text tokens d
+  pub without : has_assume tokens ≡ false
+
+-- SPEC has this fault
+pub record TellsFault (contents : List ℕ → Option (List ℕ)) (spec : List ℕ) (f : Fault) : Type 0 where
+  pub text : List ℕ
+  pub told : Tells contents spec text
+  pub fault : FaultOf text f
+
+-- SPEC has no fault, and has the word `assume`: which answers of a driver are allowed then is not decided so far
+pub record TellsAssume (contents : List ℕ → Option (List ℕ)) (spec : List ℕ) : Type 0 where
+  pub text : List ℕ
+  pub tokens : List Token
+  pub design : DesignTree
+  pub told : Tells contents spec text
+  pub is : IsDesignText text tokens design
+  pub has : has_assume tokens ≡ true
 
 -- DRIVER tells these blocks over a design
 pub record TellsBlocks
     (contents : List ℕ → Option (List ℕ)) (driver : List ℕ) (d : DesignTree) (bs : List BlockTree) : Type 0 where
   pub text : List ℕ
   pub told : Tells contents driver text
-  pub spelled : IsSmallDriverText d text bs
+  pub is : IsDriverFile d text bs
 
--- SPEC is there, and tells no design
-pub record TellsNoDesign (contents : List ℕ → Option (List ℕ)) (spec : List ℕ) : Type 0 where
-  pub text : List ℕ
-  pub told : Tells contents spec text
-  pub none : (d : DesignTree) → ¬ (IsSmallText text d)
-
--- DRIVER is there and within its limit, and tells no blocks over a design
-pub record TellsNoBlocks (contents : List ℕ → Option (List ℕ)) (driver : List ℕ) (d : DesignTree) : Type 0 where
+-- DRIVER is within its limit, and has this fault over a design
+pub record TellsBadDriver
+    (contents : List ℕ → Option (List ℕ)) (driver : List ℕ) (d : DesignTree) (bad : BadDriver) : Type 0 where
   pub text : List ℕ
   pub told : Tells contents driver text
   pub short : length text ≤ file_limit
-  pub none : (bs : List BlockTree) → ¬ (IsSmallDriverText d text bs)
+  pub fault : HasFault d text bad
 
 -- CHOICES tells this start line and these steps over a design
 pub record TellsScript
@@ -59,21 +91,50 @@ pub record TellsBadLine
   pub short : length text ≤ file_limit
   pub reads : reading_of d.processes text ≡ Err n
 
+-- CERT tells this certificate of either kind, for the numbers of a design
+pub record TellsCert
+    (contents : List ℕ → Option (List ℕ)) (cert : List ℕ) (d : DesignTree) (c : Certificate) : Type 0 where
+  pub text : List ℕ
+  pub told : Tells contents cert text
+  pub short : length text ≤ file_limit
+  pub is : IsCertText (shape_of d Either) text c
+
+-- CERT is within its limit, and has this first fault for the numbers of a design
+pub record TellsBadCert
+    (contents : List ℕ → Option (List ℕ)) (cert : List ℕ) (d : DesignTree) (bad : BadCert) : Type 0 where
+  pub text : List ℕ
+  pub told : Tells contents cert text
+  pub short : length text ≤ file_limit
+  pub fault : judge_text (shape_of d Either) text ≡ Err bad
+
 -- one of these files is refused
 pub data RefusesOne (names : List (List ℕ)) : Ending → Type 0 where
+  faulty_one : {file : List ℕ} {f : Fault} → Contains names file → RefusesOne names (Faulty f)
   bad_one : {file : List ℕ} {why : Bad} → Contains names file → RefusesOne names (BadText file why)
   unbuilt_one : {file : List ℕ} → Contains names file → RefusesOne names (Unbuilt file)
 
 -- why SPEC tells no design
+pub data NoSpecification (contents : List ℕ → Option (List ℕ)) (spec : List ℕ) : Ending → Type 0 where
+  faulty_spec : {f : Fault} → TellsFault contents spec f → NoSpecification contents spec (Faulty f)
+
+-- why SPEC tells no design that is played
 pub data NoDesign (contents : List ℕ → Option (List ℕ)) (spec : List ℕ) : Ending → Type 0 where
-  unread_spec : TellsNoDesign contents spec → NoDesign contents spec (Unbuilt spec)
+  no_specification : {ending : Ending} → NoSpecification contents spec ending → NoDesign contents spec ending
+  assuming_spec : TellsAssume contents spec → NoDesign contents spec (Unbuilt spec)
 
 -- why DRIVER tells no blocks over a design
 pub data NoBlocks (contents : List ℕ → Option (List ℕ)) (driver : List ℕ) (d : DesignTree) : Ending → Type 0 where
-  unread_driver : TellsNoBlocks contents driver d → NoBlocks contents driver d (Unbuilt driver)
   long_driver : IsLonger (contents driver) file_limit → NoBlocks contents driver d (BadText driver TooLong)
+  bad_driver : {bad : BadDriver} → TellsBadDriver contents driver d bad →
+      NoBlocks contents driver d (BadText driver (Driver bad))
 
 -- why CHOICES tells no choices over a design
 pub data NoScript (contents : List ℕ → Option (List ℕ)) (choices : List ℕ) (d : DesignTree) : Ending → Type 0 where
   long_choices : IsLonger (contents choices) file_limit → NoScript contents choices d (BadText choices TooLong)
   bad_choices : {n : ℕ} → TellsBadLine contents choices d n → NoScript contents choices d (BadText choices (Choices n))
+
+-- why CERT tells no certificate for the numbers of a design
+pub data NoCert (contents : List ℕ → Option (List ℕ)) (cert : List ℕ) (d : DesignTree) : Ending → Type 0 where
+  long_cert : IsLonger (contents cert) file_limit → NoCert contents cert d (BadText cert TooLong)
+  bad_cert : {bad : BadCert} → TellsBadCert contents cert d bad →
+      NoCert contents cert d (BadText cert (Cert bad))

@@ -3,6 +3,8 @@ pub mod Commands
 pub mod Headline
 pub mod Inner
 pub mod Inputs
+pub mod Migrate
+pub mod Numbers
 pub mod Played
 pub mod Report
 pub mod Run

@@ -2,11 +2,18 @@
 
 use std::alloc::AllocError;
 use tm_base::Name;
+use tm_cert::BadCert;
+use tm_cparse::BadDriver;
+use tm_syntax::fault::Faulty;
 
 /// Why a text has no reading.
-#[derive(Clone, Copy, Debug, PartialEq, Eq)]
+#[derive(Drop)]
 pub enum Bad {
     TooLong,
+    /// The first fault of a text of a driver.
+    Driver(BadDriver),
+    /// The first fault of a text of a certificate.
+    Cert(BadCert),
     /// The number of the first bad line of a text of choices.
     Choices(u64),
 }
@@ -27,12 +34,18 @@ pub enum StopWhy {
 pub enum Ending {
     /// The words have no reading.
     Usage,
+    /// The specification has this fault.
+    Faulty(Faulty),
     /// The choices were read to their end and are a play of so many steps.
     Played(u64),
     /// The step of this number has no next state.
     Stopped { step: u64, why: StopWhy },
+    /// The specification of so many registers was generated.
+    Generated(u32),
+    /// The certificate was written in format 2.
+    Migrated,
     BadText { file: Name, why: Bad },
-    /// The file is in no language that is read so far.
+    /// The specification has the word `assume`, with which no play is made so far.
     Unbuilt(Name),
 }
 

@@ -4,5 +4,7 @@ pub mod choices;
 pub mod file;
 pub mod lines;
 pub mod load;
+pub mod migration;
 pub mod number;
 pub mod script;
+pub mod specification;

@@ -1,16 +1,14 @@
-//! The program: it plays a driver against a specification and reports what happens.
+//! The program: it plays drivers against specifications, writes generated ones and certificates, and reports it.
 #![tactic(auto)]
 
+mod commands;
 mod ending;
 mod input;
 mod laws;
 mod play;
 mod program;
 mod report;
-mod run;
 mod status;
-#[cfg(test)]
-mod tests;
 mod words;
 
 use std::alloc::{AllocError, Global};

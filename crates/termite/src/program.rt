@@ -2,15 +2,17 @@
 ghost use Rattle.std.specs.Prelude.{Some, map, IfOk, IfErr};
 ghost use Rattle.std.specs.String.{string_bytes};
 ghost use Rattle.termite.specs.Words.{command_of, command_view};
-ghost use Rattle.termite.specs.Commands.{read_names, MayEnd};
-ghost use Rattle.termite.specs.World.{files_data, sink_data, OnlyReads};
+ghost use Rattle.termite.specs.Commands.{MayEnd};
+ghost use Rattle.termite.specs.World.{files_data, sink_data};
 ghost use Rattle.termite.specs.Status.{outcome_of};
-ghost use Rattle.termite.specs.Headline.{HasCause, IsComplete, IsShown, IsLongShown, Reports, EndsWithLines};
-ghost use Rattle.termite.specs.Inner.Obeying.{Obeys};
+ghost use Rattle.termite.specs.Headline.{HasCause, IsComplete, IsShown, IsLongShown, Reports, EndsWithLines, KeepsFiles};
+ghost use Rattle.termite.specs.Inner.Obeying.{IsSpelled, Obeys};
 
+use crate::commands::generate::generate;
+use crate::commands::migrate::migrate;
+use crate::commands::run::run;
 use crate::ending::{Ending, Failure};
 use crate::report::outcome::put_outcome;
-use crate::run::run;
 use crate::status::{Status, status_of};
 use crate::words::command::Command;
 use crate::words::reading::read_words;
@@ -24,6 +26,7 @@ fn obey<F: Files, O: Sink>(
     files: &mut F,
     out: &mut O,
 ) -> Result<Ending, Failure>
+    requires { IsSpelled (command_view command) }
     ensures { Obeys (Some (command_view command.entry))
         (files_data ⟦<F as Files>⟧ files.old) (files_data ⟦<F as Files>⟧ files.new)
         (sink_data ⟦<O as Sink>⟧ out.old) (sink_data ⟦<O as Sink>⟧ out.new) result }
@@ -34,6 +37,15 @@ fn obey<F: Files, O: Sink>(
             driver,
             choices,
         } => run(alloc, files, out, spec, driver, choices),
+        Command::Generate {
+            registers,
+            out: name,
+        } => generate(alloc, files, out, registers, name),
+        Command::Migrate {
+            spec,
+            cert,
+            out: name,
+        } => migrate(alloc, files, out, spec, cert, name),
     }
 }
 
@@ -56,16 +68,18 @@ fn obey_words<F: Files, O: Sink>(
 
 /// Does what the words say, without the program's own name, and puts a report, line by line.
 ///
-/// The files are read in the order of the words, each judged before the next one is read, and none is written. What is
-/// wrong with a text of choices is found before any output. `specs/Headline` says what is promised.
+/// The files are read in the order of the words, each judged before the next one is read, and a file is written only
+/// after all of them. What is wrong with a text of choices is found before any output. `specs/Headline` says what is
+/// promised.
 pub fn termite<F: Files, O: Sink>(
     alloc: Global,
     words: &[String],
     files: &mut F,
     out: &mut O,
 ) -> Status
-    // Which end comes is what the words and the files determine, where the files tell; so `Played` comes wherever each
-    // step has a next state, and `Unbuilt` wherever a file that is there is the first of no form that is read so far.
+    // Which end comes is what the words and the files determine, where the files tell; so `Faulty` comes wherever the
+    // specification has a fault, `BadText` wherever the first text without a reading is another one, and `Played`
+    // wherever each step has a next state.
     ensures cause { HasCause (files_data ⟦<F as Files>⟧ files.old)
         (command_of (map string_bytes words.now)) (outcome_of result) }
     ensures complete { IsComplete (files_data ⟦<F as Files>⟧ files.old)
@@ -78,7 +92,7 @@ pub fn termite<F: Files, O: Sink>(
         (files_data ⟦<F as Files>⟧ files.old) (files_data ⟦<F as Files>⟧ files.new)) }
 
     // A fault is one that a count shows.
-    ensures fault { IfErr (outcome_of result) (IsShown (read_names (command_of (map string_bytes words.now)))
+    ensures fault { IfErr (outcome_of result) (IsShown (command_of (map string_bytes words.now))
         (files_data ⟦<F as Files>⟧ files.old) (files_data ⟦<F as Files>⟧ files.new)
         (sink_data ⟦<O as Sink>⟧ out.old) (sink_data ⟦<O as Sink>⟧ out.new)) }
 
@@ -89,8 +103,10 @@ pub fn termite<F: Files, O: Sink>(
     ensures last_line { EndsWithLines
         (sink_data ⟦<O as Sink>⟧ out.old) (sink_data ⟦<O as Sink>⟧ out.new) (outcome_of result) }
 
-    // No file changes.
-    ensures files { OnlyReads (files_data ⟦<F as Files>⟧ files.old) (files_data ⟦<F as Files>⟧ files.new) }
+    // No file changes but those that the command writes. At `Generated` and `Migrated` what they hold is the text or
+    // the certificate that was asked for; where a read failed or a text is refused none of them has changed.
+    ensures files { KeepsFiles (command_of (map string_bytes words.now))
+        (files_data ⟦<F as Files>⟧ files.old) (files_data ⟦<F as Files>⟧ files.new) (outcome_of result) }
 {
     let outcome = obey_words(alloc, words, files, out);
     match put_outcome(alloc, &outcome, out) {

@@ -4,14 +4,21 @@ ghost use Rattle.termite.specs.Status.{outcome_of};
 
 use crate::ending::{Bad, Ending, Failure, StopWhy};
 use tm_base::Name;
+use tm_syntax::fault::Faulty;
 
 /// How a command ended. A name is a file's; that of a failed write is empty where the output failed.
 #[derive(Drop)]
 pub enum Status {
     /// The choices were read to their end and are a play of so many steps.
     Played(u64),
+    /// The specification of so many registers was written.
+    Generated(u32),
+    /// The certificate was written in format 2.
+    Migrated,
     /// The words have no reading.
     Usage,
+    /// The specification has this fault.
+    Faulty(Faulty),
     ReadFault(Name),
     WriteFault(Name),
     /// Memory ran out.
@@ -19,7 +26,7 @@ pub enum Status {
     BadText { file: Name, why: Bad },
     /// The step of this number has no next state.
     Stopped { step: u64, why: StopWhy },
-    /// The file is in no language that is read so far.
+    /// The specification has the word `assume`, with which no play is made so far.
     Unbuilt(Name),
 }
 
@@ -32,7 +39,10 @@ impl Status {
     {
         match self {
             Status::Played(_) => 0,
+            Status::Generated(_) => 0,
+            Status::Migrated => 0,
             Status::Usage => 2,
+            Status::Faulty(_) => 3,
             Status::ReadFault(_) => 5,
             Status::WriteFault(_) => 6,
             Status::Memory => 7,
@@ -49,8 +59,11 @@ pub fn status_of(outcome: Result<Ending, Failure>) -> Status
 {
     match outcome {
         Ok(Ending::Usage) => Status::Usage,
+        Ok(Ending::Faulty(fault)) => Status::Faulty(fault),
         Ok(Ending::Played(steps)) => Status::Played(steps),
         Ok(Ending::Stopped { step, why }) => Status::Stopped { step, why },
+        Ok(Ending::Generated(registers)) => Status::Generated(registers),
+        Ok(Ending::Migrated) => Status::Migrated,
         Ok(Ending::BadText { file, why }) => Status::BadText { file, why },
         Ok(Ending::Unbuilt(name)) => Status::Unbuilt(name),
         Err(Failure::ReadFault(name)) => Status::ReadFault(name),

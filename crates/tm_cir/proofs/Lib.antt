@@ -1,10 +1,4 @@
 pub mod Deciding
 pub mod Determined
-pub mod DriverTexts
 pub mod Following
-pub mod Fronts
-pub mod Refusals
-pub mod SmallLemmas
 pub mod Text
-pub mod TokenLists
-pub mod TokenTexts

@@ -50,7 +50,8 @@ fn is_later(at: usize, count: usize, target: u32) -> bool
     at < target && target < count
 }
 
-fn parameter_count(design: &Design, task: u32) -> Option<usize>
+/// How many parameters a controllable task of a design has, or none where there is no such task.
+pub fn parameter_count(design: &Design, task: u32) -> Option<usize>
     ensures { result ≡ parameter_count (design_tree design.now) task }
 {
     let item = design.tasks.get(task as usize)?;

@@ -10,7 +10,6 @@ ghost use Rattle.tm_sem.specs.Certificates.{DriverSets, MeetsDriver};
 ghost use Rattle.tm_cir.specs.Tree.{BlockTree};
 ghost use Rattle.tm_cir.specs.Fit.{FitBlocks};
 ghost use Rattle.tm_cir.specs.Answer.{Answers};
-ghost use Rattle.tm_cir.specs.SmallText.{IsSmallDriverText};
 ghost use Rattle.tm_cir.specs.Text.{IsDriverText};
 
 mod answering;
@@ -18,13 +17,11 @@ pub mod block;
 mod blocks;
 mod evaluation;
 mod fit;
-mod small_driver;
-mod small_token;
 
 pub use answering::answer;
 pub use block::{Block, Num64, Truth};
 pub use blocks::Blocks;
-pub use small_driver::read_small_driver;
+pub use fit::parameter_count;
 
 /// Blocks have one answer at a state, so what `answer` answers is all that the definitions allow.
 #[tactic(auto, using(crate::proofs::Determined::one_answer))]
@@ -44,13 +41,6 @@ pub fn blocks_always_answer()
 pub fn certified_blocks_are_good()
     ensures { (d : DesignTree) (bs : List BlockTree) (c : DriverSets) → IsDesign d → FitBlocks d bs
         → MeetsDriver d (Answers bs) c → Good d (Answers bs) (map length c.goals) }
-{}
-
-/// A text spells one list of blocks over a design, so what `read_small_driver` answers is all that the definitions
-/// allow.
-pub fn small_drivers_are_determined()
-    ensures { (d : DesignTree) (text : List ℕ) (one other : List BlockTree)
-        → IsSmallDriverText d text one → IsSmallDriverText d text other → one ≡ other }
 {}
 
 /// A text is one list of blocks over a design.

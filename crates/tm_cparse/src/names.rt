@@ -17,6 +17,7 @@ use crate::bad::BadDriver;
 use crate::spot::{Spot, parted, taken};
 use crate::token::{Sign, Token, Word};
 use tm_cir::block::MOST_ARGUMENTS;
+use tm_cir::parameter_count;
 use tm_syntax::design::Design;
 
 /// What stands before a token, as far as it tells what the token names: `goto`, `termite_leave`, that word and a
@@ -265,15 +266,4 @@ fn is_comma(token: Token) -> bool
     ensures { result ≡ is_comma (token_tree token) }
 {
     token == Token::Sign(Sign::Comma)
-}
-
-/// The number of parameters of a controllable task.
-fn parameter_count(design: &Design, task: u32) -> Option<usize>
-    ensures { result ≡ parameter_count (design_tree design.now) task }
-{
-    let item = design.tasks.get(task as usize)?;
-    let instance = design.instances.get(item.instance as usize)?;
-    let template = design.spec.templates.get(instance.template as usize)?;
-    let declared = template.tasks.get(item.index? as usize)?;
-    Some(declared.params.len())
 }

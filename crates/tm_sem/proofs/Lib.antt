@@ -1,4 +1,3 @@
-pub mod AllowedMoves
 pub mod ArrayWrites
 pub mod Certified
 pub mod CertifiedRounds
@@ -8,12 +7,8 @@ pub mod Excluding
 pub mod Extending
 pub mod Falling
 pub mod Firsts
-pub mod Flats
 pub mod Levels
 pub mod Losing
-pub mod Runs
-pub mod Small
-pub mod SmallBodies
 pub mod Starving
 pub mod StateOrder
 pub mod Staying

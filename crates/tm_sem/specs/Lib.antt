@@ -3,7 +3,6 @@ pub mod Certificates
 pub mod Fairness
 pub mod First
 pub mod Forcing
-pub mod Inner
 pub mod Loss
 pub mod Play
 pub mod Run

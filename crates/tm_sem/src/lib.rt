@@ -20,30 +20,19 @@ ghost use Rattle.tm_sem.specs.Loss.{Beats, Lost};
 ghost use Rattle.tm_sem.specs.StateBits.{comes_before, weight_order};
 ghost use Rattle.tm_sem.specs.Certificates.{DriverSets, IsGoodMove, MeetsDriver, MeetsMoveForm, Level, MeetsEnvironment, longest_chain};
 
-mod bodies;
 mod first;
-mod flat;
-mod goal;
-mod moves;
-mod run;
 pub mod state;
-mod tables;
-mod validity;
-mod value;
 
-pub use first::{SemError, first_state};
-pub use goal::holds;
-pub use moves::{allowed, magic, step};
-pub use validity::fits;
+pub use first::SemError;
 
-/// A move with given choices has one outcome, so what `step` answers is all that the definitions allow.
+/// A move with given choices has one outcome.
 #[tactic(auto, using(crate::proofs::Determined::one_outcome))]
 pub fn outcomes_are_determined()
     ensures { (d : DesignTree) (s : StateData) (move : Move) (choices : List ℕ) (one other : Outcome)
         → Step d s move choices one → Step d s move choices other → one ≡ other }
 {}
 
-/// Choices give one state to begin with, so what `first_state` answers is all that the definitions allow.
+/// Choices give one state to begin with.
 #[tactic(auto, using(crate::proofs::Determined::one_first))]
 pub fn first_states_are_determined()
     ensures { (d : DesignTree) (choices : List ℕ) (one other : StateData)

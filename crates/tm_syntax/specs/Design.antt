@@ -5,7 +5,6 @@ pub mod Cells
 pub mod Locations
 pub mod Scope
 pub mod Sizes
-pub mod Small
 pub mod View
 pub mod Work
 use Rattle.std.specs.Prelude.{◌≡◌, ℕ, ◌+◌, Bool, true, false, Option, None, Some, List, [], ◌∷◌, ◌++◌, map, length, position, codes, unwrap_or, slice_get, if◌then◌else◌}

@@ -1,7 +1,8 @@
 //! The design of a tree: its instances, and what they hold, numbered.
 ghost use Rattle.std.specs.Prelude.{map};
 ghost use Rattle.tm_syntax.specs.Tree.View.{spec_tree};
-ghost use Rattle.tm_syntax.specs.Design.{IsDesign, instance_node};
+ghost use Rattle.tm_syntax.specs.Design.{instance_node};
+ghost use Rattle.tm_syntax.specs.Faults.{IsSound, IsTyped};
 
 use crate::tree::Spec;
 use tm_base::Name;
@@ -41,8 +42,9 @@ pub struct Item {
     pub index: Option<u32>,
 }
 
-/// The design of a specification: instances in preorder from `main`, and state variables, processes, controllable
-/// tasks, goals and fairness conditions instance by instance, each in text order within its template.
+/// The design of a checked specification: instances in preorder from `main`, and state variables, processes,
+/// controllable tasks, goals and fairness conditions instance by instance, each in text order within its template.
+/// None of the faults `F4` to `F12` holds of it.
 #[derive(Drop)]
 pub struct Design {
     pub spec: Spec,
@@ -52,7 +54,8 @@ pub struct Design {
     pub tasks: Vec<Item>,
     pub goals: Vec<Item>,
     pub fairs: Vec<Item>,
-    pub ghost numbered: { ∥ IsDesign (record {
+    pub ghost typed: { ∥ IsTyped (spec_tree spec) ∥₁ },
+    pub ghost sound: { ∥ IsSound (record {
       spec = spec_tree spec;
       instances = map instance_node instances.items;
       vars = vars.items;

@@ -5,14 +5,15 @@ mod expression;
 use super::sample::design;
 use driver::{answered, blocks, read_and_answered};
 use std::alloc::{AllocError, Global};
+use std::test::Fail;
 use tm_cir::{Block, Blocks, Num64, Truth};
 use tm_syntax::design::Design;
 
 // The drivers of small worked examples, at states with these values.
 #[test]
-fn answers_the_worked_drivers(rt: HostRuntime) -> Result<(), AllocError> {
+fn answers_the_worked_drivers(rt: HostRuntime) -> Result<(), Fail> {
     let alloc = rt.alloc();
-    let design = design(alloc)?;
+    let design = design(alloc)?.ok_or("no design")?;
     let wraps = "if 1 2 v0 1 + 255 & 0 ==; leave 0; idle";
     let waits = "if 1 2 v2 so; idle; call 1 v0";
     for (text, values, goal, want) in [
@@ -33,9 +34,9 @@ fn answers_the_worked_drivers(rt: HostRuntime) -> Result<(), AllocError> {
 
 // Each operator, with values that C11 gives for `uint64_t`.
 #[test]
-fn values_each_operator(rt: HostRuntime) -> Result<(), AllocError> {
+fn values_each_operator(rt: HostRuntime) -> Result<(), Fail> {
     let alloc = rt.alloc();
-    let design = design(alloc)?;
+    let design = design(alloc)?.ok_or("no design")?;
     for (text, want) in [
         ("call 1 18446744073709551615 2 +", "call 1 1"),
         ("call 1 1 2 -", "call 1 18446744073709551615"),
@@ -78,9 +79,9 @@ fn do_fit(alloc: Global, design: &Design, text: &str) -> Result<bool, AllocError
 
 // The sample has variables 0 to 2, processes 0 and 1, task 0 without a parameter and task 1 with one.
 #[test]
-fn refuses_each_misfit(rt: HostRuntime) -> Result<(), AllocError> {
+fn refuses_each_misfit(rt: HostRuntime) -> Result<(), Fail> {
     let alloc = rt.alloc();
-    let design = design(alloc)?;
+    let design = design(alloc)?.ok_or("no design")?;
     assert!(rt; Blocks::new(&design, Vec::new(alloc)).is_none(), "no block");
     for (text, want) in [
         ("if 1 2 v2 so; idle; leave 1", true),
@@ -113,9 +114,9 @@ fn negated(alloc: Global, times: u32) -> Result<Truth, AllocError> {
 
 // As deep as a C text may nest parentheses.
 #[test]
-fn goes_down_deep_expressions(rt: HostRuntime) -> Result<(), AllocError> {
+fn goes_down_deep_expressions(rt: HostRuntime) -> Result<(), Fail> {
     let alloc = rt.alloc();
-    let design = design(alloc)?;
+    let design = design(alloc)?.ok_or("no design")?;
     let test = Block::Test(negated(alloc, 2048)?, 1, 1);
     let list = Vec::from_array(alloc, [test, Block::Idle])?;
     assert!(rt; Blocks::new(&design, list).is_some());
@@ -125,9 +126,9 @@ fn goes_down_deep_expressions(rt: HostRuntime) -> Result<(), AllocError> {
 // The sample's variables are `v0_b`, `v1_a_0` and `v2_a_1`, the last two of type bool, and its tasks `t0_set` and
 // `t1_write`.
 #[test]
-fn reads_small_drivers(rt: HostRuntime) -> Result<(), AllocError> {
+fn answers_the_drivers_of_texts(rt: HostRuntime) -> Result<(), Fail> {
     let alloc = rt.alloc();
-    let design = design(alloc)?;
+    let design = design(alloc)?.ok_or("no design")?;
     let waits =
         "#include \"termite.h\"\n\nvoid driver_turn(void)\n{\nL0:\n\tif (v2_a_1) goto L1; else goto L2;\nL1:\n\treturn;\nL2:\n\tt0_set();\n\treturn;\n}\n";
     for (text, values, want) in [
@@ -161,7 +162,7 @@ fn reads_small_drivers(rt: HostRuntime) -> Result<(), AllocError> {
         (
             "#include \"termite.h\"\nvoid driver_turn(void){L0:if(v0_b)goto L1;else goto L1;L1:return;}",
             [0, 0, 0],
-            "not read",
+            "idle",
         ),
         (
             "#include \"termite.h\"\nvoid driver_turn(void){L0:if(v2_a_1)goto L0;else goto L1;L1:return;}",

@@ -1,13 +1,14 @@
 -- What one step of the choices leads to.
 use Rattle.std.specs.Prelude.{◌≡◌, ℕ, ◌<◌, ◌^◌, false, Option, List, MatchOption, length}
 use Rattle.tm_syntax.specs.Design.{DesignTree}
-use Rattle.tm_syntax.specs.Design.Small.{IsSmall}
+use Rattle.tm_syntax.specs.Faults.{IsOfText, IsSound}
 use Rattle.tm_sem.specs.State.{StateData}
 use Rattle.tm_sem.specs.declared.state.Move.{Move}
 use Rattle.tm_sem.specs.declared.state.Outcome.TheVariants as outcomes
 use Rattle.tm_sem.specs.Step.{is_driver_turn, IsState, IsInitial, IsAllowed, Step}
 use Rattle.tm_sem.specs.First.{IsFirst}
 use Rattle.tm_sem.specs.Play.{pending_at}
+use Rattle.tm_allowed.specs.Assuming.{AssumesNothing}
 use Rattle.tm_cir.specs.Tree.{BlockTree}
 use Rattle.termite.specs.declared.input.script.Actor.{Actor}
 use Rattle.termite.specs.declared.input.script.Actor.TheVariants.{Driver}
@@ -47,9 +48,12 @@ IsWhyNone d s actor m Error = ⊥
 IsWhyNone d s actor m Forbidden = (actor ≡ Driver) × ¬ (IsAllowed d s m)
 IsWhyNone d s actor m Illegal = actor ≡ Driver → IsAllowed d s m
 
--- what playing asks of a design: it is small, and it has a goal and no more than numbers
+-- what playing asks of a design: it is that of a text, keeps its facts, assumes nothing, and has a goal and no more
+-- than numbers
 pub record IsPlayable (d : DesignTree) : Type 0 where
-  pub small : IsSmall d
+  pub sound : IsSound d
+  pub of_text : IsOfText d.spec
+  pub plain : AssumesNothing d.spec
   pub some_goal : 0 < length d.goals
   pub few_goals : length d.goals < 2 ^ 32
   pub few_processes : length d.processes < 2 ^ 32

@@ -1,18 +1,23 @@
 -- What is promised of a command before the lines that tell its outcome are put.
-use Rattle.std.specs.Prelude.{◌≡◌, ℕ, ◌≤◌, Option, Result, List, ◌++◌, IsTrue, IfOk, IfErr}
+use Rattle.std.specs.Prelude.{◌≡◌, ℕ, ◌≤◌, Option, Some, Result, List, [], ◌∷◌, ◌++◌, IsTrue, IfOk, IfErr}
 use Rattle.tm_base.specs.Sink.{AppendsPrefix}
 use Rattle.termite.specs.declared.ending.Ending.{Ending}
 use Rattle.termite.specs.declared.ending.Failure.{Failure}
 use Rattle.termite.specs.declared.ending.Failure.TheVariants.{ReadFault, WriteFault, Memory}
-use Rattle.termite.specs.Words.{Command}
+use Rattle.termite.specs.Words.{Command, command_of}
 use Rattle.termite.specs.Commands.{read_names, CommandEnds, IsCommandPart, MayEnd}
-use Rattle.termite.specs.Headline.{AreTold, IsShown, IsLongShown}
-use Rattle.termite.specs.World.{FilesData, SinkData, OnlyReads}
+use Rattle.termite.specs.Headline.{AreTold, IsShown, IsLongShown, KeepsFiles}
+use Rattle.termite.specs.World.{FilesData, SinkData}
 
--- what was put before a failure: nothing before a failed read, and else some first part of the lines
+-- a command that some words spell
+abbrev pub IsSpelled : Command → Type 0
+IsSpelled command = (words : List (List ℕ)) × (command_of words ≡ Some command)
+
+-- what was put before a failure: nothing before a failed read or write, and else some first part of the lines
 abbrev pub PutBefore : (List ℕ → Type 0) → List ℕ → List ℕ → Failure → Type 0
 PutBefore IsPart before now (ReadFault name) = now ≡ before
-PutBefore IsPart before now (WriteFault name) = (text : List ℕ) × IsPart text × AppendsPrefix text before now
+PutBefore IsPart before now (WriteFault (b ∷ bs)) = now ≡ before
+PutBefore IsPart before now (WriteFault []) = (text : List ℕ) × IsPart text × AppendsPrefix text before now
 PutBefore IsPart before now Memory = (text : List ℕ) × IsPart text × AppendsPrefix text before now
 
 -- a command was obeyed
@@ -25,7 +30,7 @@ pub record Obeys (command : Option Command) (old new : FilesData) (out after : S
       IfErr outcome (PutBefore (IsCommandPart old.contents command) out.written after.written)
   pub grows : IsTrue out.tells → (text : List ℕ) × (after.written ≡ out.written ++ text)
   pub may_end : IfOk outcome (MayEnd command)
-  pub shown : IfErr outcome (IsShown (read_names command) old new out after)
+  pub shown : IfErr outcome (IsShown command old new out after)
   pub long : IfOk outcome (IsLongShown old new)
-  pub only_reads : OnlyReads old new
+  pub files : KeepsFiles command old new outcome
   pub no_fewer_faults : out.faults ≤ after.faults

@@ -7,8 +7,7 @@ use Rattle.termite.specs.declared.ending.Failure.{Failure}
 use Rattle.termite.specs.declared.ending.Failure.TheVariants.{ReadFault, WriteFault, Memory}
 use Rattle.termite.specs.declared.ending.Stop.{Stop}
 use Rattle.termite.specs.declared.ending.Stop.TheVariants.{Ends, Fails}
-use Rattle.termite.specs.World.{FilesData, SinkData, HasFailedRead, HasFailedPut}
-use Rattle.termite.specs.Inputs.{RefusesOne}
+use Rattle.termite.specs.World.{FilesData, SinkData, HasFailedRead, HasFailedWrite, HasFailedPut}
 use Rattle.termite.specs.Headline.{IsLongShown}
 
 -- an end or a failure for which this holds
@@ -27,6 +26,12 @@ IsReadFailure names old new Memory = Unit {0}
 IsReadFailure names old new (ReadFault name) = Contains names name × HasFailedRead old new name
 IsReadFailure names old new (WriteFault name) = ⊥
 
+-- memory ran out, or a write of this file failed, which its count shows
+abbrev pub IsWriteFailure : List ℕ → FilesData → FilesData → Failure → Type 0
+IsWriteFailure name old new Memory = Unit {0}
+IsWriteFailure name old new (ReadFault other) = ⊥
+IsWriteFailure name old new (WriteFault other) = (other ≡ name) × HasFailedWrite old new name
+
 -- memory ran out, or a put failed, which its count shows
 abbrev pub IsSinkFailure : SinkData → SinkData → Failure → Type 0
 IsSinkFailure out after Memory = Unit {0}
@@ -38,11 +43,10 @@ abbrev pub IsMemory : Failure → Type 0
 IsMemory Memory = Unit {0}
 IsMemory _ = ⊥
 
--- one of these files is refused, for this cause where the files tell
-pub record IsRefusal (Cause : Ending → Type 0) (names : List (List ℕ)) (old new : FilesData) (ending : Ending) :
-    Type 0 where
+-- a file is refused, for this cause where the files tell
+pub record IsRefusal (Cause Named : Ending → Type 0) (old new : FilesData) (ending : Ending) : Type 0 where
   pub cause : IsTrue old.tells → Cause ending
-  pub named : RefusesOne names ending
+  pub named : Named ending
   pub long : IsLongShown old new ending
 
 -- the failure of a refused `put`

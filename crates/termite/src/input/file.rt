@@ -8,6 +8,9 @@ use crate::ending::{Bad, Ending, Failure, Stop};
 use std::alloc::Global;
 use tm_base::{FileError, Files, Name};
 
+/// The most bytes of a driver, of a certificate or of choices.
+pub const TEXT_BYTES: u64 = 16_777_216;
+
 /// The contents of a file; none where it is longer than the limit.
 pub fn read_file<F: Files>(
     alloc: Global,
@@ -36,7 +39,7 @@ pub fn read_file<F: Files>(
     }
 }
 
-/// A file is in no language that is read so far.
+/// No play is made so far of what a file tells.
 pub fn unbuilt(alloc: Global, name: &str) -> Stop
     ensures { StopsBy (λ e. e ≡ Ending.Unbuilt name.now) IsMemory result }
 {

@@ -1,28 +1,24 @@
 //! Reading and judging the files of `run`.
-ghost use Rattle.std.specs.Prelude.{[], ◌∷◌, IsTrue, IfOk, IfErr};
+ghost use Rattle.std.specs.Prelude.{◌≡◌, [], ◌∷◌, IsTrue, IfOk, IfErr};
 ghost use Rattle.tm_syntax.specs.Design.View.{design_tree};
 ghost use Rattle.tm_cir.specs.View.{trees_of};
 ghost use Rattle.tm_cir.specs.Fit.{FitBlocks};
 ghost use Rattle.termite.specs.World.{files_data, OnlyReads};
-ghost use Rattle.termite.specs.Inputs.{TellsDesign, TellsBlocks, TellsScript, NoDesign, NoBlocks, NoScript};
+ghost use Rattle.termite.specs.Inputs.{TellsDesign, TellsBlocks, TellsScript, NoDesign, NoBlocks, NoScript, RefusesOne};
 ghost use Rattle.termite.specs.Run.{Loads, Refused};
 ghost use Rattle.termite.specs.Inner.Advance.{IsPlayable};
 ghost use Rattle.termite.specs.Inner.Stopping.{StopsBy, IsReadFailure, IsRefusal};
 
 use crate::ending::{Bad, Failure, Stop};
 use crate::input::choices::{ScriptError, read_script};
-use crate::input::file::{bad_text, read_file, unbuilt};
+use crate::input::file::{TEXT_BYTES, bad_text, read_file, unbuilt};
 use crate::input::script::Script;
+use crate::input::specification::load_specification;
 use std::alloc::Global;
 use tm_base::Files;
-use tm_cir::{Blocks, read_small_driver};
-use tm_small::read_small;
+use tm_cir::Blocks;
+use tm_cparse::{ReadDriverError, read_driver};
 use tm_syntax::design::Design;
-
-/// The most bytes of a specification.
-const SPEC_BYTES: u64 = 1_048_576;
-/// The most bytes of a driver or of choices.
-const TEXT_BYTES: u64 = 16_777_216;
 
 /// What `run` plays: a design, blocks that fit it, and choices.
 #[derive(Drop)]
@@ -37,19 +33,20 @@ fn load_design<F: Files>(alloc: Global, files: &mut F, spec: &str) -> Result<Des
     ensures told { IfOk result (λ d. IsTrue F.tells → TellsDesign (F.contents files.old) spec.now (design_tree d)) }
     ensures playable { IfOk result (λ d. IsPlayable (design_tree d)) }
     ensures stopped { IfErr result (StopsBy
-        (IsRefusal (NoDesign (F.contents files.old) spec.now) (spec.now ∷ [])
+        (IsRefusal (NoDesign (F.contents files.old) spec.now) (RefusesOne (spec.now ∷ []))
         (files_data ⟦<F as Files>⟧ files.old) (files_data ⟦<F as Files>⟧ files.new))
         (IsReadFailure (spec.now ∷ [])
         (files_data ⟦<F as Files>⟧ files.old) (files_data ⟦<F as Files>⟧ files.new))) }
     ensures files { OnlyReads (files_data ⟦<F as Files>⟧ files.old) (files_data ⟦<F as Files>⟧ files.new) }
 {
-    let Some(text) = read_file(alloc, files, spec, SPEC_BYTES)? else {
-        return Err(unbuilt(alloc, spec));
+    let read = match load_specification(alloc, files, spec) {
+        Ok(read) => read,
+        Err(no_specification) => return Err(no_specification),
     };
-    match read_small(alloc, &text)? {
-        Some(design) => Ok(design),
-        None => Err(unbuilt(alloc, spec)),
+    if read.assumes {
+        return Err(unbuilt(alloc, spec));
     }
+    Ok(read.design)
 }
 
 /// The blocks that a file tells over a design.
@@ -63,7 +60,7 @@ fn load_blocks<F: Files>(
         TellsBlocks (F.contents files.old) driver.now (design_tree design.now) (trees_of b)) }
     ensures fits { IfOk result (λ b. FitBlocks (design_tree design.now) (trees_of b)) }
     ensures stopped { IfErr result (StopsBy
-        (IsRefusal (NoBlocks (F.contents files.old) driver.now (design_tree design.now)) (driver.now ∷ [])
+        (IsRefusal (NoBlocks (F.contents files.old) driver.now (design_tree design.now)) (RefusesOne (driver.now ∷ []))
         (files_data ⟦<F as Files>⟧ files.old) (files_data ⟦<F as Files>⟧ files.new))
         (IsReadFailure (driver.now ∷ [])
         (files_data ⟦<F as Files>⟧ files.old) (files_data ⟦<F as Files>⟧ files.new))) }
@@ -72,9 +69,10 @@ fn load_blocks<F: Files>(
     let Some(text) = read_file(alloc, files, driver, TEXT_BYTES)? else {
         return Err(bad_text(alloc, driver, Bad::TooLong));
     };
-    match read_small_driver(alloc, design, &text)? {
-        Some(blocks) => Ok(blocks),
-        None => Err(unbuilt(alloc, driver)),
+    match read_driver(alloc, design, &text) {
+        Ok(blocks) => Ok(blocks),
+        Err(ReadDriverError::Bad(bad)) => Err(bad_text(alloc, driver, Bad::Driver(bad))),
+        Err(ReadDriverError::Memory) => Err(Stop::Fails(Failure::Memory)),
     }
 }
 
@@ -89,7 +87,7 @@ fn load_script<F: Files>(
     ensures told { IfOk result (λ script. IsTrue F.tells →
         TellsScript (F.contents files.old) choices.now (design_tree design.now) script) }
     ensures stopped { IfErr result (StopsBy
-        (IsRefusal (NoScript (F.contents files.old) choices.now (design_tree design.now)) (choices.now ∷ [])
+        (IsRefusal (NoScript (F.contents files.old) choices.now (design_tree design.now)) (RefusesOne (choices.now ∷ []))
         (files_data ⟦<F as Files>⟧ files.old) (files_data ⟦<F as Files>⟧ files.new))
         (IsReadFailure (choices.now ∷ [])
         (files_data ⟦<F as Files>⟧ files.old) (files_data ⟦<F as Files>⟧ files.new))) }
@@ -120,7 +118,7 @@ pub fn load<F: Files>(
     ensures fits { IfOk result (λ i. FitBlocks (design_tree i.design) (trees_of i.blocks)) }
     ensures stopped { IfErr result (StopsBy
         (IsRefusal (Refused (F.contents files.old) spec.now driver.now choices.now)
-        (spec.now ∷ driver.now ∷ choices.now ∷ [])
+        (RefusesOne (spec.now ∷ driver.now ∷ choices.now ∷ []))
         (files_data ⟦<F as Files>⟧ files.old) (files_data ⟦<F as Files>⟧ files.new))
         (IsReadFailure (spec.now ∷ driver.now ∷ choices.now ∷ [])
         (files_data ⟦<F as Files>⟧ files.old) (files_data ⟦<F as Files>⟧ files.new))) }

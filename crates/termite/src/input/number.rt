@@ -1,7 +1,8 @@
-//! Numbers in a text of choices.
+//! Numbers in words and in a text of choices.
 ghost use Rattle.std.specs.Prelude.{◌≡◌, ℕ, List, [], ◌∷◌, ◌<◌, ◌^◌, map, IfOk, IfSome};
 ghost use Rattle.std.specs.Option.{option_map};
-ghost use Rattle.termite.specs.Choices.{is_shortest as has_no_needless_zero, digits_after, number_of, numbers_of};
+ghost use Rattle.termite.specs.Choices.{is_shortest as has_no_needless_zero, number_of, numbers_of};
+ghost use Rattle.termite.specs.Numbers.{digits_after};
 
 use std::alloc::{AllocError, Global};
 
@@ -22,7 +23,7 @@ fn append_digit(n: u64, digit: u8) -> Option<u64>
 }
 
 /// The number that decimal digits write, where it is below 2^64.
-fn read_digits(field: &[u8]) -> Option<u64>
+pub fn read_digits(field: &[u8]) -> Option<u64>
     ensures { result ≡ digits_after 0 field.now }
 {
     let mut n = 0;

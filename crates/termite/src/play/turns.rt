@@ -18,21 +18,21 @@ use crate::report::put::put_line;
 use std::alloc::{AllocError, Global};
 use tm_base::Sink;
 use tm_cir::Blocks;
+use tm_machine::Machine;
+use tm_sem::SemError;
 use tm_sem::state::Move;
-use tm_sem::{SemError, first_state};
-use tm_syntax::design::Design;
 
 /// The position that a play begins at; none where the choices give no first state.
 fn first_position(
     alloc: Global,
-    design: &Design,
+    machine: &Machine,
     choices: &[u64],
 ) -> Result<Option<Position>, AllocError>
-    requires { IsPlayable (design_tree design.now) }
-    ensures { IfOk result (Begins (design_tree design.now) choices.now) }
+    requires { IsPlayable (design_tree machine.now) }
+    ensures { IfOk result (Begins (design_tree machine.now) choices.now) }
 {
-    match first_state(alloc, design, choices) {
-        Ok(state) => Ok(Some(position_at(design, state, 0)?)),
+    match machine.first_state(alloc, choices) {
+        Ok(state) => Ok(Some(position_at(alloc, machine, state, 0)?)),
         Err(SemError::BadChoices) => Ok(None),
         Err(SemError::Memory) => Err(AllocError),
     }
@@ -41,7 +41,7 @@ fn first_position(
 /// Puts the line of a position's state.
 fn put_position<O: Sink>(
     alloc: Global,
-    design: &Design,
+    machine: &Machine,
     number: u64,
     action: Option<&Move>,
     position: &Position,
@@ -49,11 +49,11 @@ fn put_position<O: Sink>(
 ) -> Result<(), Failure>
     ensures ok { OnOk result (IsTrue O.tells →
         O.written out.new ≡ O.written out.old
-        ++ line_of_state (design_tree design.now) number (option_copied action.entry)
+        ++ line_of_state (design_tree machine.now) number (option_copied action.entry)
         position.now.state position.now.goal) }
     ensures err { OnErr result (IsTrue O.tells →
         AppendsPrefix
-        (line_of_state (design_tree design.now) number (option_copied action.entry)
+        (line_of_state (design_tree machine.now) number (option_copied action.entry)
         position.now.state position.now.goal)
         (O.written out.old) (O.written out.new)) }
     ensures failure { IfErr result (IsSinkFailure
@@ -62,7 +62,7 @@ fn put_position<O: Sink>(
 {
     let line = state_line(
         alloc,
-        design,
+        machine.design(),
         number,
         action,
         &position.state,
@@ -75,35 +75,35 @@ fn put_position<O: Sink>(
 /// the lines of that; or `Err` where the output failed or memory ran out.
 pub fn play<O: Sink>(
     alloc: Global,
-    design: &Design,
+    machine: &Machine,
     blocks: &Blocks,
     script: &Script,
     out: &mut O,
 ) -> Result<Ending, Failure>
-    requires playable { IsPlayable (design_tree design.now) }
-    requires blocks { FitBlocks (design_tree design.now) (trees_of blocks.now) }
+    requires playable { IsPlayable (design_tree machine.now) }
+    requires blocks { FitBlocks (design_tree machine.now) (trees_of blocks.now) }
     ensures ended { IfOk result (λ ending. (text : List ℕ)
-        × Ends (design_tree design.now) (trees_of blocks.now) script.now text ending
+        × Ends (design_tree machine.now) (trees_of blocks.now) script.now text ending
         × (IsTrue O.tells → O.written out.new ≡ O.written out.old ++ text)) }
     ensures cut { OnErr result ((text : List ℕ)
-        × IsPart (design_tree design.now) (trees_of blocks.now) script.now text
+        × IsPart (design_tree machine.now) (trees_of blocks.now) script.now text
         × (IsTrue O.tells → AppendsPrefix text (O.written out.old) (O.written out.new))) }
     ensures failure { IfErr result (IsSinkFailure
         (sink_data ⟦<O as Sink>⟧ out.old) (sink_data ⟦<O as Sink>⟧ out.new)) }
     ensures no_fewer_faults { O.faults out.old ≤ O.faults out.new }
 {
-    let Some(mut position) = first_position(alloc, design, &script.start)? else {
+    let Some(mut position) = first_position(alloc, machine, &script.start)? else {
         return Ok(Ending::Stopped {
             step: 0,
             why: StopWhy::Illegal,
         });
     };
-    put_position(alloc, design, 0, None, &position, out)?;
+    put_position(alloc, machine, 0, None, &position, out)?;
     for (index, turn) in script.turns.iter().enumerate() {
         let number = index as u64 + 1;
-        match advance(alloc, design, blocks, &position, turn)? {
+        match advance(alloc, machine, blocks, &position, turn)? {
             TurnOutcome::To(action, next) => {
-                put_position(alloc, design, number, Some(&action), &next, out)?;
+                put_position(alloc, machine, number, Some(&action), &next, out)?;
                 position = next;
             }
             TurnOutcome::Stop(why) => return Ok(Ending::Stopped { step: number, why }),

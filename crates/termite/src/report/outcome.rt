@@ -3,15 +3,19 @@ ghost use Rattle.std.specs.Prelude.{◌≡◌, ◌≤◌, ◌++◌, ℕ, codes, 
 ghost use Rattle.std.specs.Fmt.{decimal};
 ghost use Rattle.std.specs.List.{flat_map};
 ghost use Rattle.tm_base.specs.Sink.{AppendsPrefix};
-ghost use Rattle.termite.specs.Report.{bad_text, why_text, usage_text, ending_text, failure_text, outcome_text};
+ghost use Rattle.termite.specs.Report.{bad_cert_text, bad_driver_text, bad_text, why_text, usage_text};
+ghost use Rattle.termite.specs.Report.{ending_text, failure_text, outcome_text};
 ghost use Rattle.termite.specs.World.{sink_data};
 ghost use Rattle.termite.specs.Inner.Stopping.{IsSinkFailure};
 
 use crate::ending::{Bad, Ending, Failure, StopWhy};
+use crate::report::fault_text::fault_line;
 use crate::report::line_text::{push, push_number};
 use crate::report::put::put_line;
 use std::alloc::{AllocError, Global};
 use tm_base::{Name, Sink};
+use tm_cert::BadCert;
+use tm_cparse::BadDriver;
 
 /// The usage text, line by line.
 const USAGE: [&str; 6] = [
@@ -45,22 +49,61 @@ fn named_line(alloc: Global, word: &[u8], name: &Name) -> Result<Vec<u8>, AllocE
     Ok(line)
 }
 
-fn push_bad(line: &mut Vec<u8>, why: Bad) -> Result<(), AllocError>
-    ensures { OnOk result (line.new.items ≡ line.old.items ++ bad_text why) }
+#[tactic(auto, using(crate::proofs::Appending::append_assoc))]
+fn push_counted(line: &mut Vec<u8>, word: &[u8], n: u64) -> Result<(), AllocError>
+    ensures { OnOk result (line.new.items ≡ line.old.items ++ (word.now ++ decimal n)) }
 {
-    match why {
-        Bad::TooLong => push(line, b"too long"),
-        Bad::Choices(number) => {
-            push(line, b"line ")?;
-            push_number(line, number)?;
-            Ok(())
-        }
+    push(line, word)?;
+    push_number(line, n)?;
+    Ok(())
+}
+
+fn push_bad_driver(line: &mut Vec<u8>, bad: BadDriver) -> Result<(), AllocError>
+    ensures { OnOk result (line.new.items ≡ line.old.items ++ bad_driver_text bad) }
+{
+    match bad {
+        BadDriver::TooLong => push(line, b"too long"),
+        BadDriver::Text(number) => push_counted(line, b"text ", number),
+        BadDriver::UnknownName(number) => push_counted(line, b"name ", number),
+        BadDriver::BackwardGoto(number) => push_counted(line, b"backward ", number),
     }
 }
 
 #[tactic(auto, using(crate::proofs::Appending::append_assoc))]
-fn bad_line(alloc: Global, file: &Name, why: Bad) -> Result<Vec<u8>, AllocError>
-    ensures { IfOk result (λ line. line.items ≡ codes "bad " ++ file.now ++ codes " " ++ bad_text why ++ codes "\n") }
+fn push_path(line: &mut Vec<u8>, word: &[u8], path: &Name) -> Result<(), AllocError>
+    ensures { OnOk result (line.new.items ≡ line.old.items ++ (word.now ++ path.now)) }
+{
+    push(line, word)?;
+    push(line, path.as_bytes())?;
+    Ok(())
+}
+
+fn push_bad_cert(line: &mut Vec<u8>, bad: &BadCert) -> Result<(), AllocError>
+    ensures { OnOk result (line.new.items ≡ line.old.items ++ bad_cert_text bad.now) }
+{
+    match bad {
+        BadCert::Json => push(line, b"json"),
+        BadCert::Shape(path) => push_path(line, b"shape ", path),
+        BadCert::Range(path) => push_path(line, b"range ", path),
+        BadCert::Node(id) => push_counted(line, b"node ", *id),
+    }
+}
+
+fn push_bad(line: &mut Vec<u8>, why: &Bad) -> Result<(), AllocError>
+    ensures { OnOk result (line.new.items ≡ line.old.items ++ bad_text why.now) }
+{
+    match why {
+        Bad::TooLong => push(line, b"too long"),
+        Bad::Driver(bad) => push_bad_driver(line, *bad),
+        Bad::Cert(bad) => push_bad_cert(line, bad),
+        Bad::Choices(number) => push_counted(line, b"line ", *number),
+    }
+}
+
+#[tactic(auto, using(crate::proofs::Appending::append_assoc))]
+fn bad_line(alloc: Global, file: &Name, why: &Bad) -> Result<Vec<u8>, AllocError>
+    ensures { IfOk result (λ line.
+        line.items ≡ codes "bad " ++ file.now ++ codes " " ++ bad_text why.now ++ codes "\n") }
 {
     let mut line = Vec::from_slice(alloc, b"bad ")?;
     push(&mut line, file.as_bytes())?;
@@ -119,6 +162,13 @@ fn put_usage<O: Sink>(alloc: Global, out: &mut O) -> Result<(), Failure>
     put_lines(alloc, out, &USAGE)
 }
 
+/// The line that tells that a certificate was written.
+fn migrated_line() -> &'static [u8]
+    ensures { result.now ≡ codes "migrated\n" }
+{
+    b"migrated\n"
+}
+
 /// Puts the lines that tell an end.
 fn put_ending<O: Sink>(alloc: Global, ending: &Ending, out: &mut O) -> Result<(), Failure>
     ensures ok { OnOk result (IsTrue O.tells → O.written out.new ≡ O.written out.old ++ ending_text ending.now) }
@@ -138,12 +188,21 @@ fn put_ending<O: Sink>(alloc: Global, ending: &Ending, out: &mut O) -> Result<()
             let line = stopped_line(alloc, *step, *why)?;
             put_line(alloc, out, &line)
         }
+        Ending::Generated(registers) => {
+            let line = counted_line(alloc, b"generated ", *registers as u64)?;
+            put_line(alloc, out, &line)
+        }
+        Ending::Migrated => put_line(alloc, out, migrated_line()),
         Ending::BadText { file, why } => {
-            let line = bad_line(alloc, file, *why)?;
+            let line = bad_line(alloc, file, why)?;
             put_line(alloc, out, &line)
         }
         Ending::Unbuilt(name) => {
             let line = named_line(alloc, b"unbuilt ", name)?;
+            put_line(alloc, out, &line)
+        }
+        Ending::Faulty(fault) => {
+            let line = fault_line(alloc, fault)?;
             put_line(alloc, out, &line)
         }
     }

@@ -8,4 +8,13 @@ pub enum Command<'a> {
         driver: &'a str,
         choices: &'a str,
     },
+    Generate {
+        registers: u32,
+        out: &'a str,
+    },
+    Migrate {
+        spec: &'a str,
+        cert: &'a str,
+        out: &'a str,
+    },
 }

@@ -7,7 +7,8 @@ ghost use Rattle.tm_cir.specs.Fit.{FitBlocks};
 use super::expression::{num, truth};
 use std::alloc::{AllocError, Global};
 use std::fmt::Write;
-use tm_cir::{Block, Blocks, Num64, answer, read_small_driver};
+use tm_cir::{Block, Blocks, Num64, answer};
+use tm_cparse::{ReadDriverError, read_driver};
 use tm_sem::state::{Move, State};
 use tm_syntax::design::Design;
 
@@ -38,10 +39,11 @@ pub fn read_and_answered(
     requires vars { length (design_tree design.now).vars ≡ 3 }
     requires processes { length (design_tree design.now).processes ≡ 2 }
 {
-    let Some(blocks) = read_small_driver(alloc, design, text.as_bytes())? else {
-        return String::from_str(alloc, "not read");
-    };
-    turn(alloc, design, &blocks, values, 0)
+    match read_driver(alloc, design, text.as_bytes()) {
+        Ok(blocks) => turn(alloc, design, &blocks, values, 0),
+        Err(ReadDriverError::Bad(_)) => String::from_str(alloc, "not read"),
+        Err(ReadDriverError::Memory) => Err(AllocError),
+    }
 }
 
 /// The answer at a state with these values, the processes at 4 and 9, and process 1 as the last to move.

@@ -15,3 +15,9 @@ returns-in-None g c =
     usage_obeys (command_of (map string_bytes c.args.words.now)) (files_data g.F.Files c.args.files.now)
     (sink_data g.O.Sink c.args.out.now)
     (ap (option_map command_view) (sym c.in-None.is) ∙ c.in_ok-read_words.ensures)
+
+pub obey-requires : goal.obey-requires
+obey-requires g c = (
+  map string_bytes c.args.words.now,
+  sym (ap (option_map command_view) (sym c.in-Some.is) ∙ c.in_ok-read_words.ensures),
+)

@@ -23,3 +23,11 @@ returns-clause-told c = λ f is.
     let typed = checked spec c.args.typed.typed c.requires in
     none_told spec typed (parts_tree spec c.in_ok-parts.parts) refl
     (sound_parts spec typed c.in_ok-parts.parts c.in_ok-parts.ensures.ok) f is
+
+pub invariant_of-result : goal.invariant_of-result
+invariant_of-result c = record {
+  typed = c.args.typed.typed;
+  sound =
+      let spec = spec_tree c.args.typed.spec in
+      ∣ sound_parts spec (checked spec c.args.typed.typed c.requires) c.in_ok-parts.parts c.in_ok-parts.ensures.ok ∣₁;
+}

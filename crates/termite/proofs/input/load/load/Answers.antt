@@ -4,7 +4,7 @@ use Rattle.tm_cir.specs.View.{trees_of}
 use Rattle.termite.specs.Inputs.{TellsBlocks, NoBlocks, NoScript}
 use Rattle.termite.specs.Run.{no_design, no_blocks, no_script}
 use Rattle.termite.specs.World.{files_data}
-use Rattle.termite.proofs.Loading.{reads_none, reads_on, stops_later}
+use Rattle.termite.proofs.Loading.{named_later, reads_none, reads_on, stops_later}
 use Rattle.termite.proofs.input.load.load.Goals as goal
 
 pub returns-in-Err-clause-stopped : goal.returns-in-Err-clause-stopped
@@ -12,6 +12,8 @@ returns-in-Err-clause-stopped g c =
     stops_later g.F.Files c.args.files.now c.args.files.now c.load_design.new.files
     (c.args.spec.now ∷ c.args.driver.now ∷ c.args.choices.now ∷ []) c.args.spec.now c.in-Err.no_design
     (0, omega arith, refl) (reads_none (files_data g.F.Files c.args.files.now)) (λ e told none. no_design none)
+    (λ e. named_later (c.args.spec.now ∷ c.args.driver.now ∷ c.args.choices.now ∷ []) c.args.spec.now e
+    (0, omega arith, refl))
     c.in-Err.ensures.stopped
 
 pub returns-in-Err-load_blocks-clause-stopped : goal.returns-in-Err-load_blocks-clause-stopped
@@ -22,6 +24,8 @@ returns-in-Err-load_blocks-clause-stopped g c =
     (λ e told none. no_blocks (c.in-Ok.ensures.told told)
     (subst (λ (f : List ℕ → Option (List ℕ)). NoBlocks f c.args.driver.now (design_tree c.in-Ok.design) e)
     c.load_design.ensures.files.same_contents none))
+    (λ e. named_later (c.args.spec.now ∷ c.args.driver.now ∷ c.args.choices.now ∷ []) c.args.driver.now e
+    (1, omega arith, refl))
     c.in-Err-load_blocks.ensures.stopped
 
 pub returns-in-Err-load_script-clause-stopped : goal.returns-in-Err-load_script-clause-stopped
@@ -35,4 +39,6 @@ returns-in-Err-load_script-clause-stopped g c =
     c.load_design.ensures.files.same_contents (c.in-Ok-load_blocks.ensures.told told))
     (subst (λ (f : List ℕ → Option (List ℕ)). NoScript f c.args.choices.now (design_tree c.in-Ok.design) e)
     (c.load_blocks.ensures.files.same_contents ∙ c.load_design.ensures.files.same_contents) none))
+    (λ e. named_later (c.args.spec.now ∷ c.args.driver.now ∷ c.args.choices.now ∷ []) c.args.choices.now e
+    (2, omega arith, refl))
     c.in-Err-load_script.ensures.stopped

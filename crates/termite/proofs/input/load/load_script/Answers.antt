@@ -3,7 +3,7 @@ use Rattle.tm_syntax.specs.Design.View.{design_tree}
 use Rattle.termite.specs.declared.ending.Bad.TheVariants.{TooLong, Choices}
 use Rattle.termite.specs.declared.ending.Ending.TheVariants.{BadText}
 use Rattle.termite.specs.Choices.{reading_of}
-use Rattle.termite.specs.Inputs.{NoScript, long_choices, bad_choices, bad_one}
+use Rattle.termite.specs.Inputs.{NoScript, long_choices, bad_choices, bad_one, RefusesOne}
 use Rattle.termite.specs.World.{files_data}
 use Rattle.termite.specs.Inner.Stopping.{IsRefusal}
 use Rattle.termite.proofs.Loading.{refused_by}
@@ -12,21 +12,21 @@ use Rattle.termite.proofs.input.load.load_script.Goals as goal
 pub returns-in_default-clause-stopped : goal.returns-in_default-clause-stopped
 returns-in_default-clause-stopped g c =
     let refusal : IsRefusal (NoScript (g.F.Files.contents c.args.files.now) c.args.choices.now
-    (design_tree c.args.design.now)) (c.args.choices.now ∷ []) (files_data g.F.Files c.args.files.now)
+    (design_tree c.args.design.now)) (RefusesOne (c.args.choices.now ∷ [])) (files_data g.F.Files c.args.files.now)
     (files_data g.F.Files c.read_file.new.files) (BadText c.args.choices.now TooLong) =
     record {
       cause = λ told. long_choices (c.in_ok-text.ensures.long (cc) told);
       named = bad_one (0, omega arith, refl);
-      long = λ file is. c.in_ok-text.ensures.taken (cc);
+      long = record { specification = λ is. cc; file = λ name is. c.in_ok-text.ensures.taken (cc) };
     } in
-    refused_by (BadText c.args.choices.now TooLong) c.bad_text.result refusal c.bad_text.ensures
+    refused_by (c.args.choices.now ∷ []) (BadText c.args.choices.now TooLong) c.bad_text.result refusal c.bad_text.ensures
 
 pub returns-in-Err-BadLine-clause-stopped : goal.returns-in-Err-BadLine-clause-stopped
 returns-in-Err-BadLine-clause-stopped g c =
     let bad : reading_of (design_tree c.args.design.now).processes c.in-Some.text.items ≡ Err c.in-Err-BadLine.line =
     search rules in
     let refusal : IsRefusal (NoScript (g.F.Files.contents c.args.files.now) c.args.choices.now
-    (design_tree c.args.design.now)) (c.args.choices.now ∷ []) (files_data g.F.Files c.args.files.now)
+    (design_tree c.args.design.now)) (RefusesOne (c.args.choices.now ∷ [])) (files_data g.F.Files c.args.files.now)
     (files_data g.F.Files c.read_file.new.files) (BadText c.args.choices.now (Choices c.in-Err-BadLine.line)) =
     record {
       cause = λ told. bad_choices (record {
@@ -36,7 +36,7 @@ returns-in-Err-BadLine-clause-stopped g c =
         reads = bad;
       });
       named = bad_one (0, omega arith, refl);
-      long = λ file is. cc;
+      long = record { specification = λ is. cc; file = λ name is. cc };
     } in
-    refused_by (BadText c.args.choices.now (Choices c.in-Err-BadLine.line)) c.bad_text-in-Err-BadLine.result refusal
+    refused_by (c.args.choices.now ∷ []) (BadText c.args.choices.now (Choices c.in-Err-BadLine.line)) c.bad_text-in-Err-BadLine.result refusal
     c.bad_text-in-Err-BadLine.ensures

@@ -1,5 +1,5 @@
 use Rattle.std.proofs.Common.{◌≡◌, None, [], ◌∷◌, get_or, arith, refl, sym, ◌∙◌}
-use Rattle.termite.specs.Choices.{digits_after}
+use Rattle.termite.specs.Numbers.{digits_after}
 use Rattle.termite.proofs.ReadNumbers.{digits_none_at, digits_end_at}
 use Rattle.termite.proofs.input.number.read_digits.Goals as goal
 

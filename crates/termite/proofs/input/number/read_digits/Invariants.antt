@@ -1,5 +1,5 @@
 use Rattle.std.proofs.Common.{◌≡◌, ◌<◌, ◌^◌, drop}
-use Rattle.termite.specs.Choices.{digits_after}
+use Rattle.termite.specs.Numbers.{digits_after}
 use Rattle.termite.proofs.input.number.read_digits.Given as goal
 
 abbrev pub invariant-loop-digit : goal.invariant-loop-digit

@@ -5,5 +5,5 @@ use Rattle.termite.proofs.play.turns.play.Given as goal
 
 abbrev pub invariant-loop-index : goal.invariant-loop-index
 invariant-loop-index g l =
-    Playing (design_tree l.design) (trees_of l.blocks) l.script g.O.Sink.tells l.index l.position
+    Playing (design_tree l.machine) (trees_of l.blocks) l.script g.O.Sink.tells l.index l.position
     (g.O.Sink.written l.fn.out) (g.O.Sink.written l.out) (g.O.Sink.faults l.fn.out) (g.O.Sink.faults l.out)

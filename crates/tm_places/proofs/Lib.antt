@@ -1,0 +1,5 @@
+pub mod CountedBodies
+pub mod CountedLocations
+pub mod CountedProcesses
+pub mod QuietCounts
+pub mod QuietProcedures

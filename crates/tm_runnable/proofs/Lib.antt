@@ -1,0 +1,4 @@
+pub mod FewPlaces
+pub mod FitDesigns
+pub mod SizedCalls
+pub mod TypedCells

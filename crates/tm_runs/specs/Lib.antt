@@ -1,0 +1,6 @@
+pub mod Arguments
+pub mod Calls
+pub mod Frames
+pub mod Going
+pub mod Runs
+pub mod Tables

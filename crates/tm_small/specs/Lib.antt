@@ -1,4 +1,0 @@
-pub mod Grammar
-pub mod Main
-pub mod Refusal
-pub mod SmallText

@@ -1,0 +1,5 @@
+pub mod DriverParts
+pub mod LevelParts
+pub mod Listed
+pub mod RefusedDrivers
+pub mod RefusedLevels

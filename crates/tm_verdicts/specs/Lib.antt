@@ -1,0 +1,3 @@
+pub mod Driver
+pub mod Environment
+pub mod Reported
