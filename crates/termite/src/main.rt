@@ -1,21 +1,12 @@
-//! The program: it plays drivers against specifications, writes generated ones and certificates, and reports it.
+//! The program: it obeys the words behind its name over the files of the operating system.
 #![tactic(auto)]
-
-mod commands;
-mod ending;
-mod input;
-mod laws;
-mod play;
-mod program;
-mod report;
-mod status;
-mod words;
 
 use std::alloc::{AllocError, Global};
 use std::env::{self, Args};
 use std::io::{self, ErrorKind};
 use std::process::ExitCode;
 use tm_base::{DiskFiles, StdSink};
+use tm_commands::obey_and_report;
 
 /// The code for want of memory for the words.
 const NO_MEMORY: u8 = 7;
@@ -50,6 +41,6 @@ fn main(rt: HostRuntime) -> ExitCode {
     };
     let mut files = DiskFiles::new(&rt);
     let mut out = StdSink::new(&rt);
-    let status = program::termite(rt.alloc(), &words, &mut files, &mut out);
+    let status = obey_and_report(rt.alloc(), &words, &mut files, &mut out);
     ExitCode::from(status.code())
 }

@@ -1,7 +1,7 @@
 -- Assignments to targets without an index.
-use Rattle.std.proofs.Common.{◌≡◌, ℕ, Option, None, Some, List, [], ◌∷◌, refl, sym, ap, ◌∙◌, subst}
+use Rattle.std.proofs.Common.{◌≡◌, ℕ, false, Option, None, Some, List, [], ◌∷◌, refl, sym, ap, ◌∙◌, subst}
 use Rattle.std.specs.Prelude.{unwrap_or}
-use Rattle.std.specs.Option.{option_and_then, option_map}
+use Rattle.std.specs.Option.{option_and_then, option_map, option_map_or}
 use Rattle.std.proofs.lemmas.Option.{none-some, same_Some}
 use Rattle.tm_syntax.specs.declared.tree.Ident.{Ident}
 use Rattle.tm_syntax.specs.declared.design.Ty.{Ty}
@@ -24,6 +24,7 @@ use Rattle.tm_term.specs.Value.{value_of}
 use Rattle.tm_sem.specs.Run.{asked_by, finished, put_in}
 use Rattle.tm_sem.specs.Value.{Memory, put, value}
 use Rattle.tm_flat.specs.Steps.{IsTerm}
+use Rattle.tm_flat.specs.Writes.{is_variable}
 use Rattle.tm_operands.proofs.Contexts.{context_is, some_cells, some_design}
 use Rattle.tm_flatten.specs.Kept.{Keeps, type_at}
 use Rattle.tm_flatten.specs.Merged.{AreApart}
@@ -34,6 +35,7 @@ use Rattle.tm_flows.specs.Flows.{EndTerms, FlowTerms, IsFlow, PutsAt}
 use Rattle.tm_flows.specs.Statements.{AreSettledCells, AsksOne, LeadsThrough}
 use Rattle.tm_flows.specs.Targets.{HasTargetAt, Puts}
 use Rattle.tm_flows.proofs.Leading.{continues_so}
+use Rattle.tm_flows.proofs.Leaving.{leaves_asked, leaves_stops, leaves_then, or_left}
 use Rattle.tm_flows.proofs.Valuing.{behind_operands, operands_ends, operands_flow, operands_position, operands_sound}
 use Rattle.tm_flows.proofs.Pieces.{goes_on_after}
 
@@ -79,6 +81,9 @@ module _ (s : ScopedCells) (names : List Ident) (index : Option ℕ) (id : TermI
         subst (λ o. Keeps s.tables u v g.memory (put_in m o (value_of u v id))) (sym there.1 ∙ tells d has)
         (puts.keeps s.tables apart u v m there.0 keeps
         (subst (λ a. cell_at s.tables a number ≡ Some there.0) (sym same) there.1));
+    leaves = λ d has i had none is.
+        puts.leaves s.tables there.0 (subst (λ a. cell_at s.tables a number ≡ Some there.0) (sym same) there.1) i had
+        (ap (λ o. option_map_or (is_variable i) o false) (sym there.1 ∙ tells d has) ∙ none) is;
   }
 
   pub put_nowhere : Tells s names index None → Puts s names index id f f
@@ -88,6 +93,7 @@ module _ (s : ScopedCells) (names : List Ident) (index : Option ℕ) (id : TermI
     memory = λ t ty memory typed term. memory;
     keeps = λ apart u v d has m keeps.
         subst (λ o. Keeps s.tables u v f.memory (put_in m o (value_of u v id))) (tells d has) keeps;
+    leaves = λ d has i had none is. is;
   }
 
 -- ---- a value is assigned
@@ -113,21 +119,29 @@ module _ (s : ScopedCells) (names : List Ident) (ty : Ty) (e : ExprTree) (t p : 
   }
 
   pub assigned_so : (first : ℕ) → LeadsThrough s first (assign names None (plain e)) t p f before (Some g) mid
-  assigned_so first r has here trail number =
-      let at = scope_of s.at in
-      let o : Option Cell = cell r.design at names None in
-      let after : Memory → Memory = λ m. put_in m o (value r.design at m (asked_by r.design o) e) in
-      behind_operands s (e ∷ []) t p f before x.flow mid asks.asks r.design has number (λ v m. finished (after m))
-      (Some f.position) p (Some g) mid
-      (continues_so s.tables number (λ v m. finished (after m)) (λ v m. finished (after m)) (Some x.flow.position)
-      (Some f.position) p p (Some x.flow) (Some g) mid mid (λ v m. refl)
-      (operands_position s (e ∷ []) t p f before x.flow mid asks.asks)
-      (goes_on_after s.tables number (λ v m. after m) p x.flow g mid
-      (operands_sound s (e ∷ []) t p f before x.flow mid asks.asks) after_flow
-      (operands_ends s (e ∷ []) t p f before x.flow mid asks.asks) puts.guard puts.position
-      (λ u more v inputs m on keeps.
-      subst (Keeps s.tables u v g.memory)
-      (ap (put_in m o)
-      (asks.value.means u more v inputs r.design has m (subst (λ k. Keeps s.tables u v k m) asks.asks.memory keeps))
-      ∙ same_put r.design at m e ty o (target_has_type s ty names settled target r.design has))
-      (puts.keeps apart u v r.design has m keeps))))
+  assigned_so first r has here trail number = record {
+    goes =
+        let at = scope_of s.at in
+        let o : Option Cell = cell r.design at names None in
+        let after : Memory → Memory = λ m. put_in m o (value r.design at m (asked_by r.design o) e) in
+        behind_operands s (e ∷ []) t p f before x.flow mid asks.asks r.design has number (λ v m. finished (after m))
+        (Some f.position) p (Some g) mid
+        (continues_so s.tables number (λ v m. finished (after m)) (λ v m. finished (after m)) (Some x.flow.position)
+        (Some f.position) p p (Some x.flow) (Some g) mid mid (λ v m. refl)
+        (operands_position s (e ∷ []) t p f before x.flow mid asks.asks)
+        (goes_on_after s.tables number (λ v m. after m) p x.flow g mid
+        (operands_sound s (e ∷ []) t p f before x.flow mid asks.asks) after_flow
+        (operands_ends s (e ∷ []) t p f before x.flow mid asks.asks) puts.guard puts.position
+        (λ u more v inputs m on keeps.
+        subst (Keeps s.tables u v g.memory)
+        (ap (put_in m o)
+        (asks.value.means u more v inputs r.design has m (subst (λ k. Keeps s.tables u v k m) asks.asks.memory keeps))
+        ∙ same_put r.design at m e ty o (target_has_type s ty names settled target r.design has))
+        (puts.keeps apart u v r.design has m keeps))));
+    leaves = λ i none.
+        leaves_then i (Some f) (Some x.flow) (Some g) before mid mid
+        (leaves_asked i s (e ∷ []) t p f before x.flow mid asks.asks)
+        (leaves_stops i x.flow (Some g) mid mid
+        (λ id is. puts.leaves r.design has i id
+        (or_left (option_map_or (is_variable i) (cell r.design (scope_of s.at) names None) false) false none) is) refl);
+  }

@@ -125,6 +125,7 @@ module _ (t m n : Table) (f g : FlowTerms) (id : TermId) (k : KeptTerms) (x : Ce
           (memory_along y t m g.memory made.grown two.memory);
     };
     position = is;
+    same = λ i had one two. merged.same i had one two;
     joins = λ y u more v are. record {
       on = either.truth u (Extends-trans m n u merged.grown more) v are;
       first = λ memory on keeps.
@@ -145,6 +146,7 @@ second_flow t g sound = record {
   sound = sound;
   flow = λ x one two. two;
   position = refl;
+  same = λ i id one two. two;
   joins = λ x u more v are. record {
     on = refl;
     first = λ m on keeps. absurd (true≢false (sym on));
@@ -158,6 +160,7 @@ first_flow t f sound = record {
   sound = sound;
   flow = λ x one two. one;
   position = refl;
+  same = λ i id one two. one;
   joins = λ x u more v are. record {
     on = sym (or_false (is_on u v (Some f)));
     first = λ m on keeps. keeps;
@@ -172,5 +175,6 @@ both_flows t n f g h join = record {
   sound = join.sound;
   flow = join.flow;
   position = ap (λ k. Some k) join.position;
+  same = join.same;
   joins = join.joins;
 }

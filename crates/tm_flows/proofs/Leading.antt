@@ -215,6 +215,7 @@ continues_then x number first next stands to t p n f mid g before between after 
   sound = two.sound;
   flow = two.flow;
   ends = two.ends;
+  count = two.count ∙ one.count;
   position = two.position;
   leads = λ u more v are.
       leads_then x u v number (first v) (next v) f mid g before between after
@@ -231,6 +232,7 @@ continues_nowhere x number piece next stands t n f before after one = record {
   sound = one.sound;
   flow = one.flow;
   ends = one.ends;
+  count = one.count;
   position = refl;
   leads = λ u more v are. leads_nowhere x u v number (piece v) (next v) f before after (one.leads u more v are);
 }
@@ -244,6 +246,7 @@ continues_from x number piece to t p n f g before after earlier one = record {
   sound = one.sound;
   flow = one.flow;
   ends = one.ends;
+  count = one.count;
   position = one.position;
   leads = one.leads;
 }
@@ -258,6 +261,7 @@ continues_so x number piece other to stands t n f g before after same there one 
   sound = one.sound;
   flow = one.flow;
   ends = one.ends;
+  count = one.count;
   position = one.position ∙ there;
   leads = λ u more v are.
       leads_so x u v number (piece v) (other v) f g before after (same v) (one.leads u more v are);

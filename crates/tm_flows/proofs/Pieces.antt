@@ -1,5 +1,5 @@
 -- What a single piece of the text makes of a flow and of ends.
-use Rattle.std.proofs.Common.{◌≡◌, ◌≢◌, ◌⊎◌, inl, inr, ℕ, Bool, true, false, Option, None, Some, List, ◌&&◌, ◌||◌, refl, sym, ap, ◌∙◌, subst, arith, true≢false}
+use Rattle.std.proofs.Common.{◌≡◌, ◌≢◌, ◌⊎◌, inl, inr, ℕ, Bool, true, false, Option, None, Some, List, length, ◌&&◌, ◌||◌, refl, sym, ap, ◌∙◌, subst, arith, true≢false}
 use Rattle.std.specs.Prelude.{IfSome, nat_eq, not, if◌then◌else◌}
 use Rattle.std.specs.Option.{option_map_or}
 use Rattle.std.proofs.lemmas.Bool.Decides.{nat_tests}
@@ -101,6 +101,7 @@ module _ (x : CellTables) (number : Place → List Place → Option ℕ) (test :
     sound = narrow.sound;
     flow = is_narrowed x t n f g goes narrow flow;
     ends = ends_along x t n ends narrow.grown are;
+    count = refl;
     position = ap (λ k. Some k) narrow.position;
     leads = leads_on;
   }
@@ -183,19 +184,20 @@ module _ (x : CellTables) (number : Place → List Place → Option ℕ) (test :
               ((ends_along x t n before whole are).stops k);
           failed = truth_along m n after.failed narrow.grown told.failed;
         };
+        count = ap length told.stops;
         position = ap (λ k. Some k) narrow.position;
         leads = leads_or_fails;
       }
 
 -- ---- a run stops at a location
-one_or_other : (k n : ℕ) → (k ≡ n) ⊎ (k ≢ n)
+pub one_or_other : (k n : ℕ) → (k ≡ n) ⊎ (k ≢ n)
 one_or_other k n = by (nat_eq k n) refl
   where
     by : (b : Bool) → nat_eq k n ≡ b → (k ≡ n) ⊎ (k ≢ n)
     by true e = inl (grind (arith, nat_tests))
     by false e = inr (λ same. absurd (grind (arith, nat_tests)))
 
-equal_so : (k n : ℕ) → k ≡ n → nat_eq k n ≡ true
+pub equal_so : (k n : ℕ) → k ≡ n → nat_eq k n ≡ true
 equal_so k n same = grind (arith, nat_tests)
 
 apart_so : (k n : ℕ) → k ≢ n → nat_eq k n ≡ false
@@ -290,6 +292,7 @@ module _ (x : CellTables) (number : Place → List Place → Option ℕ) (at : P
       stops = λ k. by k (one_or_other k stop);
       failed = subst (λ (o : Option TermId). IsTruth n o) (sym told.failed) (ends_along x t n before told.grown are).failed;
     };
+    count = told.count;
     position = refl;
     leads = leads_to_stop;
   }
@@ -314,6 +317,7 @@ module _ (x : CellTables) (number : Place → List Place → Option ℕ) (after_
     sound = sound;
     flow = flow;
     ends = are;
+    count = refl;
     position = ap (λ k. Some k) position;
     leads = λ u more v inputs. record {
       goes = λ m on keeps. stands u v ∙ on;

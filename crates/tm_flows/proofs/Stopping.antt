@@ -8,10 +8,10 @@ use Rattle.tm_term.specs.Table.{Table}
 use Rattle.tm_term.specs.Value.{value_of}
 use Rattle.tm_flatten.specs.Made.{IsTruth, MakesTruth, truth_at}
 use Rattle.tm_flatten.proofs.Later.{or_made}
-use Rattle.tm_flows.specs.Flows.{EndTerms, Fails, FlowTerms, IsFlow, Joins, MakesJoinIfThere, Stops, stop_of}
+use Rattle.tm_flows.specs.Flows.{EndTerms, Fails, FlowTerms, HasTerm, IsFlow, Joins, MakesJoinIfThere, Stops, stop_of}
 
 -- what stands in a list behind one that was set, and at its place
-get_other : {X : Type 0} (xs : List X) (n k : ℕ) (y : X) → k ≢ n → slice_get (slice_set xs n y) k ≡ slice_get xs k
+pub get_other : {X : Type 0} (xs : List X) (n k : ℕ) (y : X) → k ≢ n → slice_get (slice_set xs n y) k ≡ slice_get xs k
 get_other [] n k y other = refl
 get_other (x ∷ xs) zero zero y other = absurd (other refl)
 get_other (x ∷ xs) zero (suc k) y other = refl
@@ -74,12 +74,19 @@ stopped_flow t n number f before after joined below join failed stops =
       grown = join.grown;
       sound = join.sound;
       failed = failed;
+      count = omega (
+        arith,
+        ap length stops,
+        length-set (slice_set before.stops number None) number joined,
+        length-set before.stops number None,
+      );
       others = λ k other.
           ap (λ xs. option_and_then (λ f. f) (slice_get xs k)) stops
           ∙ ap (option_and_then (λ f. f))
           (get_other (slice_set before.stops number None) number k joined other
           ∙ get_other before.stops number k None other);
       flow = λ x one two. subst (λ o. IfSome o (IsFlow x n)) (sym here) (join.flow x one two);
+      same = λ i id one two. subst (λ o. IfSome o (HasTerm i id)) (sym here) (join.same i id one two);
       joins = λ x u more v are.
           subst (λ o. Joins x u v (stop_of before number) (Some f) o) (sym here) (join.joins x u more v are);
     }

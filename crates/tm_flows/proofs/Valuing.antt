@@ -47,6 +47,7 @@ operand_so s asked e t p q n f g before after x flow are found told narrow =
     record {
       asks = record {
         memory = narrow.memory;
+        stops = told.stops;
         goes = λ d has number.
             continues_so s.tables number (λ v m. if overruns d (scope_of s.at) m e then failed else finished m)
             (λ v m. if overruns d (scope_of s.at) m e || false then failed else finished m) (Some f.position)
@@ -148,7 +149,7 @@ any_one : (a b c d : Bool) → b ≡ (c || d) → (a || b) ≡ ((a || c) || d)
 any_one true b c d is = refl
 any_one false b c d is = is
 
-any_behind : (p : ExprTree → Bool) (es fs : List ExprTree) → list_any p (es ++ fs) ≡ (list_any p es || list_any p fs)
+pub any_behind : (p : ExprTree → Bool) (es fs : List ExprTree) → list_any p (es ++ fs) ≡ (list_any p es || list_any p fs)
 any_behind p [] fs = refl
 any_behind p (e ∷ es) fs =
     any_one (p e) (list_any p (es ++ fs)) (list_any p es) (list_any p fs) (any_behind p es fs)
@@ -164,6 +165,7 @@ pub asks_then : (s : ScopedCells) (es fs : List ExprTree) (t p n : Table) (f g h
     Asks s (es ++ fs) t n f before h after
 asks_then s es fs t p n f g h before mid after one two = record {
   memory = two.memory ∙ one.memory;
+  stops = two.stops ∙ one.stops;
   goes = λ d has number.
       let at = scope_of s.at in
       continues_so s.tables number
@@ -190,6 +192,7 @@ pub asks_none : (s : ScopedCells) (t : Table) (f : FlowTerms) (ends : EndTerms) 
     AreEnds s.tables t ends → Asks s [] t t f ends f ends
 asks_none s t f ends sound flow are = record {
   memory = refl;
+  stops = refl;
   goes = λ d has number.
       goes_on_after s.tables number (λ v m. m) t f f ends sound flow are refl refl
       (λ u more v inputs m on keeps. keeps);

@@ -1,6 +1,6 @@
 -- Where runs stand and how they have ended, as terms: a flow has a truth that says whether a run stands there, and the
 -- terms of its memory.
-use Rattle.std.specs.Prelude.{◌≡◌, ◌≢◌, ⊤, ℕ, Bool, true, false, ◌||◌, ◌&&◌, Option, None, Some, List, IfSome, max, nat_eq, slice_get}
+use Rattle.std.specs.Prelude.{◌≡◌, ◌≢◌, ⊤, ℕ, Bool, true, false, ◌||◌, ◌&&◌, Option, None, Some, List, IfSome, length, max, nat_eq, slice_get}
 use Rattle.std.specs.Option.{option_and_then, option_map, option_map_or}
 use Rattle.tm_base.specs.declared.place.Place.{Place}
 use Rattle.tm_bits.specs.Arithmetic.{is_nonzero}
@@ -18,6 +18,7 @@ use Rattle.tm_sem.specs.Value.{Memory, put}
 use Rattle.tm_sem.specs.Run.{Ending, stopped, finished, failed}
 use Rattle.tm_flat.specs.Positions.{later}
 use Rattle.tm_flat.specs.Steps.{IsTerm}
+use Rattle.tm_flat.specs.Writes.{is_variable}
 use Rattle.tm_flatten.specs.Kept.{KeptTerms, Keeps, type_at}
 use Rattle.tm_flatten.specs.Made.{IsTruth, truth_at}
 use Rattle.tm_flatten.specs.Merged.{AreApart, IsMemory}
@@ -46,6 +47,14 @@ FlowKeeps x u v (Some f) m = Keeps x u v f.memory m
 -- the flow of the runs that stopped at the location of a number
 abbrev pub stop_of : EndTerms → ℕ → Option FlowTerms
 stop_of ends n = option_and_then (λ f. f) (slice_get ends.stops n)
+
+-- in a flow the state variable of a number has this term
+abbrev pub HasTerm : ℕ → TermId → FlowTerms → Type 0
+HasTerm i id f = slice_get f.memory.values i ≡ Some id
+
+-- so it has where runs have stopped
+abbrev pub StopsHave : ℕ → TermId → EndTerms → Type 0
+StopsHave i id ends = (n : ℕ) → IfSome (stop_of ends n) (HasTerm i id)
 
 -- whether a run goes on behind what it did
 abbrev pub has_finished : Ending → Bool
@@ -121,9 +130,24 @@ pub record Continues (x : CellTables) (number : Place → List Place → Option 
   pub sound : IsSound n
   pub flow : IfSome g (IsFlow x n)
   pub ends : AreEnds x n after
+  pub count : length after.stops ≡ length before.stops
   pub position : option_map (λ h. h.position) g ≡ to
   pub leads : (u : Table) → Extends n u → (v : List ℕ) → AreInputs u v →
       Leads x u v number (piece v) f before g after
+
+-- what leads from a flow and ends to others leaves the state variable of a number alone: the term that it had in the flow
+-- it has in the one behind, and where runs have stopped, if it had it where runs had stopped before
+pub record Leaves (i : ℕ) (f : Option FlowTerms) (before : EndTerms) (g : Option FlowTerms) (after : EndTerms) :
+    Type 0 where
+  pub flow : (id : TermId) → IfSome f (HasTerm i id) → IfSome g (HasTerm i id)
+  pub stops : (id : TermId) → IfSome f (HasTerm i id) → StopsHave i id before → StopsHave i id after
+
+-- a piece of the text leads on, and leaves each state variable alone that it does not write
+pub record LeadsOn (x : CellTables) (number : Place → List Place → Option ℕ) (piece : List ℕ → Memory → Ending)
+    (to : Option ℕ) (writes : ℕ → Bool) (t n : Table) (f : Option FlowTerms) (before : EndTerms)
+    (g : Option FlowTerms) (after : EndTerms) : Type 0 where
+  pub goes : Continues x number piece to t n f before g after
+  pub leaves : (i : ℕ) → writes i ≡ false → Leaves i f before g after
 
 -- a flow was made of another one: a run stands there that stands in that one, and at which a test holds
 pub record Narrows (t n : Table) (f g : FlowTerms) (test : Table → List ℕ → Bool) : Type 0 where
@@ -135,12 +159,13 @@ pub record Narrows (t n : Table) (f g : FlowTerms) (test : Table → List ℕ �
   pub on : (u : Table) → Extends n u → (v : List ℕ) → AreInputs u v →
       is_on u v (Some g) ≡ (is_on u v (Some f) && test u v)
 
--- two flows over the same cells were made one
+-- two flows over the same cells were made one. A state variable of which both have one term keeps it
 pub record MakesJoin (t n : Table) (f g joined : FlowTerms) : Type 0 where
   pub grown : Extends t n
   pub sound : IsSound n
   pub flow : (x : CellTables) → IsFlow x t f → IsFlow x t g → IsFlow x n joined
   pub position : joined.position ≡ max f.position g.position
+  pub same : (i : ℕ) (id : TermId) → HasTerm i id f → HasTerm i id g → HasTerm i id joined
   pub joins : (x : CellTables) (u : Table) → Extends n u → (v : List ℕ) → AreInputs u v →
       Joins x u v (Some f) (Some g) (Some joined)
 
@@ -151,6 +176,7 @@ pub record MakesJoinIfThere (t n : Table) (f g joined : Option FlowTerms) : Type
   pub flow : (x : CellTables) → IfSome f (IsFlow x t) → IfSome g (IsFlow x t) → IfSome joined (IsFlow x n)
   pub position : option_map (λ h. h.position) joined
       ≡ later (option_map (λ h. h.position) f) (option_map (λ h. h.position) g)
+  pub same : (i : ℕ) (id : TermId) → IfSome f (HasTerm i id) → IfSome g (HasTerm i id) → IfSome joined (HasTerm i id)
   pub joins : (x : CellTables) (u : Table) → Extends n u → (v : List ℕ) → AreInputs u v → Joins x u v f g joined
 
 -- ends tell more: the runs of a flow failed at which a test holds
@@ -168,9 +194,12 @@ pub record Stops (t n : Table) (number : ℕ) (f : FlowTerms) (before after : En
   pub grown : Extends t n
   pub sound : IsSound n
   pub failed : after.failed ≡ before.failed
+  pub count : length after.stops ≡ length before.stops
   pub others : (k : ℕ) → k ≢ number → stop_of after k ≡ stop_of before k
   pub flow : (x : CellTables) → IfSome (stop_of before number) (IsFlow x t) → IsFlow x t f →
       IfSome (stop_of after number) (IsFlow x n)
+  pub same : (i : ℕ) (id : TermId) → IfSome (stop_of before number) (HasTerm i id) → HasTerm i id f →
+      IfSome (stop_of after number) (HasTerm i id)
   pub joins : (x : CellTables) (u : Table) → Extends n u → (v : List ℕ) → AreInputs u v →
       Joins x u v (stop_of before number) (Some f) (stop_of after number)
 
@@ -182,3 +211,5 @@ pub record PutsAt (at : SiteBody) (number : CellNumber) (id : TermId) (f g : Flo
       IsTerm t (type_bits (spec_tree x.spec) ty) id → IsMemory x t g.memory
   pub keeps : (x : CellTables) → AreApart x → (u : Table) (v : List ℕ) (m : Memory) (c : Cell) →
       Keeps x u v f.memory m → cell_at x at number ≡ Some c → Keeps x u v g.memory (put m c (value_of u v id))
+  pub leaves : (x : CellTables) (c : Cell) → cell_at x at number ≡ Some c → (i : ℕ) (had : TermId) →
+      is_variable i c ≡ false → HasTerm i had f → HasTerm i had g

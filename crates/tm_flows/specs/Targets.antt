@@ -1,5 +1,6 @@
 -- Targets of assignments, and what is put into them.
-use Rattle.std.specs.Prelude.{◌≡◌, ℕ, Option, Some, List}
+use Rattle.std.specs.Prelude.{◌≡◌, ℕ, false, Option, Some, List}
+use Rattle.std.specs.Option.{option_map_or}
 use Rattle.tm_syntax.specs.declared.tree.Ident.{Ident}
 use Rattle.tm_syntax.specs.declared.design.Ty.{Ty}
 use Rattle.tm_syntax.specs.Design.{DesignTree}
@@ -15,10 +16,11 @@ use Rattle.tm_operands.specs.Typed.{context_at}
 use Rattle.tm_sem.specs.Run.{put_in}
 use Rattle.tm_sem.specs.Value.{Memory}
 use Rattle.tm_flat.specs.Steps.{IsTerm}
+use Rattle.tm_flat.specs.Writes.{is_variable}
 use Rattle.tm_flatten.specs.Kept.{Keeps}
 use Rattle.tm_flatten.specs.Merged.{AreApart, IsMemory}
 use Rattle.tm_flatten.specs.Valued.{CellHasType, bits_in}
-use Rattle.tm_flows.specs.Flows.{FlowTerms}
+use Rattle.tm_flows.specs.Flows.{FlowTerms, HasTerm}
 
 -- a path that is assigned in a body of an instance has this type
 pub record HasTargetAt (s : ScopedCells) (ty : Ty) (names : List Ident) : Type 0 where
@@ -36,3 +38,6 @@ pub record Puts (s : ScopedCells) (names : List Ident) (index : Option ℕ) (id 
   pub keeps : AreApart s.tables → (u : Table) (v : List ℕ) (d : DesignTree) → HasCells s.tables d → (m : Memory) →
       Keeps s.tables u v f.memory m →
       Keeps s.tables u v g.memory (put_in m (cell d (scope_of s.at) names index) (value_of u v id))
+  pub leaves : (d : DesignTree) → HasCells s.tables d → (i : ℕ) (had : TermId) →
+      option_map_or (is_variable i) (cell d (scope_of s.at) names index) false ≡ false → HasTerm i had f →
+      HasTerm i had g

@@ -1,7 +1,7 @@
 -- Choices that are assigned.
 use Rattle.std.proofs.Common.{◌≡◌, ℕ, ◌+◌, ◌^◌, ◌<◌, ◌≤◌, ◌&&◌, Bool, true, false, Option, None, Some, List, refl, sym, ap, ◌∙◌, subst, arith, pow_pos}
 use Rattle.std.specs.Prelude.{nat_lt, slice_get, unwrap_or, if◌then◌else◌}
-use Rattle.std.specs.Option.{option_and_then}
+use Rattle.std.specs.Option.{option_and_then, option_map_or}
 use Rattle.std.proofs.Math.Bool.{and-true}
 use Rattle.std.proofs.lemmas.Bool.Decides.{nat_tests}
 use Rattle.tm_base.specs.declared.place.Place.{Place}
@@ -27,6 +27,7 @@ use Rattle.tm_operands.proofs.Contexts.{context_is}
 use Rattle.tm_flat.specs.BitRun.{followed_by, number_at, puts_number}
 use Rattle.tm_flat.specs.Positions.{target_bits}
 use Rattle.tm_flat.specs.Steps.{IsTerm}
+use Rattle.tm_flat.specs.Writes.{is_variable}
 use Rattle.tm_flatten.specs.Kept.{Keeps}
 use Rattle.tm_flatten.specs.Made.{Makes}
 use Rattle.tm_flatten.specs.Merged.{AreApart}
@@ -40,6 +41,7 @@ use Rattle.tm_steps.specs.Elements.{HasCell}
 use Rattle.tm_flows.proofs.Assigning.{own_of_name, target_has_type}
 use Rattle.tm_flows.proofs.Flowing.{ends_along, flow_along}
 use Rattle.tm_flows.proofs.Leading.{continues_from, continues_so, continues_then}
+use Rattle.tm_flows.proofs.Leaving.{leaves_memory, leaves_stops, leaves_then, or_left}
 use Rattle.tm_flows.proofs.Pieces.{goes_on_after, goes_on_where, is_narrowed}
 
 -- ---- a flow that goes on at another position
@@ -65,6 +67,7 @@ continues_moved x number piece to t n f g k before after one = record {
   sound = one.sound;
   flow = record { guard = one.flow.guard; memory = one.flow.memory };
   ends = one.ends;
+  count = one.count;
   position = refl;
   leads = λ u more v inputs.
       leads_moved x u v number (piece v) f g k before after (one.leads u more v inputs);
@@ -254,17 +257,25 @@ module _ (s : ScopedCells) (names : List Ident) (ty : Ty) (first count : ℕ) (t
   pub chosen_so : (at : Place) →
       LeadsThrough s first (assign names None (star at)) t q f ends
       (Some (record { guard = h.guard; memory = h.memory; position = f.position + bits_in s ty })) ends
-  chosen_so at r has here trail numbers =
-      let d = r.design in
-      let o : Option Cell = cell d (scope_of s.at) names None in
-      continues_so s.tables numbers
-      (λ v m. if nat_lt (number_at (choice_bit first v) f.position (bits_in s ty)) count then finished (put_in m o (number_at (choice_bit first v) f.position (bits_in s ty))) else blocked)
-      (λ v m. puts_number d m o
-      (number_at (choice_bit r.first v) f.position (target_bits d (scope_of s.at) names)))
-      (Some (f.position + bits_in s ty)) (Some (f.position + target_bits d (scope_of s.at) names)) t q (Some f)
-      (Some (record { guard = h.guard; memory = h.memory; position = f.position + bits_in s ty })) ends ends
-      (λ v m i.
-      if nat_lt (number_at (choice_bit (sym here i) v) f.position (sym (bits_told s ty names target d has) i)) (sym (size d has) i)
-      then finished (put_in m o (number_at (choice_bit (sym here i) v) f.position (sym (bits_told s ty names target d has) i)))
-      else blocked)
-      (λ i. Some (f.position + sym (bits_told s ty names target d has) i)) (chosen_here d has numbers)
+  chosen_so at r has here trail numbers = record {
+    goes =
+        let d = r.design in
+        let o : Option Cell = cell d (scope_of s.at) names None in
+        continues_so s.tables numbers
+        (λ v m. if nat_lt (number_at (choice_bit first v) f.position (bits_in s ty)) count then finished (put_in m o (number_at (choice_bit first v) f.position (bits_in s ty))) else blocked)
+        (λ v m. puts_number d m o
+        (number_at (choice_bit r.first v) f.position (target_bits d (scope_of s.at) names)))
+        (Some (f.position + bits_in s ty)) (Some (f.position + target_bits d (scope_of s.at) names)) t q (Some f)
+        (Some (record { guard = h.guard; memory = h.memory; position = f.position + bits_in s ty })) ends ends
+        (λ v m i.
+        if nat_lt (number_at (choice_bit (sym here i) v) f.position (sym (bits_told s ty names target d has) i)) (sym (size d has) i)
+        then finished (put_in m o (number_at (choice_bit (sym here i) v) f.position (sym (bits_told s ty names target d has) i)))
+        else blocked)
+        (λ i. Some (f.position + sym (bits_told s ty names target d has) i)) (chosen_here d has numbers);
+    leaves = λ i none.
+        leaves_then i (Some f) (Some g) (Some (record { guard = h.guard; memory = h.memory; position = f.position + bits_in s ty }))
+        ends ends ends (leaves_memory i f g ends ends narrow.memory refl)
+        (leaves_stops i g (Some (record { guard = h.guard; memory = h.memory; position = f.position + bits_in s ty })) ends ends
+        (λ had is. puts.leaves r.design has i had
+        (or_left (option_map_or (is_variable i) (cell r.design (scope_of s.at) names None) false) false none) is) refl);
+  }

@@ -1,9 +1,7 @@
 -- Assignments to elements of arrays.
-use Rattle.std.proofs.Common.{◌≡◌, ℕ, ◌+◌, ◌^◌, ◌<◌, ◌≤◌, ◌==◌, Bool, true, false, Option, None, Some, List, [], ◌∷◌, ◌++◌, ◌||◌, refl, sym, ap, ◌∙◌, subst, arith, eqb-true, true≢false}
+use Rattle.std.proofs.Common.{◌≡◌, ℕ, ◌+◌, ◌^◌, ◌<◌, ◌≤◌, ◌==◌, Bool, true, false, Option, None, Some, List, [], ◌∷◌, ◌||◌, refl, sym, ap, ◌∙◌, subst, arith, eqb-true, true≢false}
 use Rattle.std.specs.Prelude.{min, nat_le, nat_lt, unwrap_or, if◌then◌else◌}
-use Rattle.std.specs.List.{list_any}
 use Rattle.std.proofs.lemmas.Bool.Decides.{nat_tests}
-use Rattle.tm_base.specs.declared.place.Place.{Place}
 use Rattle.tm_bits.specs.Arithmetic.{bit, choice, equal}
 use Rattle.tm_syntax.specs.declared.tree.Ident.{Ident}
 use Rattle.tm_syntax.specs.declared.tree.Num.{Num}
@@ -17,7 +15,7 @@ use Rattle.tm_syntax.specs.Design.Scope.{index_type, length_in}
 use Rattle.tm_syntax.specs.Design.Cells.{Cell, cell}
 use Rattle.tm_scope.specs.Cells.{HasCells, ScopedCells, scope_of}
 use Rattle.tm_term.specs.declared.term.TermId.{TermId}
-use Rattle.tm_term.specs.Table.{Table, IsKnown, IsSound, width_of}
+use Rattle.tm_term.specs.Table.{Table, IsSound, width_of}
 use Rattle.tm_term.specs.Value.{AreInputs, value_of, Extends}
 use Rattle.tm_term.proofs.Valued.{Extends-trans}
 use Rattle.tm_sem.specs.Run.{asked_by, finished, put_in}
@@ -27,8 +25,9 @@ use Rattle.tm_operands.specs.Typed.{HasTypeAt}
 use Rattle.tm_operands.proofs.Contexts.{context_is}
 use Rattle.tm_operands.proofs.Parts.{sized_at}
 use Rattle.tm_flat.specs.Steps.{IsTerm}
+use Rattle.tm_flat.specs.Writes.{target_writes}
 use Rattle.tm_flatten.specs.declared.valued.Valued.{Valued}
-use Rattle.tm_flatten.specs.Kept.{Keeps}
+use Rattle.tm_flatten.specs.Kept.{KeptTerms, Keeps}
 use Rattle.tm_flatten.specs.Made.{Makes}
 use Rattle.tm_flatten.specs.Merged.{AreApart}
 use Rattle.tm_flatten.specs.Valued.{CellHasType, Finds, FindsElement, bits_in, element_value}
@@ -37,13 +36,18 @@ use Rattle.tm_flows.specs.declared.operands.Operand.{Operand}
 use Rattle.tm_flows.specs.Flows.{EndTerms, FlowTerms, IsFlow}
 use Rattle.tm_flows.specs.Statements.{AreSettledCells, Asks, AsksOne, LeadsThrough}
 use Rattle.tm_flows.specs.Targets.{HasTargetAt, Puts}
+use Rattle.tm_steps.specs.declared.places.TargetPlace.{TargetPlace}
+use Rattle.tm_steps.specs.declared.places.TargetPlace.TheVariants.{Whole, Number, Found}
 use Rattle.tm_steps.specs.Elements.{PutsElement, PutsOne, PutsSome}
+use Rattle.tm_steps.specs.Places.{FindsPlace, PutsPlace}
 use Rattle.tm_flows.proofs.Flowing.{ends_along, memory_along}
 use Rattle.tm_flows.proofs.Leading.{continues_from, continues_so}
+use Rattle.tm_flows.proofs.Leaving.{leaves_asked, leaves_stops, leaves_then, or_left}
 use Rattle.tm_flows.proofs.Valuing.{asks_then, behind_operands, none_overruns, operands_ends, operands_flow}
 use Rattle.tm_flows.proofs.Valuing.{operands_position}
 use Rattle.tm_flows.proofs.Pieces.{goes_on_after}
 use Rattle.tm_steps.proofs.PutBack.{put_back}
+use Rattle.tm_steps.proofs.Written.{any_written, element_is, none_between, none_within, none_written}
 use Rattle.tm_flows.proofs.Assigning.{same_put}
 
 chosen_number : (x number a b : ℕ) → (if x == number then a else b) ≡ choice (equal x number) a b
@@ -97,6 +101,7 @@ module _ (s : ScopedCells) (names : List Ident) where
             ∙ ap (λ y. if value_of u v index == number then value_of u v id else y) (sym element_is) in
             subst (λ w. Keeps s.tables u v g.memory (put_in m (cell d (scope_of s.at) names (Some number)) w)) chosen_is
             (puts.keeps apart u v d has m keeps);
+        leaves = puts.leaves;
       }
 
   -- ---- several elements
@@ -116,6 +121,7 @@ module _ (s : ScopedCells) (names : List Ident) where
         (if b
         then put_in m (cell d (scope_of s.at) names (Some (value_of u v index))) (value_of u v id)
         else m)) (sym (none_below (value_of u v index))) keeps;
+    leaves = λ d has i had none is. is;
   }
 
   pub some_flow : (index id : TermId) (count : ℕ) (t n : Table) (f g : FlowTerms) →
@@ -190,59 +196,133 @@ module _ (s : ScopedCells) (names : List Ident) where
       keeps = λ u more v are d has m keeps.
           more_keeps u more v are d has m keeps (value_of u v index == count) (nat_lt (value_of u v index) count)
           (nat_lt (value_of u v index) (count + 1)) refl refl refl;
+      leaves = λ d has i had none is.
+          one.leaves d has i had (none count (omega arith))
+          (some.leaves d has i had (λ k below. none k (omega (arith, below))) is);
     }
 
-  -- ---- the element that an index numbers
-  pub number_put : (ty : Ty) (n : Num) (id : TermId) (t : Table) (f g : FlowTerms) → AreApart s.tables →
-      CellHasType s names (Some (number_of n)) ty → IsSound t → IsFlow s.tables t f → IsTerm t (bits_in s ty) id →
-      Puts s names (Some (number_of n)) id f g → PutsElement s names (literal n) id t t f g
-  number_put ty n id t f g apart typed sound flow term puts = record {
-    grown = Extends-refl t;
-    sound = sound;
-    guard = puts.guard;
-    position = puts.position;
-    memory = puts.memory t ty flow.memory typed term;
-    keeps = λ u more v are d has m keeps safe. puts.keeps apart u v d has m keeps;
-  }
+  -- ---- where a target is
+  pub number_place : (n : Num) (r : ℕ) (k : KeptTerms) (t : Table) → r ≡ number_of n → IsSound t →
+      FindsPlace s k names (literal n) t t (Number r)
+  number_place n r k t is sound =
+      subst (λ (j : ℕ). FindsPlace s k names (literal n) t t (Number j)) (sym is) (record {
+        grown = Extends-refl t;
+        sound = sound;
+        known = tt;
+        is = λ u more v are d has m keeps safe. refl;
+        writes = λ d has i none. none;
+      })
 
-  or_second : (a b : Bool) → (a || b) ≡ false → b ≡ false
+  pub or_second : (a b : Bool) → (a || b) ≡ false → b ≡ false
   or_second true b is = absurd (true≢false is)
   or_second false b is = is
 
   within_reach : (i x length most : ℕ) → i ≡ x → nat_le length i ≡ false → x < most → nat_lt x (min length most) ≡ true
   within_reach i x length most same below most_below = grind (arith, nat_tests)
 
-  pub elements_put : (index : ExprTree) (index_ty : Ty) (length : ℕ) (id : TermId) (t n r : Table) (f g : FlowTerms)
-      (x : Valued) → ((d : DesignTree) → HasCells s.tables d → index_type d (scope_of s.at) index ≡ index_ty) →
+  most_reached : (length most : ℕ) → min length most ≤ most
+  most_reached length most = omega arith
+
+  all_reached : (length most k : ℕ) → k < min length most → k < length
+  all_reached length most k below = omega (arith, below)
+
+  pub elements_place : (index : ExprTree) (index_ty : Ty) (length : ℕ) (k : KeptTerms) (t n : Table) (x : Valued) →
+      ((d : DesignTree) → HasCells s.tables d → index_type d (scope_of s.at) index ≡ index_ty) →
       ((d : DesignTree) → HasCells s.tables d → length_in d (scope_of s.at) names ≡ Some length) →
-      Finds s f.memory index_ty index t n x →
-      PutsSome s names x.value (min length (2 ^ width_of n x.value)) id n r f g →
-      PutsElement s names index id t r f g
-  elements_put index index_ty length id t n r f g x asks long found some = record {
-    grown = Extends-trans t n r found.grown some.grown;
-    sound = some.sound;
-    guard = some.guard;
-    position = some.position;
-    memory = some.memory;
-    keeps = λ u more v are d has m keeps safe.
-        let later : Extends n u = Extends-trans n r u some.grown more in
+      ((d : DesignTree) → HasCells s.tables d → (i : ℕ) →
+      target_writes d (scope_of s.at) i names (Some index) ≡ any_written d (scope_of s.at) i names) →
+      Finds s k index_ty index t n x →
+      FindsPlace s k names index t n (Found x.value (min length (2 ^ width_of n x.value)))
+  elements_place index index_ty length k t n x asks long written found = record {
+    grown = found.grown;
+    sound = found.ready.sound;
+    known = (found.value.0, most_reached length (2 ^ width_of n x.value));
+    is = λ u more v are d has m keeps safe.
         let i : ℕ = index_value d (scope_of s.at) m index in
         let same : i ≡ value_of u v x.value =
         ap (λ a. value d (scope_of s.at) m a index) (asks d has)
-        ∙ (found.means u later v are).value (record { design = d; memory = m; cells = has; keeps = keeps }) in
+        ∙ (found.means u more v are).value (record { design = d; memory = m; cells = has; keeps = keeps }) in
         let below : value_of u v x.value < 2 ^ width_of n x.value =
-        below_later n u v (width_of n x.value) x.value found.ready.sound (found.value.0, refl) later are in
+        below_later n u v (width_of n x.value) x.value found.ready.sound (found.value.0, refl) more are in
         let within : nat_le length i ≡ false =
         ap (λ o. nat_le (unwrap_or o 0) i) (sym (long d has))
         ∙ or_second (overruns d (scope_of s.at) m index) (is_past_end d (scope_of s.at) m names index) safe in
         let reached : nat_lt (value_of u v x.value) (min length (2 ^ width_of n x.value)) ≡ true =
         within_reach i (value_of u v x.value) length (2 ^ width_of n x.value) same within below in
-        subst (λ k. Keeps s.tables u v g.memory (put_in m (cell d (scope_of s.at) names (Some k)) (value_of u v id)))
-        (sym same)
-        (subst (λ b. Keeps s.tables u v g.memory
-        (if b
-        then put_in m (cell d (scope_of s.at) names (Some (value_of u v x.value))) (value_of u v id)
-        else m)) reached (some.keeps u more v are d has m keeps));
+        ap (λ j. cell d (scope_of s.at) names (Some j)) same
+        ∙ sym (ap (λ b. if b then cell d (scope_of s.at) names (Some (value_of u v x.value)) else None) reached);
+    writes = λ d has i none.
+        none_within (element_is d (scope_of s.at) i names) 0 (min length (2 ^ width_of n x.value))
+        (λ j low high.
+        none_written d (scope_of s.at) i names length (long d has) (sym (written d has i) ∙ none) j
+        (all_reached length (2 ^ width_of n x.value) j (omega (arith, high))));
+  }
+
+  -- ---- a term is put there
+  pub whole_put : (ty : Ty) (id : TermId) (t : Table) (f g : FlowTerms) → AreApart s.tables →
+      CellHasType s names None ty → IsSound t → IsFlow s.tables t f → IsTerm t (bits_in s ty) id →
+      Puts s names None id f g → PutsPlace s names Whole id t t f g
+  whole_put ty id t f g apart typed sound flow term puts = record {
+    grown = Extends-refl t;
+    sound = sound;
+    guard = puts.guard;
+    position = puts.position;
+    memory = puts.memory t ty flow.memory typed term;
+    keeps = λ u more v are d has m keeps. puts.keeps apart u v d has m keeps;
+    leaves = puts.leaves;
+  }
+
+  pub number_put : (ty : Ty) (n : ℕ) (id : TermId) (t : Table) (f g : FlowTerms) → AreApart s.tables →
+      CellHasType s names (Some n) ty → IsSound t → IsFlow s.tables t f → IsTerm t (bits_in s ty) id →
+      Puts s names (Some n) id f g → PutsPlace s names (Number n) id t t f g
+  number_put ty n id t f g apart typed sound flow term puts = record {
+    grown = Extends-refl t;
+    sound = sound;
+    guard = puts.guard;
+    position = puts.position;
+    memory = puts.memory t ty flow.memory typed term;
+    keeps = λ u more v are d has m keeps. puts.keeps apart u v d has m keeps;
+    leaves = puts.leaves;
+  }
+
+  put_if : (b : Bool) (m : Memory) (o : Option Cell) (n : ℕ) →
+      (if b then put_in m o n else m) ≡ put_in m (if b then o else None) n
+  put_if true m o n = refl
+  put_if false m o n = refl
+
+  pub found_put : (index : TermId) (count : ℕ) (id : TermId) (t n : Table) (f g : FlowTerms) →
+      PutsSome s names index count id t n f g → PutsPlace s names (Found index count) id t n f g
+  found_put index count id t n f g some = record {
+    grown = some.grown;
+    sound = some.sound;
+    guard = some.guard;
+    position = some.position;
+    memory = some.memory;
+    keeps = λ u more v are d has m keeps.
+        subst (Keeps s.tables u v g.memory)
+        (put_if (nat_lt (value_of u v index) count) m
+        (cell d (scope_of s.at) names (Some (value_of u v index))) (value_of u v id))
+        (some.keeps u more v are d has m keeps);
+    leaves = λ d has i had none is.
+        some.leaves d has i had
+        (λ k below.
+        none_between (element_is d (scope_of s.at) i names) 0 count none k (omega arith) (omega (arith, below))) is;
+  }
+
+  pub element_put : (index : ExprTree) (place : TargetPlace) (id : TermId) (t p n : Table) (f g : FlowTerms) →
+      FindsPlace s f.memory names index t p place → PutsPlace s names place id p n f g →
+      PutsElement s names index id t n f g
+  element_put index place id t p n f g found puts = record {
+    grown = Extends-trans t p n found.grown puts.grown;
+    sound = puts.sound;
+    guard = puts.guard;
+    position = puts.position;
+    memory = puts.memory;
+    keeps = λ u more v are d has m keeps safe.
+        subst (λ o. Keeps s.tables u v g.memory (put_in m o (value_of u v id)))
+        (sym (found.is u (Extends-trans p n u puts.grown more) v are d has m keeps safe))
+        (puts.keeps u more v are d has m keeps);
+    leaves = λ d has i had none is. puts.leaves d has i had (found.writes d has i none) is;
   }
 
 -- ---- a value is assigned
@@ -266,7 +346,7 @@ elements_typed s ty names k settled target d has c found =
     (settled d has).elements (scope_of s.at) target.context names k ty c
     (context_is s target.context target.stands d has) target.named found
 
-or_first : (a b : Bool) → (a || b) ≡ false → a ≡ false
+pub or_first : (a b : Bool) → (a || b) ≡ false → a ≡ false
 or_first true b is = is
 or_first false b is = refl
 
@@ -289,30 +369,38 @@ module _ (s : ScopedCells) (names : List Ident) (index : ExprTree) (ty : Ty) (e 
 
   pub element_assigned : (first : ℕ) →
       LeadsThrough s first (assign names (Some index) (plain e)) t n f before (Some g) after
-  element_assigned first r has here trail number =
-      let at = scope_of s.at in
-      let d = r.design in
-      let o : Memory → Option Cell = λ m. cell d at names (Some (index_value d at m index)) in
-      let next : Memory → Memory = λ m. put_in m (o m) (value d at m (asked_by d (o m)) e) in
-      behind_operands s (element names index ∷ e ∷ []) t q f before y.flow after asks d has number
-      (λ v m. finished (next m)) (Some f.position) n (Some g) after
-      (continues_so s.tables number (λ v m. finished (next m)) (λ v m. finished (next m)) (Some y.flow.position)
-      (Some f.position) q n (Some y.flow) (Some g) after after (λ v m. refl)
-      (operands_position s (element names index ∷ e ∷ []) t q f before y.flow after asks)
-      (continues_from s.tables number (λ v m. finished (next m)) (Some y.flow.position) q n n (Some y.flow) (Some g)
-      after after puts.grown
-      (goes_on_after s.tables number (λ v m. next m) n y.flow g after puts.sound after_flow
-      (ends_along s.tables q n after puts.grown
-      (operands_ends s (element names index ∷ e ∷ []) t q f before y.flow after asks)) puts.guard puts.position
-      (λ u more v inputs m on keeps.
-      let later : Extends q u = Extends-trans q n u puts.grown more in
-      let safe : overruns d at m (element names index) ≡ false =
-      or_first (overruns d at m (element names index)) (overruns d at m e || false)
-      (none_overruns s (element names index ∷ e ∷ []) t q f before y.flow after asks u later v inputs d has m keeps
-      on) in
-      let value_is = valued.value.means u later v inputs d has m
-      (subst (λ k. Keeps s.tables u v k m) valued.asks.memory keeps) in
-      subst (Keeps s.tables u v g.memory)
-      (ap (put_in m (o m)) value_is
-      ∙ same_put d at m e ty (o m) (elements_typed s ty names (index_value d at m index) settled target d has))
-      (puts.keeps u more v inputs d has m keeps safe)))))
+  element_assigned first r has here trail number = record {
+    goes =
+        let at = scope_of s.at in
+        let d = r.design in
+        let o : Memory → Option Cell = λ m. cell d at names (Some (index_value d at m index)) in
+        let next : Memory → Memory = λ m. put_in m (o m) (value d at m (asked_by d (o m)) e) in
+        behind_operands s (element names index ∷ e ∷ []) t q f before y.flow after asks d has number
+        (λ v m. finished (next m)) (Some f.position) n (Some g) after
+        (continues_so s.tables number (λ v m. finished (next m)) (λ v m. finished (next m)) (Some y.flow.position)
+        (Some f.position) q n (Some y.flow) (Some g) after after (λ v m. refl)
+        (operands_position s (element names index ∷ e ∷ []) t q f before y.flow after asks)
+        (continues_from s.tables number (λ v m. finished (next m)) (Some y.flow.position) q n n (Some y.flow) (Some g)
+        after after puts.grown
+        (goes_on_after s.tables number (λ v m. next m) n y.flow g after puts.sound after_flow
+        (ends_along s.tables q n after puts.grown
+        (operands_ends s (element names index ∷ e ∷ []) t q f before y.flow after asks)) puts.guard puts.position
+        (λ u more v inputs m on keeps.
+        let later : Extends q u = Extends-trans q n u puts.grown more in
+        let safe : overruns d at m (element names index) ≡ false =
+        or_first (overruns d at m (element names index)) (overruns d at m e || false)
+        (none_overruns s (element names index ∷ e ∷ []) t q f before y.flow after asks u later v inputs d has m keeps
+        on) in
+        let value_is = valued.value.means u later v inputs d has m
+        (subst (λ k. Keeps s.tables u v k m) valued.asks.memory keeps) in
+        subst (Keeps s.tables u v g.memory)
+        (ap (put_in m (o m)) value_is
+        ∙ same_put d at m e ty (o m) (elements_typed s ty names (index_value d at m index) settled target d has))
+        (puts.keeps u more v inputs d has m keeps safe)))));
+    leaves = λ i none.
+        leaves_then i (Some f) (Some y.flow) (Some g) before after after
+        (leaves_asked i s (element names index ∷ e ∷ []) t q f before y.flow after asks)
+        (leaves_stops i y.flow (Some g) after after
+        (λ id is. puts.leaves r.design has i id
+        (or_left (target_writes r.design (scope_of s.at) i names (Some index)) false none) is) refl);
+  }

@@ -1,5 +1,5 @@
 -- Branches: a condition parts the runs, and what is done in each part is joined behind both.
-use Rattle.std.proofs.Common.{◌≡◌, ℕ, ◌==◌, Bool, true, false, Option, None, Some, List, [], ◌∷◌, ◌||◌, refl, sym, ap, ◌∙◌, true≢false}
+use Rattle.std.proofs.Common.{◌≡◌, ℕ, ◌==◌, Bool, true, false, Option, Some, List, [], ◌∷◌, ◌||◌, slice_get, refl, sym, ap, ◌∙◌, subst, true≢false}
 use Rattle.std.specs.Prelude.{not, if◌then◌else◌}
 use Rattle.std.proofs.lemmas.Option.{same_Some}
 use Rattle.tm_base.specs.declared.place.Place.{Place}
@@ -10,22 +10,23 @@ use Rattle.tm_syntax.specs.Design.{DesignTree}
 use Rattle.tm_scope.specs.Cells.{HasCells, ScopedCells, scope_of}
 use Rattle.tm_term.specs.declared.term.TermId.{TermId}
 use Rattle.tm_term.specs.Table.{Table}
-use Rattle.tm_term.specs.Value.{AreInputs, value_of, Extends}
+use Rattle.tm_term.specs.Value.{value_of, Extends}
 use Rattle.tm_term.proofs.Valued.{Extends-trans}
 use Rattle.tm_sem.specs.Run.{Ending, blocked, failed, finished}
 use Rattle.tm_sem.specs.Value.{Memory, holds_in, overruns}
 use Rattle.tm_flat.specs.BitRun.{followed_by}
 use Rattle.tm_flat.specs.Positions.{later}
+use Rattle.tm_flatten.specs.Kept.{KeptTerms}
 use Rattle.tm_flatten.specs.Made.{Makes}
-use Rattle.tm_flatten.proofs.Later.{Extends-refl}
 use Rattle.tm_steps.specs.declared.branches.Branches.{Branches}
 use Rattle.tm_flows.specs.declared.operands.Operand.{Operand}
-use Rattle.tm_flows.specs.Flows.{AreEnds, Continues, EndTerms, FlowTerms, IsFlow, MakesJoinIfThere, Narrows}
+use Rattle.tm_flows.specs.Flows.{Continues, EndTerms, FlowTerms, HasTerm, Leaves, MakesJoinIfThere, Narrows}
 use Rattle.tm_steps.specs.Parted.{Parts}
 use Rattle.tm_flows.specs.Statements.{AsksOne}
 use Rattle.tm_flows.proofs.Asking.{holds, tested_flow}
 use Rattle.tm_flows.proofs.Flowing.{denied_bit, ends_along, flow_along, flow_along_if_there}
 use Rattle.tm_flows.proofs.Leading.{leads_beside, leads_so, leads_then}
+use Rattle.tm_flows.proofs.Leaving.{leaves_asked}
 use Rattle.tm_flows.proofs.Pieces.{is_narrowed, leads_on}
 use Rattle.tm_flows.proofs.Valuing.{behind_operands, operands_position}
 
@@ -55,6 +56,8 @@ parted_so s e t p a b n f first second before after x fails tests denial one two
           (flow_along s.tables p b x.flow (Extends-trans p a b denial.grown one.grown) stands);
       first_position = one.position ∙ same;
       second_position = two.position ∙ same;
+      first_memory = one.memory ∙ tests.asks.memory;
+      second_memory = two.memory ∙ tests.asks.memory;
       first = λ d has number u more v inputs ends.
           leads_on s.tables number (λ v m. holds_in d (scope_of s.at) m e) a b x.flow first ends
           (λ u v. is_nonzero (value_of u v x.value)) one
@@ -103,6 +106,7 @@ module _ (s : ScopedCells) (e : ExprTree) (t n q r z : Table) (f : FlowTerms) (b
     sound = join.sound;
     flow = join.flow s.tables (flow_along_if_there s.tables q r ga two.grown one.flow) two.flow;
     ends = ends_along s.tables r z end join.grown two.ends;
+    count = two.count ∙ one.count;
     position = join.position ∙ (λ i. later (one.position i) (two.position i));
     leads = λ u more v inputs.
         let later_q : Extends q u = Extends-trans q z u last more in
@@ -134,3 +138,20 @@ module _ (s : ScopedCells) (e : ExprTree) (t n q r z : Table) (f : FlowTerms) (b
   parts_joined =
       behind_operands s (e ∷ []) t parts.table f before parts.flow after parts.asks d has number
       (λ v m. if holds_in d (scope_of s.at) m e then first v m else second v m) (later to_first to_second) z g end inside
+
+  -- a state variable stays as it was that neither part writes
+  pub parts_leave : (i : ℕ) → Leaves i (Some x.first) after ga mid → Leaves i (Some x.second) mid gb end →
+      Leaves i (Some f) before g end
+  parts_leave i first second = record {
+    flow = λ id has. join.same i id (first.flow id (at_first i id has)) (second.flow id (at_second i id has));
+    stops = λ id has are.
+        second.stops id (at_second i id has)
+        (first.stops id (at_first i id has)
+        ((leaves_asked i s (e ∷ []) t parts.table f before parts.flow after parts.asks).stops id has are));
+  }
+    where
+      at_first : (i : ℕ) (id : TermId) → HasTerm i id f → HasTerm i id x.first
+      at_first i id has = subst (λ (k : KeptTerms). slice_get k.values i ≡ Some id) (sym parts.first_memory) has
+
+      at_second : (i : ℕ) (id : TermId) → HasTerm i id f → HasTerm i id x.second
+      at_second i id has = subst (λ (k : KeptTerms). slice_get k.values i ≡ Some id) (sym parts.second_memory) has

@@ -25,6 +25,8 @@ pub record Parts (s : ScopedCells) (e : ExprTree) (t n : Table) (f : FlowTerms) 
   pub second_flow : IsFlow s.tables n parts.second
   pub first_position : parts.first.position ≡ f.position
   pub second_position : parts.second.position ≡ f.position
+  pub first_memory : parts.first.memory ≡ f.memory
+  pub second_memory : parts.second.memory ≡ f.memory
   pub first : (d : DesignTree) → HasCells s.tables d → (number : Place → List Place → Option ℕ) → (u : Table) →
       Extends n u → (v : List ℕ) → AreInputs u v → (ends : EndTerms) →
       Leads s.tables u v number (λ m. if holds_in d (scope_of s.at) m e then finished m else blocked) (Some flow) ends

@@ -1,10 +1,9 @@
 //! Elements of arrays as targets of assignments.
-ghost use Rattle.std.specs.Prelude.{◌≡◌, ◌^◌, ◌<◌, ◌≤◌, ℕ, IfOk, Some, min};
+ghost use Rattle.std.specs.Prelude.{◌≡◌, ◌^◌, ◌<◌, ◌≤◌, ℕ, IfOk, Some};
 ghost use Rattle.tm_syntax.specs.declared.design.Ty as resolved;
 ghost use Rattle.tm_syntax.specs.Tree as trees;
 ghost use Rattle.tm_syntax.specs.Tree.View.{expr_tree};
 ghost use Rattle.tm_scope.specs.Types.{ty_of};
-ghost use Rattle.tm_bits.specs.Arithmetic.{IsWidth};
 ghost use Rattle.tm_term.specs.Table.{IsKnown, IsSound, width_of};
 ghost use Rattle.tm_typing.specs.HasType.{IsSized};
 ghost use Rattle.tm_operands.specs.Typed.{HasTypeAt};
@@ -15,26 +14,17 @@ ghost use Rattle.tm_flows.specs.Flows.{AreEnds, IsFlow};
 ghost use Rattle.tm_flows.specs.Statements.{AreSettledCells, AsksOne, LeadsThrough};
 ghost use Rattle.tm_steps.specs.Elements.{PutsElement, PutsOne, PutsSome};
 
+use crate::places::{element_place, put_at};
 use std::alloc::AllocError;
-use tm_bits::greatest;
 use tm_flatten::{TermReader, make};
 use tm_flows::{Ends, Flow, Operand, put, target_type, value_operand};
-use tm_operands::index_type;
 use tm_scope::ExprType;
 use tm_syntax::tree::{Expr, Ident};
 use tm_term::{Term, TermId, Terms};
 
-// How many elements an index of a width can number in an array of a length.
-fn reached(width: u8, length: u64) -> u64
-    requires { IsWidth width }
-    ensures { result ≡ min length (2 ^ width) }
-{
-    let most = greatest(width);
-    if length <= most { length } else { most + 1 }
-}
-
-// Values an element of an array where runs stand: those at which it overruns fail.
-fn element<'s>(
+/// Values an element of an array where runs stand: those at which it overruns fail. `text` is a buffer. `AllocError` is
+/// want of memory.
+pub fn element<'s>(
     reader: &TermReader<'s>,
     terms: &mut Terms,
     ends: &mut Ends,
@@ -93,9 +83,9 @@ fn put_one<'s>(
     Ok(goes)
 }
 
-// Puts a term into the element that another term numbers, where it is one of so many, each of which the index can
-// number. Linear in the count.
-fn put_some<'s>(
+/// Puts a term into the element that another term numbers, where it is one of so many, each of which the index can
+/// number. Linear in the count. `text` is a buffer. `AllocError` is want of memory.
+pub(crate) fn put_some<'s>(
     reader: &TermReader<'s>,
     terms: &mut Terms,
     flow: Flow,
@@ -124,8 +114,9 @@ fn put_some<'s>(
     Ok(goes)
 }
 
-// Puts a term into the element that an index numbers, where it does not overrun.
-fn put_element<'s>(
+/// Puts a term into the element that an index numbers, where it does not overrun. Linear in the array's length. `text` is
+/// a buffer. `AllocError` is want of memory.
+pub(crate) fn put_element<'s>(
     reader: &TermReader<'s>,
     terms: &mut Terms,
     flow: Flow,
@@ -143,22 +134,8 @@ fn put_element<'s>(
     requires term { IsTerm terms.old (bits_in reader.now (ty_of ty)) id }
     ensures { IfOk result (PutsElement reader.now path.now (expr_tree index.now) id terms.old terms.new flow) }
 {
-    if let Expr::Number(number) = index {
-        let goes = put(
-            reader,
-            flow,
-            path,
-            Some(number.value.unwrap_or(0)),
-            id,
-            text,
-        )?;
-        return Ok(goes);
-    }
-    let length = reader.scope().array_length(path).unwrap_or(0);
-    let asked = index_type(reader.scope(), index);
-    let number = reader.value(terms, flow.memory(), index, asked, text)?;
-    let count = reached(terms.width(number.value), length);
-    let goes = put_some(reader, terms, flow, path, number.value, count, id, ty, text)?;
+    let place = element_place(reader, terms, &flow, path, index, text)?;
+    let goes = put_at(reader, terms, flow, path, &place, id, ty, text)?;
     Ok(goes)
 }
 

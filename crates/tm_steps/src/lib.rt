@@ -4,9 +4,11 @@
 mod branches;
 mod choices;
 mod elements;
+mod places;
 mod stars;
 
 pub use branches::{Branches, parted};
 pub use choices::choice_number;
-pub use elements::assigned_element;
-pub use stars::{chosen, within};
+pub use elements::{assigned_element, element};
+pub use places::{TargetPlace, element_place, put_at};
+pub use stars::{chosen, chosen_element, within};

@@ -3,6 +3,7 @@ ghost use Rattle.std.specs.Prelude.{◌≡◌, ◌^◌, ℕ, IfOk, None, Some, n
 ghost use Rattle.tm_base.specs.declared.place.Place as placed;
 ghost use Rattle.tm_syntax.specs.declared.design.Ty as resolved;
 ghost use Rattle.tm_syntax.specs.Tree as trees;
+ghost use Rattle.tm_syntax.specs.Tree.View.{expr_tree};
 ghost use Rattle.tm_bits.specs.Arithmetic.{IsWidth};
 ghost use Rattle.tm_term.specs.Table.{IsSound};
 ghost use Rattle.tm_term.specs.Value.{value_of};
@@ -13,15 +14,17 @@ ghost use Rattle.tm_steps.specs.Choices.{AreChoiceBits};
 ghost use Rattle.tm_flows.specs.Flows.{AreEnds, EndTerms, IsFlow, Narrows};
 ghost use Rattle.tm_flows.specs.Statements.{AreSettledCells, LeadsThrough};
 ghost use Rattle.tm_flows.specs.Targets.{HasTargetAt};
-ghost use Rattle.tm_steps.specs.Elements.{HasCell};
+ghost use Rattle.tm_operands.specs.Typed.{HasTypeAt};
+ghost use Rattle.tm_steps.specs.Elements.{HasCell, HasElements};
 
 use crate::choices::choice_number;
+use crate::elements::{element, put_element};
 use std::alloc::AllocError;
 use tm_bits::greatest;
 use tm_flatten::{TermReader, make};
-use tm_flows::{Flow, put, target_type};
+use tm_flows::{Ends, Flow, put, target_type};
 use tm_operands::{type_bits, type_size};
-use tm_syntax::tree::Ident;
+use tm_syntax::tree::{Expr, Ident};
 use tm_term::{Term, TermId, Terms};
 
 // The runs of a flow at which a number of a width is below a count.
@@ -99,5 +102,40 @@ pub fn chosen(
     let number = choice_number(terms, first, start, width)?;
     let goes = within(terms, flow, number, width, type_size(reader.scopes(), ty))?;
     let chosen = put(reader, goes, path, None, number, text)?;
+    Ok(chosen.moved(start + u64::from(width)))
+}
+
+/// Leads runs through an assignment of a choice to an element of an array. Linear in its length. `first` is the number
+/// of the first input that is a bit of choices. `text` is a buffer.
+pub fn chosen_element(
+    reader: &TermReader<'_>,
+    terms: &mut Terms,
+    ends: &mut Ends,
+    flow: Flow,
+    path: &[Ident],
+    index: &Expr,
+    first: u32,
+    text: &mut Vec<u8>,
+) -> Result<Flow, AllocError>
+    requires typed { (ty : resolved.Ty) × HasTypeAt reader.now ty (trees.element path.now (expr_tree index.now))
+        × AreChoiceBits terms.old first flow.position (bits_in reader.now ty) }
+    requires there { HasElements reader.now path.now }
+    requires settled { AreSettledCells reader.now }
+    requires apart { AreApart reader.now.tables }
+    requires sound { IsSound terms.old }
+    requires flow { IsFlow reader.now.tables terms.old flow }
+    requires ends { AreEnds reader.now.tables terms.old ends.old }
+    ensures { (at : placed.Place) → IfOk result (λ g. LeadsThrough reader.now first
+        (trees.assign path.now (Some (expr_tree index.now)) (trees.star at)) terms.old terms.new flow ends.old (Some g)
+        ends.new) }
+{
+    let ty = target_type(reader, path);
+    let found = element(reader, terms, ends, flow, path, index, ty, text)?;
+    let width = type_bits(reader.scopes(), ty);
+    let start = found.flow.position();
+    let number = choice_number(terms, first, start, width)?;
+    let size = type_size(reader.scopes(), ty);
+    let goes = within(terms, found.flow, number, width, size)?;
+    let chosen = put_element(reader, terms, goes, path, index, number, ty, text)?;
     Ok(chosen.moved(start + u64::from(width)))
 }

@@ -2,9 +2,10 @@ pub mod AtomicLocations
 pub mod EndlessLoops
 pub mod FirstLooping
 pub mod FirstOfKinds
+pub mod FoundNames
+pub mod FoundPlaces
 pub mod FreeTrees
 pub mod IndexFits
-pub mod ListedFaults
 pub mod LoopingTasks
 pub mod MainTemplates
 pub mod NumberedParts

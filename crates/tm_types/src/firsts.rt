@@ -1,13 +1,10 @@
 //! The first of several faults by their places: the parts of a text may be judged in any order.
-ghost use Rattle.std.specs.Prelude.{◌≡◌, ◌++◌, List, Option, Ok, IfOk};
-ghost use Rattle.std.specs.List.{flat_map};
-ghost use Rattle.std.specs.Fn.{FnReturnsAt};
+ghost use Rattle.std.specs.Prelude.{◌≡◌, ◌++◌, List};
 ghost use Rattle.tm_base.specs.declared.place.Place as stands;
 ghost use Rattle.tm_syntax.specs.Places.{earliest_of};
 ghost use Rattle.tm_syntax.specs.Faults.Marks.{place_unless};
 ghost use Rattle.tm_types.specs.Firsts.{first_of};
 
-use std::alloc::AllocError;
 use tm_base::Place;
 use tm_names::is_before;
 
@@ -38,35 +35,4 @@ pub(crate) fn place_unless(fits: bool, at: Place) -> Option<Place>
     ensures { result ≡ first_of (place_unless fits at) }
 {
     if fits { None } else { Some(at) }
-}
-
-// The first place of the faults of some parts, given how the first one of a part is found.
-pub(crate) fn first_in<T, F: Fn(&T) -> Option<Place>>(parts: &[T], find: F) -> Option<Place>
-    requires { F.IsAlwaysCallable find }
-    ensures { (faults : T → List stands.Place)
-        → ((x : T) (r : Option stands.Place) → FnReturnsAt F.Fn find x r → r ≡ first_of (faults x))
-        → result ≡ first_of (flat_map faults parts.now) }
-{
-    let mut first = None;
-    for part in parts {
-        first = earlier_place(first, find(part));
-    }
-    first
-}
-
-// The first place of the faults of some parts, where finding the first one of a part takes memory.
-pub(crate) fn try_first_in<T, F: Fn(&T) -> Result<Option<Place>, AllocError>>(
-    parts: &[T],
-    find: F,
-) -> Result<Option<Place>, AllocError>
-    requires { F.IsAlwaysCallable find }
-    ensures { (faults : T → List stands.Place)
-        → ((x : T) (r : Option stands.Place) → FnReturnsAt F.Fn find x (Ok r) → r ≡ first_of (faults x))
-        → IfOk result (λ r. r ≡ first_of (flat_map faults parts.now)) }
-{
-    let mut first = None;
-    for part in parts {
-        first = earlier_place(first, find(part)?);
-    }
-    Ok(first)
 }

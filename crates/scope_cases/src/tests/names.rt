@@ -1,156 +1,106 @@
 //! What each path means in a text whose names stand in several scopes.
 use std::alloc::{AllocError, Global};
+use std::process::Abort;
 use std::test::Fail;
 use tm_base::{Name, Place};
+use tm_lex::{MAX_TEXT_LEN, lex};
+use tm_parse::parse;
 use tm_scope::{BodyName, ExprType, Scopes, Sites};
 use tm_syntax::design::Instance;
-use tm_syntax::tree::{
-    Body, EnumDef, Expr, Ident, InstanceDef, LocalDef, Num, Path, ProcessDef, Spec, Template,
-    TypeName, Value, VarDef,
-};
+use tm_syntax::fault::FrontError;
+use tm_syntax::tree::{Expr, Ident, Path, Spec};
 
-const HERE: Place = Place { line: 1, column: 1 };
+const TEXT: &str = "typedef enum {idle, busy} mode;
+typedef enum {busy} other;
+template main
+instance part left;
+uint<4> level;
+bool level;
+bool idle;
+process run { mode level = *; }
+endtemplate
+template part
+uint<8> level;
+endtemplate";
 
-const BODIES: [BodyName; 6] = [
-    BodyName::Outside,
-    BodyName::Outside,
-    BodyName::Outside,
-    BodyName::Outside,
-    BodyName::Outside,
-    BodyName::Process(0),
-];
-
-const PATHS: [&[&[u8]]; 6] = [
-    &[b"level"],
-    &[b"idle"],
-    &[b"busy"],
-    &[b"left", b"level"],
-    &[b"right", b"level"],
-    &[b"level"],
-];
-
-const TYPES: [Option<ExprType<'static>>; 6] = [
-    Some(ExprType::Uint(Some(4))),
-    Some(ExprType::Bool),
-    Some(ExprType::Enum(b"mode")),
-    Some(ExprType::Uint(Some(8))),
-    None,
-    Some(ExprType::Enum(b"mode")),
-];
-
-fn ident(alloc: Global, text: &[u8]) -> Result<Ident, AllocError> {
-    Ok(Ident {
-        text: Name::from_bytes(alloc, text)?,
-        place: HERE,
-    })
+/// A path in a body of `main`, and the type of what it means there.
+struct Row {
+    body: BodyName,
+    path: &'static [&'static str],
+    ty: Option<ExprType<'static>>,
 }
 
-fn path(alloc: Global, names: &[&[u8]]) -> Result<Path, AllocError> {
+const ROWS: [Row; 6] = [
+    Row {
+        body: BodyName::Outside,
+        path: &["level"],
+        ty: Some(ExprType::Uint(Some(4))),
+    },
+    Row {
+        body: BodyName::Outside,
+        path: &["idle"],
+        ty: Some(ExprType::Bool),
+    },
+    Row {
+        body: BodyName::Outside,
+        path: &["busy"],
+        ty: Some(ExprType::Enum(b"mode")),
+    },
+    Row {
+        body: BodyName::Outside,
+        path: &["left", "level"],
+        ty: Some(ExprType::Uint(Some(8))),
+    },
+    Row {
+        body: BodyName::Outside,
+        path: &["right", "level"],
+        ty: None,
+    },
+    Row {
+        body: BodyName::Process(0),
+        path: &["level"],
+        ty: Some(ExprType::Enum(b"mode")),
+    },
+];
+
+fn read(alloc: Global, text: &[u8]) -> Result<Spec, FrontError> {
+    if text.len() > MAX_TEXT_LEN {
+        return Err(FrontError::Memory);
+    }
+    let tokens = lex(alloc, text)?;
+    parse(alloc, text, tokens.as_slice())
+}
+
+fn path(alloc: Global, names: &[&str]) -> Result<Vec<Ident>, AllocError> {
     let mut path = Vec::new(alloc);
     for name in names {
-        path.push(ident(alloc, name)?)?;
+        path.push(Ident {
+            text: Name::from_bytes(alloc, name.as_bytes())?,
+            place: Place { line: 1, column: 1 },
+        })?;
     }
-    Ok(Path { names: path })
+    Ok(path)
 }
 
-fn uint(bits: u64) -> TypeName {
-    TypeName::Uint(
-        HERE,
-        Num {
-            value: Some(bits),
-            place: HERE,
-        },
-    )
-}
-
-fn variable(alloc: Global, ty: TypeName, name: &[u8]) -> Result<VarDef, AllocError> {
-    Ok(VarDef {
-        ty,
-        name: ident(alloc, name)?,
-        length: None,
-        init: None,
-    })
-}
-
-fn template(alloc: Global, name: &[u8], vars: Vec<VarDef>) -> Result<Template, AllocError> {
-    Ok(Template {
-        name: ident(alloc, name)?,
+fn instance(
+    alloc: Global,
+    path: &str,
+    template: u32,
+    children: &[u32],
+) -> Result<Instance, AllocError> {
+    Ok(Instance {
+        path: Name::from_bytes(alloc, path.as_bytes())?,
+        template,
         ports: Vec::new(alloc),
-        instances: Vec::new(alloc),
-        vars,
-        goals: Vec::new(alloc),
-        fairs: Vec::new(alloc),
-        processes: Vec::new(alloc),
-        tasks: Vec::new(alloc),
-    })
-}
-
-/// `process run { mode level = *; }`
-fn process(alloc: Global) -> Result<ProcessDef, AllocError> {
-    let local = LocalDef {
-        ty: TypeName::Enum(ident(alloc, b"mode")?),
-        name: ident(alloc, b"level")?,
-        value: Value::Star(HERE),
-    };
-    Ok(ProcessDef {
-        lazy: false,
-        name: ident(alloc, b"run")?,
-        body: Body {
-            locals: vec![in alloc; local]?,
-            stmts: Vec::new(alloc),
-            answer: None,
-        },
-    })
-}
-
-/// `instance part left; uint<4> level; bool level; bool idle;` and the process
-fn main_template(alloc: Global) -> Result<Template, AllocError> {
-    let first = variable(alloc, uint(4), b"level")?;
-    let second = variable(alloc, TypeName::Bool(HERE), b"level")?;
-    let idle = variable(alloc, TypeName::Bool(HERE), b"idle")?;
-    let mut template = template(alloc, b"main", vec![in alloc; first, second, idle]?)?;
-    template.instances.push(InstanceDef {
-        template: ident(alloc, b"part")?,
-        name: ident(alloc, b"left")?,
-        args: Vec::new(alloc),
-    })?;
-    template.processes.push(process(alloc)?)?;
-    Ok(template)
-}
-
-fn enumeration(alloc: Global, name: &[u8], constants: &[&[u8]]) -> Result<EnumDef, AllocError> {
-    Ok(EnumDef {
-        name: ident(alloc, name)?,
-        constants: path(alloc, constants)?.names,
-    })
-}
-
-/// `typedef enum {idle, busy} mode; typedef enum {busy} other;`, `main`, and `template part uint<8> level; endtemplate`
-fn specification(alloc: Global) -> Result<Spec, AllocError> {
-    let mode = enumeration(alloc, b"mode", &[b"idle", b"busy"])?;
-    let other = enumeration(alloc, b"other", &[b"busy"])?;
-    let level = variable(alloc, uint(8), b"level")?;
-    let part = template(alloc, b"part", vec![in alloc; level]?)?;
-    Ok(Spec {
-        enums: vec![in alloc; mode, other]?,
-        templates: vec![in alloc; main_template(alloc)?, part]?,
+        children: Vec::from_slice(alloc, children)?,
     })
 }
 
 fn instances(alloc: Global) -> Result<Vec<Instance>, AllocError> {
-    let main = Instance {
-        path: Name::from_bytes(alloc, b"")?,
-        template: 0,
-        ports: Vec::new(alloc),
-        children: vec![in alloc; 1]?,
-    };
-    let left = Instance {
-        path: Name::from_bytes(alloc, b"left")?,
-        template: 1,
-        ports: Vec::new(alloc),
-        children: Vec::new(alloc),
-    };
-    Ok(vec![in alloc; main, left]?)
+    let mut instances = Vec::new(alloc);
+    instances.push(instance(alloc, "", 0, &[1])?)?;
+    instances.push(instance(alloc, "left", 1, &[])?)?;
+    Ok(instances)
 }
 
 /// The type of an expression in a body of `main`.
@@ -164,21 +114,34 @@ fn number_from_main(scopes: &Scopes, table: &[Instance], along: &[Ident]) -> Opt
     Sites::new(scopes, table).number_along(0, along)
 }
 
+/// The path of each row has its type.
+fn check_rows<R: AllocGlobal + Abort>(rt: &R, scopes: &Scopes) -> Result<(), Fail> {
+    for row in &ROWS {
+        let names = path(rt.alloc(), row.path)?;
+        let found = type_in_main(scopes, row.body, &Expr::Path(Path { names }));
+        assert_eq!(rt; found, row.ty, "{:?}", row.path);
+    }
+    Ok(())
+}
+
+/// A path along an instance leads to it.
+fn check_instances<R: AllocGlobal + Abort>(rt: &R, scopes: &Scopes) -> Result<(), Fail> {
+    let table = instances(rt.alloc())?;
+    let along = path(rt.alloc(), &["left", "level"])?;
+    assert_eq!(rt; number_from_main(scopes, &table, &along), Some(1));
+    Ok(())
+}
+
+fn check_text<R: AllocGlobal + Abort>(rt: &R, spec: &Spec) -> Result<(), Fail> {
+    let scopes = Scopes::new(rt.alloc(), spec)?;
+    check_rows(rt, &scopes)?;
+    check_instances(rt, &scopes)
+}
+
 #[test]
 fn each_name_means_the_first_of_its_nearest_scope(rt: HostRuntime) -> Result<(), Fail> {
-    let alloc = rt.alloc();
-    let spec = specification(alloc)?;
-    let scopes = Scopes::new(alloc, &spec)?;
-    for row in 0..6 {
-        let e = Expr::Path(path(alloc, PATHS[row])?);
-        assert_eq!(rt;
-            type_in_main(&scopes, BODIES[row], &e),
-            TYPES[row],
-            "row {row}"
-        );
+    match read(rt.alloc(), TEXT.as_bytes()) {
+        Ok(spec) => check_text(&rt, &spec),
+        Err(_) => Err(Fail::new("no text")),
     }
-    let table = instances(alloc)?;
-    let along = path(alloc, PATHS[3])?;
-    assert_eq!(rt; number_from_main(&scopes, &table, &along.names), Some(1));
-    Ok(())
 }

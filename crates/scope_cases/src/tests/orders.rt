@@ -2,6 +2,7 @@
 ghost use Rattle.std.specs.Prelude.{◌<◌};
 
 use std::alloc::{AllocError, Global};
+use std::process::Abort;
 use std::test::Fail;
 use tm_base::{Name, Place};
 use tm_scope::{Scopes, TaskSet, call_order, looping_tasks};
@@ -145,19 +146,28 @@ fn stands_behind(row: &Row, order: &[Member]) -> bool {
     order.len() == 4
 }
 
+/// Which tasks of a text reach themselves, and whether their calls have an order.
+fn check_tasks<R: AllocGlobal + Abort>(rt: &R, scopes: &Scopes, row: &Row) -> Result<(), Fail> {
+    let looping = looping_tasks(rt.alloc(), scopes)?;
+    assert_eq!(rt; members(&looping), row.loops);
+    let ordered = match call_order(rt.alloc(), scopes)? {
+        Some(order) => stands_behind(row, order.as_slice()),
+        None => false,
+    };
+    assert_eq!(rt; ordered, row.ordered);
+    Ok(())
+}
+
+fn check_row<R: AllocGlobal + Abort>(rt: &R, row: &Row) -> Result<(), Fail> {
+    let spec = specification(rt.alloc(), row)?;
+    let scopes = Scopes::new(rt.alloc(), &spec)?;
+    check_tasks(rt, &scopes, row)
+}
+
 #[test]
 fn callees_stand_first_unless_calls_go_in_a_circle(rt: HostRuntime) -> Result<(), Fail> {
-    let alloc = rt.alloc();
     for row in &ROWS {
-        let spec = specification(alloc, row)?;
-        let scopes = Scopes::new(alloc, &spec)?;
-        let looping = looping_tasks(alloc, &scopes)?;
-        assert_eq!(rt; members(&looping), row.loops);
-        let ordered = match call_order(alloc, &scopes)? {
-            Some(order) => stands_behind(row, order.as_slice()),
-            None => false,
-        };
-        assert_eq!(rt; ordered, row.ordered);
+        check_row(&rt, row)?;
     }
     Ok(())
 }

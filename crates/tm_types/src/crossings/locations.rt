@@ -19,7 +19,7 @@ ghost use Rattle.tm_types.specs.CallMarks.{TellCalls};
 ghost use Rattle.tm_types.specs.Firsts.{first_of};
 ghost use Rattle.tm_types.specs.Inner.Crossings.{body_locations, locations_of, pausing_local, task_locations_by};
 
-use crate::firsts::{earlier_place, first_in, place_unless, try_first_in};
+use crate::firsts::{earlier_place, place_unless};
 use std::alloc::{AllocError, Global};
 use tm_base::Place;
 use tm_names::all_stmts;
@@ -102,7 +102,11 @@ fn stmt_location(calls: &CallMarks, stmt: &Stmt) -> Option<Place>
 fn locals_location(calls: &CallMarks, locals: &[LocalDef]) -> Option<Place>
     ensures { result ≡ first_of (flat_map (pausing_local (is_marked calls.now)) (map local_tree locals.now)) }
 {
-    first_in(locals, |local| local_location(calls, local))
+    let mut first = None;
+    for local in locals {
+        first = earlier_place(first, local_location(calls, local));
+    }
+    first
 }
 
 // The first location among the statements of a body.
@@ -114,8 +118,12 @@ fn stmts_location(
     ensures { IfOk result (λ first. first
         ≡ first_of (flat_map (locations_of (is_marked calls.now)) (all_stmts (stmt_trees stmts.now)))) }
 {
-    let stmts = all_stmts(alloc, stmts)?;
-    Ok(first_in(stmts.as_slice(), |stmt| stmt_location(calls, *stmt)))
+    let listed = all_stmts(alloc, stmts)?;
+    let mut first = None;
+    for stmt in listed.as_slice() {
+        first = earlier_place(first, stmt_location(calls, *stmt));
+    }
+    Ok(first)
 }
 
 // The first location of a body.
@@ -157,10 +165,11 @@ fn template_location(
     ensures { IfOk result (λ first. first
         ≡ first_of (flat_map (task_locations_by (is_marked calls.now)) (template_tree template.now).tasks)) }
 {
-    try_first_in(
-        template.tasks.as_slice(),
-        |task| task_location(alloc, calls, task),
-    )
+    let mut first = None;
+    for task in template.tasks.as_slice() {
+        first = earlier_place(first, task_location(alloc, calls, task)?);
+    }
+    Ok(first)
 }
 
 /// The first location of a text that a procedure or controllable task holds, itself or by a call, given the

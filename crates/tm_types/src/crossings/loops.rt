@@ -11,7 +11,7 @@ ghost use Rattle.tm_types.specs.CallMarks.{TellCalls};
 ghost use Rattle.tm_types.specs.Firsts.{first_of};
 ghost use Rattle.tm_types.specs.Inner.Crossings.{body_loops, in_bodies, loops_of};
 
-use crate::firsts::{earlier_place, first_in, place_unless, try_first_in};
+use crate::firsts::{earlier_place, place_unless};
 use std::alloc::{AllocError, Global};
 use tm_base::Place;
 use tm_names::all_stmts;
@@ -48,7 +48,11 @@ pub(crate) fn first_loop(
         ≡ first_of (flat_map (loops_of (is_marked calls.now)) (stmts_in (body_tree body.now)))) }
 {
     let stmts = all_stmts(alloc, body.stmts.as_slice())?;
-    Ok(first_in(stmts.as_slice(), |stmt| loop_fault(calls, *stmt)))
+    let mut first = None;
+    for stmt in stmts.as_slice() {
+        first = earlier_place(first, loop_fault(calls, *stmt));
+    }
+    Ok(first)
 }
 
 // The first such loop of the processes of a template.
@@ -60,7 +64,11 @@ fn processes_loop(
     ensures { IfOk result (λ first. first ≡ first_of (flat_map
         (λ (p : tree.ProcessTree). body_loops (is_marked calls.now) p.body) (map process_tree processes.now))) }
 {
-    try_first_in(processes, |process| first_loop(alloc, calls, &process.body))
+    let mut first = None;
+    for process in processes {
+        first = earlier_place(first, first_loop(alloc, calls, &process.body)?);
+    }
+    Ok(first)
 }
 
 // The first such loop of the tasks of a template.
@@ -72,7 +80,11 @@ fn tasks_loop(
     ensures { IfOk result (λ first. first ≡ first_of (flat_map
         (λ (k : tree.TaskTree). body_loops (is_marked calls.now) k.body) (map task_tree tasks.now))) }
 {
-    try_first_in(tasks, |task| first_loop(alloc, calls, &task.body))
+    let mut first = None;
+    for task in tasks {
+        first = earlier_place(first, first_loop(alloc, calls, &task.body)?);
+    }
+    Ok(first)
 }
 
 // The first such loop of a template.

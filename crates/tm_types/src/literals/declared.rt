@@ -17,7 +17,7 @@ ghost use Rattle.tm_scope.specs.Types.{ty_of};
 ghost use Rattle.tm_names.specs.Parts.{listed_types};
 ghost use Rattle.tm_types.specs.Firsts.{first_of};
 
-use crate::firsts::{earlier_place, first_in, place_unless};
+use crate::firsts::{earlier_place, place_unless};
 use crate::literals::fits::{GREATEST_LENGTH, GREATEST_WIDTH, is_from_to, number_fits};
 use std::alloc::{AllocError, Global};
 use tm_base::Place;
@@ -96,14 +96,22 @@ fn var_numbers(var: &VarDef) -> Option<Place>
 fn vars_numbers(vars: &[VarDef]) -> Option<Place>
     ensures { result ≡ first_of (flat_map var_numbers (map var_tree vars.now)) }
 {
-    first_in(vars, |var| var_numbers(var))
+    let mut first = None;
+    for var in vars {
+        first = earlier_place(first, var_numbers(var));
+    }
+    first
 }
 
 // The first one in the types that a template writes.
 fn types_numbers(types: &[&TypeName]) -> Option<Place>
     ensures { result ≡ first_of (flat_map type_numbers (listed_types types.now)) }
 {
-    first_in(types, |ty| type_numbers(*ty))
+    let mut first = None;
+    for ty in types {
+        first = earlier_place(first, type_numbers(*ty));
+    }
+    first
 }
 
 // The first one in the types, lengths and initial literals of a template. `AllocError` is want of memory.

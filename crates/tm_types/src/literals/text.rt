@@ -1,12 +1,12 @@
 //! The first number of a text that does not fit.
-ghost use Rattle.std.specs.Prelude.{◌≡◌, IfOk, Some, map, slice_get};
+ghost use Rattle.std.specs.Prelude.{◌≡◌, ◌++◌, IfOk, Some, map, slice_get};
 ghost use Rattle.std.specs.List.{flat_map};
 ghost use Rattle.tm_syntax.specs.Tree.View.{named_tree, spec_tree, template_tree};
 ghost use Rattle.tm_syntax.specs.Scopes.Parts as text;
 ghost use Rattle.tm_syntax.specs.Faults.Literals.{asked_numbers, misfit_numbers};
 ghost use Rattle.tm_scope.specs.Context.{context_of};
 ghost use Rattle.tm_names.specs.Asked.{asked_of};
-ghost use Rattle.tm_names.specs.Bodies.{body_at};
+ghost use Rattle.tm_names.specs.Bodies.{all_bodies, body_at};
 ghost use Rattle.tm_types.specs.Firsts.{first_of};
 ghost use Rattle.tm_types.specs.Inner.Numbers.{
   asked_numbers_in,
@@ -16,7 +16,7 @@ ghost use Rattle.tm_types.specs.Inner.Numbers.{
   outside_numbers,
 };
 
-use crate::firsts::{earlier_place, first_in, try_first_in};
+use crate::firsts::earlier_place;
 use crate::literals::declared::declared_numbers;
 use crate::literals::exprs::{expr_numbers, index_numbers};
 use std::alloc::{AllocError, Global};
@@ -44,7 +44,18 @@ fn body_numbers(alloc: Global, part: &BodyPart) -> Result<Option<Place>, AllocEr
     ensures { IfOk result (λ first. first ≡ first_of (body_numbers (body_at part.now))) }
 {
     let asked = body_exprs(alloc, part)?;
-    Ok(first_in(asked.as_slice(), |e| asked_numbers(&part.site, e)))
+    let mut first = None;
+    for e in asked.as_slice() {
+        first = earlier_place(first, asked_numbers(&part.site, e));
+    }
+    Ok(first)
+}
+
+// The first one of a goal or fairness condition.
+fn condition_numbers(site: &Site, condition: &Named) -> Option<Place>
+    ensures { result ≡ first_of (condition_numbers (context_of site.now) (named_tree condition.now)) }
+{
+    expr_numbers(site.types(), ExprType::Bool, &condition.expr)
 }
 
 // The first one of goals or fairness conditions.
@@ -52,10 +63,22 @@ fn conditions_numbers(site: &Site, conditions: &[Named]) -> Option<Place>
     ensures { result
         ≡ first_of (flat_map (condition_numbers (context_of site.now)) (map named_tree conditions.now)) }
 {
-    first_in(
-        conditions,
-        |named| expr_numbers(site.types(), ExprType::Bool, &named.expr),
-    )
+    let mut first = None;
+    for condition in conditions {
+        first = earlier_place(first, condition_numbers(site, condition));
+    }
+    first
+}
+
+// The first one of the goals and fairness conditions of a template.
+fn stated_numbers(outside: &Site, template: &Template) -> Option<Place>
+    ensures { result
+        ≡ first_of (flat_map (condition_numbers (context_of outside.now)) (template_tree template.now).goals
+        ++ flat_map (condition_numbers (context_of outside.now)) (template_tree template.now).fairs) }
+{
+    let in_goals = conditions_numbers(outside, template.goals.as_slice());
+    let in_fairs = conditions_numbers(outside, template.fairs.as_slice());
+    earlier_place(in_goals, in_fairs)
 }
 
 // The first one of the goals and fairness conditions of the template of a number.
@@ -68,9 +91,18 @@ fn outside_numbers<'a>(
     ensures { result ≡ first_of (outside_numbers (spec_tree names.now) (template_tree template.now)) }
 {
     let outside = Site::new(names, number, BodyName::Outside);
-    let in_goals = conditions_numbers(&outside, template.goals.as_slice());
-    let in_fairs = conditions_numbers(&outside, template.fairs.as_slice());
-    earlier_place(in_goals, in_fairs)
+    stated_numbers(&outside, template)
+}
+
+// The first one in listed bodies.
+fn listed_numbers(alloc: Global, bodies: &[BodyPart]) -> Result<Option<Place>, AllocError>
+    ensures { IfOk result (λ first. first ≡ first_of (flat_map body_numbers (all_bodies bodies.now))) }
+{
+    let mut first = None;
+    for part in bodies {
+        first = earlier_place(first, body_numbers(alloc, part)?);
+    }
+    Ok(first)
 }
 
 // The first one in the bodies of the template of a number.
@@ -85,7 +117,7 @@ fn bodies_numbers<'a>(
         (text.template_bodies (spec_tree names.now) (template_tree template.now)))) }
 {
     let bodies = template_bodies(alloc, names, number, template)?;
-    try_first_in(bodies.as_slice(), |part| body_numbers(alloc, part))
+    listed_numbers(alloc, bodies.as_slice())
 }
 
 // The first one in the expressions of the template of a number.
@@ -109,7 +141,11 @@ fn templates_declared(alloc: Global, templates: &[Template]) -> Result<Option<Pl
     ensures { IfOk result (λ first. first
         ≡ first_of (flat_map declared_numbers (map template_tree templates.now))) }
 {
-    try_first_in(templates, |template| declared_numbers(alloc, template))
+    let mut first = None;
+    for template in templates {
+        first = earlier_place(first, declared_numbers(alloc, template)?);
+    }
+    Ok(first)
 }
 
 // The first one in the expressions of templates.

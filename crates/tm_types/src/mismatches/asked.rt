@@ -14,7 +14,7 @@ ghost use Rattle.tm_types.specs.Firsts.{first_of};
 ghost use Rattle.tm_types.specs.Findings.{IsOperand};
 ghost use Rattle.tm_types.specs.Inner.ExprFaults.{asked_faults, condition_faults};
 
-use crate::firsts::first_in;
+use crate::firsts::earlier_place;
 use crate::mismatches::exprs::{element_operand, expr_place, path_place, whole_operand};
 use crate::mismatches::operators::{Operand, judged};
 use tm_base::Place;
@@ -81,5 +81,9 @@ pub(crate) fn conditions_faults<'a>(at: &Site<'a>, conditions: &'a [Named]) -> O
     ensures { result
         ≡ first_of (flat_map (condition_faults (context_of at.now)) (map named_tree conditions.now)) }
 {
-    first_in(conditions, |condition| condition_faults(at, condition))
+    let mut first = None;
+    for condition in conditions {
+        first = earlier_place(first, condition_faults(at, condition));
+    }
+    first
 }

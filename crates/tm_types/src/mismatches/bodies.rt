@@ -1,5 +1,5 @@
 //! `F6` of the targets and calls in a body.
-ghost use Rattle.std.specs.Prelude.{◌≡◌, ◌++◌, ◌∷◌, [], IfOk, None, map};
+ghost use Rattle.std.specs.Prelude.{◌≡◌, IfOk, None, map};
 ghost use Rattle.std.specs.List.{flat_map};
 ghost use Rattle.std.specs.Option.{option_map};
 ghost use Rattle.tm_syntax.specs.Tree as tree;
@@ -12,7 +12,7 @@ ghost use Rattle.tm_types.specs.Firsts.{first_of};
 ghost use Rattle.tm_names.specs.LocalStmts.{declaration};
 ghost use Rattle.tm_types.specs.Inner.StmtFaults.{stmt_faults};
 
-use crate::firsts::{earlier_place, first_in};
+use crate::firsts::earlier_place;
 use crate::mismatches::calls::{call_faults, value_call_faults};
 use crate::mismatches::exprs::wrong_path;
 use crate::mismatches::wanted::Wanted;
@@ -84,7 +84,11 @@ fn locals_faults<'a>(at: &Site<'a>, locals: &'a [LocalDef]) -> Option<Place>
     ensures { result ≡ first_of (flat_map
         (λ l. stmt_faults (context_of at.now) (declaration l)) (map local_tree locals.now)) }
 {
-    first_in(locals, |local| local_faults(at, local))
+    let mut first = None;
+    for local in locals {
+        first = earlier_place(first, local_faults(at, local));
+    }
+    first
 }
 
 // The first fault of some statements, with those within them.
@@ -96,8 +100,12 @@ fn stmts_faults<'a>(
     ensures { IfOk result (λ first. first
         ≡ first_of (flat_map (stmt_faults (context_of at.now)) (all_stmts (stmt_trees stmts.now)))) }
 {
-    let stmts = all_stmts(alloc, stmts)?;
-    Ok(first_in(stmts.as_slice(), |stmt| stmt_faults(at, *stmt)))
+    let listed = all_stmts(alloc, stmts)?;
+    let mut first = None;
+    for stmt in listed.as_slice() {
+        first = earlier_place(first, stmt_faults(at, *stmt));
+    }
+    Ok(first)
 }
 
 /// The first fault of the targets and calls in a body. `AllocError` is want of memory.

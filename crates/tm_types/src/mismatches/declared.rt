@@ -11,7 +11,7 @@ ghost use Rattle.tm_scope.specs.Types.{ty_of};
 ghost use Rattle.tm_types.specs.Firsts.{first_of};
 ghost use Rattle.tm_names.specs.Parts.{listed_types};
 
-use crate::firsts::{first_in, place_unless};
+use crate::firsts::{earlier_place, place_unless};
 use crate::mismatches::exprs::expr_place;
 use crate::mismatches::findings::{is_uint, same_type};
 use crate::mismatches::wanted::{Wanted, misnamed};
@@ -35,7 +35,11 @@ fn type_faults(names: &TextNames, ty: &TypeName) -> Option<Place>
 pub(crate) fn types_faults(names: &TextNames, types: &[&TypeName]) -> Option<Place>
     ensures { result ≡ first_of (flat_map (text.type_faults (spec_tree names.now)) (listed_types types.now)) }
 {
-    first_in(types, |ty| type_faults(names, *ty))
+    let mut first = None;
+    for ty in types {
+        first = earlier_place(first, type_faults(names, *ty));
+    }
+    first
 }
 
 // Whether the type that a constant has, if it is one, is this type.
@@ -83,7 +87,11 @@ fn var_faults(at: &Site, var: &VarDef) -> Option<Place>
 pub(crate) fn vars_faults(at: &Site, vars: &[VarDef]) -> Option<Place>
     ensures { result ≡ first_of (flat_map (text.var_faults (context_of at.now).spec) (map var_tree vars.now)) }
 {
-    first_in(vars, |var| var_faults(at, var))
+    let mut first = None;
+    for var in vars {
+        first = earlier_place(first, var_faults(at, var));
+    }
+    first
 }
 
 // Whether a task is a procedure with a type.
@@ -119,5 +127,9 @@ fn task_faults(task: &TaskDef) -> Option<Place>
 pub(crate) fn tasks_faults(tasks: &[TaskDef]) -> Option<Place>
     ensures { result ≡ first_of (flat_map text.task_faults (map task_tree tasks.now)) }
 {
-    first_in(tasks, |task| task_faults(task))
+    let mut first = None;
+    for task in tasks {
+        first = earlier_place(first, task_faults(task));
+    }
+    first
 }

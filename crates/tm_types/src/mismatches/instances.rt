@@ -10,7 +10,7 @@ ghost use Rattle.tm_scope.specs.Context.{context_of};
 ghost use Rattle.tm_types.specs.Firsts.{first_of};
 ghost use Rattle.tm_names.specs.Sorts.{sort_of};
 
-use crate::firsts::{earlier_place, first_in, place_unless};
+use crate::firsts::{earlier_place, place_unless};
 use crate::mismatches::wanted::{Wanted, misnamed};
 use tm_base::Place;
 use tm_names::{Site, Sort, TextNames};
@@ -33,7 +33,11 @@ pub(crate) fn ports_faults(names: &TextNames, ports: &[Port]) -> Option<Place>
     ensures { result ≡ first_of (flat_map (λ (p : head.Port). text.misnamed text.is_template
         (text_sort (spec_tree names.now) p.template.text) p.template) ports.now) }
 {
-    first_in(ports, |port| port_faults(names, port))
+    let mut first = None;
+    for port in ports {
+        first = earlier_place(first, port_faults(names, port));
+    }
+    first
 }
 
 // Whether this is an instance or port of the template of a name.
@@ -107,5 +111,9 @@ pub(crate) fn instances_faults(at: &Site, instances: &[InstanceDef]) -> Option<P
         (text.instance_faults (context_of at.now).spec (context_of at.now).template)
         (map instance_tree instances.now)) }
 {
-    first_in(instances, |instance| instance_faults(at, instance))
+    let mut first = None;
+    for instance in instances {
+        first = earlier_place(first, instance_faults(at, instance));
+    }
+    first
 }

@@ -1,5 +1,5 @@
 //! `F6` of an operator, given what is found of its operands.
-ghost use Rattle.std.specs.Prelude.{◌≡◌, List, Option, ◌++◌};
+ghost use Rattle.std.specs.Prelude.{◌≡◌, List, Option};
 ghost use Rattle.tm_base.specs.declared.place.Place as stands;
 ghost use Rattle.tm_syntax.specs.declared.design.Ty as resolved;
 ghost use Rattle.tm_syntax.specs.Faults.Operands as text;

@@ -1,14 +1,15 @@
 //! The first place of a text at which a type, a sort of name, a number of arguments or a result does not fit.
-ghost use Rattle.std.specs.Prelude.{◌≡◌, IfOk, Some, slice_get};
+ghost use Rattle.std.specs.Prelude.{◌≡◌, ◌++◌, IfOk, Some, slice_get};
 ghost use Rattle.std.specs.List.{flat_map};
 ghost use Rattle.tm_syntax.specs.Tree.View.{spec_tree, template_tree};
 ghost use Rattle.tm_syntax.specs.Scopes.Parts as text;
 ghost use Rattle.tm_syntax.specs.Faults.Mismatches.{asked_faults, body_faults, mismatches, template_faults};
-ghost use Rattle.tm_names.specs.Bodies.{body_at};
+ghost use Rattle.tm_scope.specs.Context.{context_of};
+ghost use Rattle.tm_names.specs.Bodies.{all_bodies, body_at};
 ghost use Rattle.tm_types.specs.Firsts.{first_of};
-ghost use Rattle.tm_types.specs.Inner.ExprFaults.{exprs_faults, outside_faults};
+ghost use Rattle.tm_types.specs.Inner.ExprFaults.{condition_faults, exprs_faults, outside_faults};
 
-use crate::firsts::{earlier_place, first_in, try_first_in};
+use crate::firsts::earlier_place;
 use crate::mismatches::asked::{asked_faults, conditions_faults};
 use crate::mismatches::bodies::body_faults;
 use crate::mismatches::heads::template_faults;
@@ -50,6 +51,17 @@ fn heads_faults<'a>(
     Ok(first)
 }
 
+// The first one in the targets and calls of listed bodies.
+fn listed_faults(alloc: Global, bodies: &[BodyPart]) -> Result<Option<Place>, AllocError>
+    ensures { IfOk result (λ first. first ≡ first_of (flat_map body_faults (all_bodies bodies.now))) }
+{
+    let mut first = None;
+    for part in bodies {
+        first = earlier_place(first, body_faults(alloc, part)?);
+    }
+    Ok(first)
+}
+
 // The first one in the targets and calls of the bodies of the template of a number.
 fn template_body_faults<'a>(
     alloc: Global,
@@ -62,7 +74,7 @@ fn template_body_faults<'a>(
         (text.template_bodies (spec_tree names.now) (template_tree template.now)))) }
 {
     let bodies = template_bodies(alloc, names, number, template)?;
-    try_first_in(bodies.as_slice(), |part| body_faults(alloc, part))
+    listed_faults(alloc, bodies.as_slice())
 }
 
 // The first one in the targets and calls of the bodies of templates.
@@ -88,7 +100,22 @@ fn body_expr_faults(alloc: Global, part: &BodyPart) -> Result<Option<Place>, All
     ensures { IfOk result (λ first. first ≡ first_of (exprs_faults (body_at part.now))) }
 {
     let asked = body_exprs(alloc, part)?;
-    Ok(first_in(asked.as_slice(), |e| asked_faults(&part.site, e)))
+    let mut first = None;
+    for e in asked.as_slice() {
+        first = earlier_place(first, asked_faults(&part.site, e));
+    }
+    Ok(first)
+}
+
+// The first one in the expressions of listed bodies.
+fn listed_expr_faults(alloc: Global, bodies: &[BodyPart]) -> Result<Option<Place>, AllocError>
+    ensures { IfOk result (λ first. first ≡ first_of (flat_map exprs_faults (all_bodies bodies.now))) }
+{
+    let mut first = None;
+    for part in bodies {
+        first = earlier_place(first, body_expr_faults(alloc, part)?);
+    }
+    Ok(first)
 }
 
 // The first one in the expressions of the bodies of the template of a number.
@@ -103,7 +130,18 @@ fn inner_expr_faults<'a>(
         (text.template_bodies (spec_tree names.now) (template_tree template.now)))) }
 {
     let bodies = template_bodies(alloc, names, number, template)?;
-    try_first_in(bodies.as_slice(), |part| body_expr_faults(alloc, part))
+    listed_expr_faults(alloc, bodies.as_slice())
+}
+
+// The first one in the goals and fairness conditions of a template.
+fn stated_faults<'a>(outside: &Site<'a>, template: &'a Template) -> Option<Place>
+    ensures { result
+        ≡ first_of (flat_map (condition_faults (context_of outside.now)) (template_tree template.now).goals
+        ++ flat_map (condition_faults (context_of outside.now)) (template_tree template.now).fairs) }
+{
+    let in_goals = conditions_faults(outside, template.goals.as_slice());
+    let in_fairs = conditions_faults(outside, template.fairs.as_slice());
+    earlier_place(in_goals, in_fairs)
 }
 
 // The first one in the goals and fairness conditions of the template of a number.
@@ -116,9 +154,7 @@ fn outside_faults<'a>(
     ensures { result ≡ first_of (outside_faults (spec_tree names.now) (template_tree template.now)) }
 {
     let outside = Site::new(names, number, BodyName::Outside);
-    let in_goals = conditions_faults(&outside, template.goals.as_slice());
-    let in_fairs = conditions_faults(&outside, template.fairs.as_slice());
-    earlier_place(in_goals, in_fairs)
+    stated_faults(&outside, template)
 }
 
 // The first one in the expressions of the template of a number.

@@ -14,7 +14,7 @@ ghost use Rattle.tm_names.specs.ScopeNames.{mark_of};
 ghost use Rattle.tm_names.specs.LocalStmts.{declaration};
 ghost use Rattle.tm_types.specs.Inner.UnknownParts.{unknown_in_stmt};
 
-use crate::firsts_named::{earlier_name, first_name_in};
+use crate::firsts_named::earlier_name;
 use crate::unknown::exprs::unknown_path;
 use std::alloc::{AllocError, Global};
 use std::slice;
@@ -96,7 +96,11 @@ fn unknown_in_locals<'a>(site: &Site<'a>, locals: &'a [LocalDef]) -> Option<Name
     ensures { option_map mark_of result ≡ first_mark (flat_map
         (λ l. unknown_in_stmt (context_of site.now) (declaration l)) (map local_tree locals.now)) }
 {
-    first_name_in(locals, |local| unknown_in_local(site, local))
+    let mut first = None;
+    for local in locals {
+        first = earlier_mark(first, unknown_in_local(site, local));
+    }
+    first
 }
 
 // The first one in some listed statements.

@@ -20,7 +20,7 @@ ghost use Rattle.tm_names.specs.Parts.{listed_types};
 ghost use Rattle.tm_names.specs.ScopeNames.{mark_of};
 ghost use Rattle.tm_names.specs.Sorts.{sort_of};
 
-use crate::firsts_named::{earlier_name, earliest_of_four, first_name_in};
+use crate::firsts_named::{earlier_name, earliest_of_four};
 use crate::unknown::exprs::name_mark;
 use std::alloc::{AllocError, Global};
 use tm_base::Place;
@@ -95,7 +95,11 @@ fn unknown_inits<'a>(names: &TextNames<'a>, vars: &'a [VarDef]) -> Option<NameMa
     ensures { option_map mark_of result ≡ first_mark (flat_map
         (λ v. flat_map (unknown_literal (spec_tree names.now)) (option_to_list v.init)) (map var_tree vars.now)) }
 {
-    first_name_in(vars, |var| unknown_init(names, var))
+    let mut first = None;
+    for var in vars {
+        first = earlier_mark(first, unknown_init(names, var));
+    }
+    first
 }
 
 // The first one in some types.
@@ -115,7 +119,11 @@ fn unknown_ports<'a>(names: &TextNames<'a>, ports: &'a [Port]) -> Option<NameMar
     ensures { option_map mark_of result ≡ first_mark (flat_map
         (λ p. undeclared (text_sort (spec_tree names.now) p.template.text) p.template) ports.now) }
 {
-    first_name_in(ports, |port| unknown_in_text(names, &port.template))
+    let mut first = None;
+    for port in ports {
+        first = earlier_mark(first, unknown_in_text(names, &port.template));
+    }
+    first
 }
 
 // An argument of an instance that is no member of the template in which the instance stands.
@@ -131,7 +139,11 @@ fn unknown_args<'a>(site: &Site<'a>, args: &'a [Ident]) -> Option<NameMark<'a>>
     ensures { option_map mark_of result ≡ first_mark (flat_map
         (λ a. undeclared (sort_in (members (context_of site.now).template) a.text) a) args.now) }
 {
-    first_name_in(args, |arg| unknown_arg(site, arg))
+    let mut first = None;
+    for arg in args {
+        first = earlier_mark(first, unknown_arg(site, arg));
+    }
+    first
 }
 
 // The first one in an instance: its template, or one of its arguments.
@@ -149,7 +161,11 @@ fn unknown_in_instances<'a>(site: &Site<'a>, instances: &'a [InstanceDef]) -> Op
         (unknown_in_instance (context_of site.now).spec (context_of site.now).template)
         (map instance_tree instances.now)) }
 {
-    first_name_in(instances, |instance| unknown_in_instance(site, instance))
+    let mut first = None;
+    for instance in instances {
+        first = earlier_mark(first, unknown_in_instance(site, instance));
+    }
+    first
 }
 
 /// The first one in the head, types, variables and instances of a template. `AllocError` is want of memory.

@@ -1,5 +1,5 @@
 //! The first name of a text that no declaration gives in its scope.
-ghost use Rattle.std.specs.Prelude.{◌≡◌, IfOk, Some, map, slice_get};
+ghost use Rattle.std.specs.Prelude.{◌≡◌, ◌++◌, IfOk, Some, map, slice_get};
 ghost use Rattle.std.specs.List.{flat_map};
 ghost use Rattle.std.specs.Option.{option_map};
 ghost use Rattle.tm_syntax.specs.Tree.View.{named_tree, spec_tree, template_tree};
@@ -8,7 +8,7 @@ ghost use Rattle.tm_syntax.specs.Faults.Marks.{first_mark};
 ghost use Rattle.tm_syntax.specs.Faults.Names.{unknown_in_body, unknown_in_expr, unknown_in_template, unknown_names};
 ghost use Rattle.tm_scope.specs.Context.{context_of};
 ghost use Rattle.tm_names.specs.Asked.{all_asked};
-ghost use Rattle.tm_names.specs.Bodies.{body_at};
+ghost use Rattle.tm_names.specs.Bodies.{all_bodies, body_at};
 ghost use Rattle.tm_names.specs.ScopeNames.{mark_of};
 ghost use Rattle.tm_types.specs.Inner.UnknownParts.{
   unknown_in_asked,
@@ -17,7 +17,7 @@ ghost use Rattle.tm_types.specs.Inner.UnknownParts.{
   unknown_outside,
 };
 
-use crate::firsts_named::{earlier_name, earliest_of_four, first_name_in, try_first_name_in};
+use crate::firsts_named::{earlier_name, earliest_of_four};
 use crate::unknown::bodies::unknown_in_body;
 use crate::unknown::declared::{unknown_in_template, unknown_main};
 use crate::unknown::exprs::{unknown_in_asked, unknown_in_expr};
@@ -71,7 +71,22 @@ fn unknown_in_conditions<'a>(site: &Site<'a>, conditions: &'a [Named]) -> Option
     ensures { option_map mark_of result
         ≡ first_mark (flat_map (unknown_in_condition (context_of site.now)) (map named_tree conditions.now)) }
 {
-    first_name_in(conditions, |named| unknown_in_expr(site, &named.expr))
+    let mut first = None;
+    for named in conditions {
+        first = earlier_mark(first, unknown_in_expr(site, &named.expr));
+    }
+    first
+}
+
+// The first one in the goals and fairness conditions of a template.
+fn unknown_in_stated<'a>(outside: &Site<'a>, template: &'a Template) -> Option<NameMark<'a>>
+    ensures { option_map mark_of result ≡ first_mark
+        (flat_map (unknown_in_condition (context_of outside.now)) (template_tree template.now).goals
+        ++ flat_map (unknown_in_condition (context_of outside.now)) (template_tree template.now).fairs) }
+{
+    let in_goals = unknown_in_conditions(outside, template.goals.as_slice());
+    let in_fairs = unknown_in_conditions(outside, template.fairs.as_slice());
+    earlier_name(in_goals, in_fairs)
 }
 
 // The first one in the goals and fairness conditions of the template of a number.
@@ -85,9 +100,22 @@ fn unknown_outside<'a>(
         ≡ first_mark (unknown_outside (spec_tree names.now) (template_tree template.now)) }
 {
     let outside = Site::new(names, number, BodyName::Outside);
-    let in_goals = unknown_in_conditions(&outside, template.goals.as_slice());
-    let in_fairs = unknown_in_conditions(&outside, template.fairs.as_slice());
-    earlier_name(in_goals, in_fairs)
+    unknown_in_stated(&outside, template)
+}
+
+// The first one in the expressions of listed bodies.
+fn unknown_in_listed_exprs<'a>(
+    alloc: Global,
+    bodies: &[BodyPart<'a>],
+) -> Result<Option<NameMark<'a>>, AllocError>
+    ensures { IfOk result (λ first. option_map mark_of first
+        ≡ first_mark (flat_map unknown_in_exprs (all_bodies bodies.now))) }
+{
+    let mut first = None;
+    for part in bodies {
+        first = earlier_mark(first, unknown_in_exprs(alloc, part)?);
+    }
+    Ok(first)
 }
 
 // The first one in the expressions of the bodies of the template of a number.
@@ -102,7 +130,7 @@ fn unknown_in_values<'a>(
         (text.template_bodies (spec_tree names.now) (template_tree template.now)))) }
 {
     let bodies = template_bodies(alloc, names, number, template)?;
-    try_first_name_in(bodies.as_slice(), |part| unknown_in_exprs(alloc, part))
+    unknown_in_listed_exprs(alloc, bodies.as_slice())
 }
 
 // The first one in the expressions of the template of a number.
@@ -120,6 +148,21 @@ fn unknown_in_template_exprs<'a>(
     Ok(earlier_name(in_bodies, unknown_outside(names, number, template)))
 }
 
+// The first one in the targets and calls of listed bodies.
+fn unknown_in_listed_bodies<'a>(
+    alloc: Global,
+    bodies: &[BodyPart<'a>],
+) -> Result<Option<NameMark<'a>>, AllocError>
+    ensures { IfOk result (λ first. option_map mark_of first
+        ≡ first_mark (flat_map unknown_in_body (all_bodies bodies.now))) }
+{
+    let mut first = None;
+    for part in bodies {
+        first = earlier_mark(first, unknown_in_body(alloc, part)?);
+    }
+    Ok(first)
+}
+
 // The first one in the targets and calls of the bodies of the template of a number.
 fn unknown_in_template_bodies<'a>(
     alloc: Global,
@@ -132,7 +175,7 @@ fn unknown_in_template_bodies<'a>(
         (text.template_bodies (spec_tree names.now) (template_tree template.now)))) }
 {
     let bodies = template_bodies(alloc, names, number, template)?;
-    try_first_name_in(bodies.as_slice(), |part| unknown_in_body(alloc, part))
+    unknown_in_listed_bodies(alloc, bodies.as_slice())
 }
 
 // The first one in the declarations of templates.

@@ -1,7 +1,8 @@
-use Rattle.std.proofs.Common.{ℕ, ◌^◌, ◌<◌, sym, subst, arith}
+use Rattle.std.proofs.Common.{◌≡◌, ℕ, ◌^◌, ◌<◌, sym, subst, arith}
 use Rattle.tm_scope.specs.Types.{ty_of}
 use Rattle.tm_flatten.specs.Valued.{bits_in}
 use Rattle.tm_flatten.proofs.Later.{term_along}
+use Rattle.tm_steps.specs.Elements.{PutsSome}
 use Rattle.tm_steps.proofs.IntoElements.{more_put, none_put, some_flow}
 use Rattle.tm_steps.proofs.elements.put_some.Goals as goal
 
@@ -39,3 +40,9 @@ loop-number-preserved c =
     more_put c.args.reader.now c.args.path.now c.args.index c.args.id c.loop-number.number c.args.terms.now
     c.loop-number.terms c.put_one.new.terms c.args.flow c.loop-number.goes _ c.loop-number.invariant
     c.in_ok-goes.ensures
+
+pub returns : goal.returns
+returns c =
+    let end : c.loop-number.number ≡ c.args.count = omega arith in
+    subst (λ (k : ℕ). PutsSome c.args.reader.now c.args.path.now c.args.index k c.args.id c.args.terms.now
+    c.loop-number.terms c.args.flow c.loop-number.goes) end c.loop-number.invariant

@@ -1,5 +1,7 @@
-use Rattle.std.proofs.Common.{refl, subst}
+use Rattle.std.proofs.Common.{◌≡◌, Some, List, slice_get, refl, sym, subst}
+use Rattle.tm_term.specs.declared.term.TermId.{TermId}
 use Rattle.tm_flows.specs.Flows.{FlowTerms, PutsAt}
+use Rattle.tm_flows.proofs.Leaving.{leaves_put}
 use Rattle.tm_flows.proofs.flow.Flow.with.Goals as goal
 
 pub returns : goal.returns
@@ -14,4 +16,7 @@ returns c =
       position = refl;
       memory = λ x t ty memory typed term. c.in_ok-put.ensures.memory x t ty memory typed term;
       keeps = λ x apart u v m cell keeps there. c.in_ok-put.ensures.keeps x u v m cell apart keeps there;
+      leaves = λ x k there i had none is.
+          subst (λ (ids : List TermId). slice_get ids i ≡ Some had) (sym c.in_ok-put.ensures.values)
+          (leaves_put i x c.args.at c.args.cell c.args.id c.self.inside.memory.values k there had none is);
     })

@@ -1,16 +1,18 @@
-use Rattle.std.proofs.Common.{rules, sym, ap, ◌∙◌}
-use Rattle.std.specs.List.{flat_map}
-use Rattle.std.proofs.lemmas.List.Folds.{flat_map-map}
+use Rattle.std.proofs.Common.{arith}
 use Rattle.tm_scope.specs.Context.{context_of}
 use Rattle.tm_names.specs.Asked.{asked_of}
-use Rattle.tm_types.specs.Firsts.{first_of}
 use Rattle.tm_types.specs.Inner.Numbers.{asked_numbers_in}
+use Rattle.tm_types.proofs.FoundPlaces.{found_listed, found_more}
 use Rattle.tm_types.proofs.literals.text.body_numbers.Goals as goal
+
+pub loop-e-preserved : goal.loop-e-preserved
+loop-e-preserved c =
+    found_more (asked_numbers_in (context_of c.args.part.now.site)) asked_of c.as_slice-e-items.result.now
+    c.loop-e.e-index c.e-item.result (omega arith) c.e-item.is c.asked_numbers.ensures
+    c.earlier_place-first.ensures.earlier c.loop-e.invariant
 
 pub returns : goal.returns
 returns c =
-    let numbers = asked_numbers_in (context_of c.args.part.now.site) in
-    c.first_in.ensures (λ e. numbers (asked_of e)) (λ e r is. search rules)
-    ∙ ap (λ es. first_of (flat_map (λ e. numbers (asked_of e)) es)) c.as_slice.ensures.value
-    ∙ ap first_of (sym (flat_map-map numbers asked_of c.in_ok-asked.asked.items))
-    ∙ ap (λ es. first_of (flat_map numbers es)) c.in_ok-asked.ensures
+    found_listed (asked_numbers_in (context_of c.args.part.now.site)) asked_of c.as_slice-e-items.result.now
+    c.in_ok-asked.asked.items _ c.loop-e.e-index c.as_slice-e-items.ensures.value c.in_ok-asked.ensures (omega arith)
+    c.loop-e.invariant

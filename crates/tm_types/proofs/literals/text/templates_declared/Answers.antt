@@ -1,13 +1,16 @@
-use Rattle.std.proofs.Common.{◌≡◌, IfOk, List, rules, subst, sym}
-use Rattle.std.proofs.lemmas.List.Folds.{flat_map-map}
-use Rattle.tm_base.specs.declared.place.Place.{Place}
+use Rattle.std.proofs.Common.{arith}
 use Rattle.tm_syntax.specs.Tree.View.{template_tree}
-use Rattle.tm_types.specs.Firsts.{first_of}
 use Rattle.tm_types.specs.Inner.Numbers.{declared_numbers}
+use Rattle.tm_types.proofs.FoundPlaces.{found_all, found_more}
 use Rattle.tm_types.proofs.literals.text.templates_declared.Goals as goal
+
+pub loop-template-preserved : goal.loop-template-preserved
+loop-template-preserved c =
+    found_more declared_numbers template_tree c.args.templates.now c.loop-template.template-index
+    c.template-item.result (omega arith) c.template-item.is c.in_ok-declared_numbers.ensures
+    c.earlier_place-first.ensures.earlier c.loop-template.invariant
 
 pub returns : goal.returns
 returns c =
-    subst (λ (places : List Place). IfOk c.try_first_in.result (λ first. first ≡ first_of places))
-    (sym (flat_map-map declared_numbers template_tree c.args.templates.now))
-    (c.try_first_in.ensures (λ x. declared_numbers (template_tree x)) (λ x r is. search rules))
+    found_all declared_numbers template_tree c.args.templates.now c.loop-template.template-index (omega arith)
+    c.loop-template.invariant

@@ -1,15 +1,19 @@
-use Rattle.std.proofs.Common.{rules, sym, ap, ◌∙◌}
-use Rattle.std.proofs.lemmas.List.Folds.{flat_map-map}
+use Rattle.std.proofs.Common.{arith}
 use Rattle.tm_syntax.specs.Tree.{LocalTree}
 use Rattle.tm_syntax.specs.Tree.View.{local_tree}
 use Rattle.tm_scope.specs.Context.{context_of}
-use Rattle.tm_types.specs.Firsts.{first_of}
 use Rattle.tm_names.specs.LocalStmts.{declaration}
 use Rattle.tm_types.specs.Inner.StmtFaults.{stmt_faults}
+use Rattle.tm_types.proofs.FoundPlaces.{found_all, found_more}
 use Rattle.tm_types.proofs.mismatches.bodies.locals_faults.Goals as goal
+
+pub loop-local-preserved : goal.loop-local-preserved
+loop-local-preserved c =
+    found_more (λ (k : LocalTree). stmt_faults (context_of c.args.at.now) (declaration k)) local_tree
+    c.args.locals.now c.loop-local.local-index c.local-item.result (omega arith) c.local-item.is
+    c.local_faults.ensures c.earlier_place-first.ensures.earlier c.loop-local.invariant
 
 pub returns : goal.returns
 returns c =
-    let faults = λ (l : LocalTree). stmt_faults (context_of c.args.at.now) (declaration l) in
-    c.first_in.ensures (λ l. faults (local_tree l)) (λ l r is. search rules)
-    ∙ ap first_of (sym (flat_map-map faults local_tree c.args.locals.now))
+    found_all (λ (k : LocalTree). stmt_faults (context_of c.args.at.now) (declaration k)) local_tree c.args.locals.now
+    c.loop-local.local-index (omega arith) c.loop-local.invariant

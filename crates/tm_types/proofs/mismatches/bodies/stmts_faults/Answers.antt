@@ -1,14 +1,20 @@
-use Rattle.std.proofs.Common.{rules}
-use Rattle.tm_syntax.specs.Tree.View.{stmt_tree, stmt_trees}
-use Rattle.tm_syntax.specs.Scopes.Parts.{all_stmts}
+use Rattle.std.proofs.Common.{arith}
+use Rattle.std.specs.Borrow.{Bor}
+use Rattle.tm_syntax.specs.declared.tree.Stmt.{Stmt}
+use Rattle.tm_syntax.specs.Tree.View.{stmt_tree}
 use Rattle.tm_scope.specs.Context.{context_of}
 use Rattle.tm_types.specs.Inner.StmtFaults.{stmt_faults}
-use Rattle.tm_types.proofs.ListedFaults.{first_of_listed}
+use Rattle.tm_types.proofs.FoundPlaces.{found_listed, found_more}
 use Rattle.tm_types.proofs.mismatches.bodies.stmts_faults.Goals as goal
+
+pub loop-stmt-preserved : goal.loop-stmt-preserved
+loop-stmt-preserved c =
+    found_more (stmt_faults (context_of c.args.at.now)) (λ (s : Bor Stmt). stmt_tree s.now)
+    c.as_slice-stmt-items.result.now c.loop-stmt.stmt-index c.stmt-item.result (omega arith) c.stmt-item.is
+    c.stmt_faults.ensures c.earlier_place-first.ensures.earlier c.loop-stmt.invariant
 
 pub returns : goal.returns
 returns c =
-    let faults = stmt_faults (context_of c.args.at.now) in
-    first_of_listed faults c.as_slice.result.now c.in_ok-stmts.stmts.items (all_stmts (stmt_trees c.args.stmts.now))
-    c.first_in.result c.as_slice.ensures.value c.in_ok-stmts.ensures
-    (c.first_in.ensures (λ s. faults (stmt_tree s.now)) (λ s r is. search rules))
+    found_listed (stmt_faults (context_of c.args.at.now)) (λ (s : Bor Stmt). stmt_tree s.now)
+    c.as_slice-stmt-items.result.now c.in_ok-listed.listed.items _ c.loop-stmt.stmt-index
+    c.as_slice-stmt-items.ensures.value c.in_ok-listed.ensures (omega arith) c.loop-stmt.invariant

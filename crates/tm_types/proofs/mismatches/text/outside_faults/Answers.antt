@@ -1,8 +1,8 @@
-use Rattle.std.proofs.Common.{◌≡◌, Option, unwrap_or, map, sym, ap, ◌∙◌}
+use Rattle.std.proofs.Common.{◌≡◌, Option, ◌++◌, unwrap_or, sym, ap, ◌∙◌}
 use Rattle.std.specs.List.{flat_map}
 use Rattle.tm_syntax.specs.declared.tree.Template.{Template}
 use Rattle.tm_syntax.specs.Tree.{SpecTree, TemplateTree}
-use Rattle.tm_syntax.specs.Tree.View.{named_tree, spec_tree, template_tree}
+use Rattle.tm_syntax.specs.Tree.View.{spec_tree, template_tree}
 use Rattle.tm_scope.specs.Context.{body_name, context_of}
 use Rattle.tm_types.specs.Firsts.{first_of}
 use Rattle.tm_types.specs.Inner.ExprFaults.{condition_faults}
@@ -21,9 +21,6 @@ returns c =
       template = template_tree (same i);
       body = body_name (c.new-outside.ensures.body i);
     } in
-    c.earlier_place.ensures.joined (flat_map (condition_faults (outside_of spec t)) t.goals)
-    (flat_map (condition_faults (outside_of spec t)) t.fairs)
-    (c.conditions_faults-in_goals.ensures
-    ∙ (λ i. first_of (flat_map (condition_faults (stands i)) (map named_tree (c.as_slice.ensures.value i)))))
-    (c.conditions_faults-in_fairs.ensures
-    ∙ (λ i. first_of (flat_map (condition_faults (stands i)) (map named_tree (c.as_slice-2.ensures.value i)))))
+    c.stated_faults.ensures
+    ∙ (λ i. first_of (flat_map (condition_faults (stands i)) t.goals
+    ++ flat_map (condition_faults (stands i)) t.fairs))

@@ -1,8 +1,8 @@
-use Rattle.std.proofs.Common.{◌≡◌, map, sym, ◌∙◌}
+use Rattle.std.proofs.Common.{◌≡◌, ◌++◌, sym, ◌∙◌}
 use Rattle.std.specs.List.{flat_map}
 use Rattle.std.proofs.lemmas.Option.{same_Some}
 use Rattle.tm_syntax.specs.Tree.{SpecTree, TemplateTree}
-use Rattle.tm_syntax.specs.Tree.View.{named_tree, spec_tree, template_tree}
+use Rattle.tm_syntax.specs.Tree.View.{spec_tree, template_tree}
 use Rattle.tm_syntax.specs.Faults.Marks.{first_mark}
 use Rattle.tm_scope.specs.Context.{body_name, context_of}
 use Rattle.tm_types.specs.Inner.Numbers.{outside_of}
@@ -20,9 +20,6 @@ returns c =
       template = template_tree (same i);
       body = body_name (c.new-outside.ensures.body i);
     } in
-    c.earlier_name.ensures (flat_map (unknown_in_condition (outside_of spec t)) t.goals)
-    (flat_map (unknown_in_condition (outside_of spec t)) t.fairs)
-    (c.unknown_in_conditions-in_goals.ensures
-    ∙ (λ i. first_mark (flat_map (unknown_in_condition (stands i)) (map named_tree (c.as_slice.ensures.value i)))))
-    (c.unknown_in_conditions-in_fairs.ensures
-    ∙ (λ i. first_mark (flat_map (unknown_in_condition (stands i)) (map named_tree (c.as_slice-2.ensures.value i)))))
+    c.unknown_in_stated.ensures
+    ∙ (λ i. first_mark (flat_map (unknown_in_condition (stands i)) t.goals
+    ++ flat_map (unknown_in_condition (stands i)) t.fairs))

@@ -1,0 +1,76 @@
+//! Cases of the commands: obeys each line of the input in its folder, and tells what it wrote and its exit code.
+//!
+//! The words of a line stand apart by single blanks. Two kinds of lines are no words of a command: `show NAME` writes
+//! what a file holds, and `fill NAME N` makes a file of N blanks.
+#![tactic(auto)]
+
+#[cfg(test)]
+mod failing;
+
+use anyhow::{Context, Result};
+use std::alloc::{AllocError, Global};
+use tm_base::{DiskFiles, Files, Sink, StdSink};
+use tm_commands::obey_and_report;
+
+/// The most bytes of a file that is shown.
+const SHOWN_BYTES: u64 = 65_536;
+
+/// The words of a line. An empty line has none.
+fn words_of(alloc: Global, line: &str) -> Result<Vec<String>, AllocError> {
+    let mut words = Vec::new(alloc);
+    if line.is_empty() {
+        return Ok(words);
+    }
+    for word in line.split(' ') {
+        words.push(String::from_str(alloc, word)?)?;
+    }
+    Ok(words)
+}
+
+/// Obeys words, and tells the exit code.
+fn obey<R: std::rt::Files + Print + AllocGlobal>(rt: &R, words: &[String]) -> Result<()> {
+    let mut files = DiskFiles::new(rt);
+    let mut out = StdSink::new(rt);
+    let status = obey_and_report(rt.alloc(), words, &mut files, &mut out);
+    println!(rt; "exit {}", status.code())?;
+    Ok(())
+}
+
+/// Writes what a file holds.
+fn show<R: std::rt::Files + Print + AllocGlobal>(rt: &R, name: &str) -> Result<()> {
+    let mut files = DiskFiles::new(rt);
+    match files.read(name, SHOWN_BYTES) {
+        Ok(bytes) => StdSink::new(rt).put(&bytes)?,
+        Err(_) => println!(rt; "no such file")?,
+    }
+    Ok(())
+}
+
+/// Makes a file of so many blanks.
+fn fill<R: std::rt::Files + AllocGlobal>(rt: &R, name: &str, count: &str) -> Result<()> {
+    let count = count
+        .parse::<usize>()
+        .with_context(|| "a line that fills no file")?;
+    let blanks = vec![in rt.alloc(); b' '; count]?;
+    DiskFiles::new(rt).write(name, &blanks)?;
+    Ok(())
+}
+
+/// Does what a line says.
+fn answer<R: std::rt::Files + Print + AllocGlobal>(rt: &R, line: &str) -> Result<()> {
+    let words = words_of(rt.alloc(), line)?;
+    match words.as_slice() {
+        [verb, name] if verb.as_str() == "show" => show(rt, name.as_str()),
+        [verb, name, count] if verb.as_str() == "fill" => fill(rt, name.as_str(), count.as_str()),
+        _ => obey(rt, &words),
+    }
+}
+
+fn main(rt: HostRuntime) -> Result<()> {
+    for line in rt.lines(rt.alloc()) {
+        let line = line?;
+        println!(rt; "> {line}")?;
+        answer(&rt, line.as_str())?;
+    }
+    Ok(())
+}

@@ -1,0 +1,249 @@
+-- How a command is obeyed.
+use Rattle.std.proofs.Common.{◌≡◌, ℕ, ◌≤◌, Option, None, Some, Result, Ok, Err, List, [], ◌∷◌, ◌++◌, take, refl, sym}
+use Rattle.std.proofs.Common.{ap, subst, arith}
+use Rattle.std.specs.Prelude.{IsTrue, IfOk, IfErr, IsErrAnd, OnErr}
+use Rattle.std.proofs.lemmas.List.{append-nil}
+use Rattle.tm_base.specs.Sink.{AppendsPrefix}
+use Rattle.tm_syntax.specs.Design.{DesignTree}
+use Rattle.tm_cir.specs.Tree.{BlockTree}
+use Rattle.tm_commands.specs.declared.ending.Ending.{Ending}
+use Rattle.tm_commands.specs.declared.ending.Ending.TheVariants.{Usage}
+use Rattle.tm_commands.specs.declared.ending.Failure.{Failure}
+use Rattle.tm_commands.specs.declared.ending.Stop.{Stop}
+use Rattle.tm_commands.specs.declared.ending.Stop.TheVariants as stops_at
+use Rattle.tm_commands.specs.declared.ending.Failure.TheVariants.{ReadFault, WriteFault, Memory}
+use Rattle.tm_commands.specs.Script.{ScriptData}
+use Rattle.tm_commands.specs.Words.{Command, run, generate, migrate}
+use Rattle.tm_commands.specs.World.{FilesData, SinkData, OnlyReads, OnlyTouches}
+use Rattle.tm_commands.specs.Played.{Ends, IsPart, plays, stops, begins_badly}
+use Rattle.tm_commands.specs.Inputs.{RefusesOne}
+use Rattle.tm_commands.specs.Run.{Loads, Refused, refused, ended, IsRunPart, some_lines, no_line, RunMayEnd, may_refuse}
+use Rattle.tm_commands.specs.Run.{may_play, may_stop}
+use Rattle.tm_commands.specs.Commands.{read_names, write_names, CommandEnds, IsCommandPart, MayEnd, CommandLeaves}
+use Rattle.tm_commands.specs.Headline.{AreTold, IsShown, IsLongShown, Leaves}
+use Rattle.tm_commands.specs.Inner.Stopping.{StopsBy, stop_outcome, IsReadFailure, IsSinkFailure, IsRefusal}
+use Rattle.tm_commands.specs.Inner.Obeying.{PutBefore, Obeys}
+use Rattle.tm_commands.proofs.Playing.{cut_nothing}
+
+-- nothing was put
+pub grows_none : (before : List ℕ) → (text : List ℕ) × (before ≡ before ++ text)
+grows_none before = ([], sym (append-nil before))
+
+-- nothing is a first part of what any command puts
+pub nothing_put : (contents : List ℕ → Option (List ℕ)) (command : Option Command) → IsCommandPart contents command []
+nothing_put contents None = refl
+nothing_put contents (Some (run spec driver choices)) = no_line
+nothing_put contents (Some (generate registers out)) = refl
+nothing_put contents (Some (migrate spec cert out)) = refl
+
+-- what is not done at all leaves everything
+touches_none : (reads writes : List (List ℕ)) (files : FilesData) → OnlyTouches reads writes files files
+touches_none reads writes files = record {
+  same_others = λ name other. refl;
+  no_fewer_read_faults = λ name. omega arith;
+  no_fewer_write_faults = λ name. omega arith;
+  no_fewer_bytes = omega arith;
+  nothing_read = λ none. (refl, refl);
+  nothing_written = λ none. refl;
+}
+
+-- reads change no file
+touches_read : (reads writes : List (List ℕ)) (old new : FilesData) → (reads ≡ [] → ⊥) → OnlyReads old new →
+    OnlyTouches reads writes old new
+touches_read reads writes old new some left = record {
+  same_others = λ name other. ap (λ (f : List ℕ → Option (List ℕ)). f name) left.same_contents;
+  no_fewer_read_faults = left.no_fewer_faults;
+  no_fewer_write_faults =
+      λ name. let same = ap (λ (f : List ℕ → ℕ). f name) left.same_writes in omega (arith, same);
+  no_fewer_bytes = left.no_fewer_bytes;
+  nothing_read = λ none. absurd (some none);
+  nothing_written = λ none. left.same_writes;
+}
+
+-- words without a reading are obeyed by the usage
+pub usage_obeys : (command : Option Command) (files : FilesData) (out : SinkData) → None ≡ command →
+    Obeys command files files out out (Ok Usage)
+usage_obeys command files out is = subst (λ (c : Option Command). Obeys c files files out out (Ok Usage)) is (record {
+  ends = λ told. ([], (refl, refl), λ sink. sym (append-nil out.written));
+  cut = λ told sink. tt;
+  grows = λ sink. grows_none out.written;
+  may_end = refl;
+  shown = tt;
+  long = record { specification = λ is. cc; file = λ name is. cc };
+  files = record { touched = touches_none [] [] files; left = λ tells. refl };
+  no_fewer_faults = omega arith;
+})
+
+-- memory ran out before any file was read
+pub unread_words_obey : (command : Option Command) (files : FilesData) (out : SinkData)
+    (outcome : Result Ending Failure) → IsErrAnd outcome (λ failure. failure ≡ Memory) →
+    Obeys command files files out out outcome
+unread_words_obey command files out (Ok ending) failed = absurd failed
+unread_words_obey command files out (Err failure) failed =
+    subst (λ (f : Failure). Obeys command files files out out (Err f)) (sym failed) (record {
+      ends = λ told. tt;
+      cut = λ told sink. ([], nothing_put files.contents command, cut_nothing out.written);
+      grows = λ sink. grows_none out.written;
+      may_end = tt;
+      shown = tt;
+      long = tt;
+      files = record { touched = touches_none (read_names command) (write_names command) files; left = λ tells. tt };
+      no_fewer_faults = omega arith;
+    })
+
+-- the end of a play is one that `run` may have
+play_may : (names : List (List ℕ)) (d : DesignTree) (bs : List BlockTree) (c : ScriptData) (text : List ℕ)
+    (ending : Ending) → Ends d bs c text ending → RunMayEnd names ending
+play_may names d bs c text ending (plays reached) = may_play
+play_may names d bs c text ending (stops reached at why) = may_stop
+play_may names d bs c text ending (begins_badly none) = may_stop
+
+-- the end of a play is no text that is too long
+play_not_long : (old new : FilesData) (d : DesignTree) (bs : List BlockTree) (c : ScriptData) (text : List ℕ)
+    (ending : Ending) → Ends d bs c text ending → IsLongShown old new ending
+play_not_long old new d bs c text ending (plays reached) = record { specification = λ is. cc; file = λ name is. cc }
+play_not_long old new d bs c text ending (stops reached at why) =
+    record { specification = λ is. cc; file = λ name is. cc }
+play_not_long old new d bs c text ending (begins_badly none) =
+    record { specification = λ is. cc; file = λ name is. cc }
+
+-- some first part of a text was put, so what was put stands behind what stood
+pub grows_part : (text before now : List ℕ) → AppendsPrefix text before now →
+    (t : List ℕ) × (now ≡ before ++ t)
+grows_part text before now part = (take part.0 text, part.1)
+
+-- a failed put shows
+pub sink_shown : (command : Option Command) (old new : FilesData) (out after : SinkData) (failure : Failure) →
+    IsSinkFailure out after failure → IsShown command old new out after failure
+sink_shown command old new out after Memory failed = tt
+sink_shown command old new out after (WriteFault []) failed = failed.1
+sink_shown command old new out after (WriteFault (b ∷ bs)) failed = let none : b ∷ bs ≡ [] = failed.0 in cc
+sink_shown command old new out after (ReadFault name) failed = elim failed [ ]
+
+-- a command that reads files and is stopped at one of them, or before it is read
+module _ (command : Option Command) (Cause Named : Ending → Type 0) (old new : FilesData)
+    (read : AreTold old (read_names command) → IsTrue old.tells) (reads : read_names command ≡ [] → ⊥)
+    (ends : (ending : Ending) → Cause ending → CommandEnds old.contents command [] ending)
+    (may : (ending : Ending) → Named ending → MayEnd command ending)
+    (leaves : (ending : Ending) → Named ending → new.contents ≡ old.contents →
+    CommandLeaves old.contents new.contents command ending) where
+  refused_obeys : (out : SinkData) (ending : Ending) → OnlyReads old new → IsRefusal Cause Named old new ending →
+      Obeys command old new out out (Ok ending)
+  refused_obeys out ending left refusal = record {
+    ends = λ told. ([], ends ending (refusal.cause (read told)), λ sink. sym (append-nil out.written));
+    cut = λ told sink. tt;
+    grows = λ sink. grows_none out.written;
+    may_end = may ending refusal.named;
+    shown = tt;
+    long = refusal.long;
+    files = record {
+      touched = touches_read (read_names command) (write_names command) old new reads left;
+      left = λ tells. leaves ending refusal.named left.same_contents;
+    };
+    no_fewer_faults = omega arith;
+  }
+
+  put_none : (before : List ℕ) (failure : Failure) → IsReadFailure (read_names command) old new failure →
+      PutBefore (IsCommandPart old.contents command) before before failure
+  put_none before Memory failed = ([], nothing_put old.contents command, cut_nothing before)
+  put_none before (ReadFault name) failed = refl
+  put_none before (WriteFault name) failed = elim failed [ ]
+
+  read_shown : (out : SinkData) (failure : Failure) → IsReadFailure (read_names command) old new failure →
+      IsShown command old new out out failure
+  read_shown out Memory failed = tt
+  read_shown out (ReadFault name) failed = failed
+  read_shown out (WriteFault name) failed = elim failed [ ]
+
+  unread_leaves : (failure : Failure) → IsReadFailure (read_names command) old new failure → OnlyReads old new →
+      Leaves command old new (Err failure)
+  unread_leaves Memory failed left = tt
+  unread_leaves (ReadFault name) failed left = left.same_contents
+  unread_leaves (WriteFault name) failed left = elim failed [ ]
+
+  -- a file was not read, or memory ran out
+  pub unread_obeys : (out : SinkData) (failure : Failure) → OnlyReads old new →
+      IsReadFailure (read_names command) old new failure → Obeys command old new out out (Err failure)
+  unread_obeys out failure left failed = record {
+    ends = λ told. tt;
+    cut = λ told sink. put_none out.written failure failed;
+    grows = λ sink. grows_none out.written;
+    may_end = tt;
+    shown = read_shown out failure failed;
+    long = tt;
+    files = record {
+      touched = touches_read (read_names command) (write_names command) old new reads left;
+      left = λ tells. unread_leaves failure failed left;
+    };
+    no_fewer_faults = omega arith;
+  }
+
+  pub stopped_obeys : (out : SinkData) (stop : Stop) (outcome : Result Ending Failure) → outcome ≡ stop_outcome stop →
+      OnlyReads old new → StopsBy (IsRefusal Cause Named old new) (IsReadFailure (read_names command) old new) stop →
+      Obeys command old new out out outcome
+  stopped_obeys out (stops_at.Ends ending) outcome is left refusal =
+      subst (λ (o : Result Ending Failure). Obeys command old new out out o) (sym is)
+      (refused_obeys out ending left refusal)
+  stopped_obeys out (stops_at.Fails failure) outcome is left failed =
+      subst (λ (o : Result Ending Failure). Obeys command old new out out o) (sym is)
+      (unread_obeys out failure left failed)
+
+module _ (spec driver choices : List ℕ) (old new : FilesData) where
+  -- `run` was stopped before its play
+  pub stopped_running : (out : SinkData) (stop : Stop) (outcome : Result Ending Failure) →
+      outcome ≡ stop_outcome stop → OnlyReads old new →
+      StopsBy (IsRefusal (Refused old.contents spec driver choices) (RefusesOne (spec ∷ driver ∷ choices ∷ [])) old new)
+      (IsReadFailure (spec ∷ driver ∷ choices ∷ []) old new) stop →
+      Obeys (Some (run spec driver choices)) old new out out outcome
+  stopped_running =
+      stopped_obeys (Some (run spec driver choices)) (Refused old.contents spec driver choices)
+      (RefusesOne (spec ∷ driver ∷ choices ∷ [])) old new (λ tells. tells) (λ is. cc) (λ ending cause. refused cause)
+      (λ ending named. may_refuse named) (λ ending named same. same)
+
+  module _ (out after : SinkData) (d : DesignTree) (bs : List BlockTree) (c : ScriptData) where
+    put_part : (loads : Loads old.contents spec driver choices d bs c) (text : List ℕ) (failure : Failure) →
+        IsPart d bs c text → AppendsPrefix text out.written after.written → IsSinkFailure out after failure →
+        PutBefore (IsRunPart old.contents spec driver choices) out.written after.written failure
+    put_part loads text Memory so_put part failed = (text, some_lines loads so_put, part)
+    put_part loads text (WriteFault []) so_put part failed = (text, some_lines loads so_put, part)
+    put_part loads text (WriteFault (b ∷ bs)) so_put part failed = let none : b ∷ bs ≡ [] = failed.0 in cc
+    put_part loads text (ReadFault name) so_put part failed = elim failed [ ]
+
+    play_leaves : (failure : Failure) → IsSinkFailure out after failure →
+        Leaves (Some (run spec driver choices)) old new (Err failure)
+    play_leaves Memory failed = tt
+    play_leaves (WriteFault name) failed = tt
+    play_leaves (ReadFault name) failed = elim failed [ ]
+
+    touches_run : OnlyReads old new → OnlyTouches (spec ∷ driver ∷ choices ∷ []) [] old new
+    touches_run = touches_read (spec ∷ driver ∷ choices ∷ []) [] old new (λ is. cc)
+
+    -- the choices were played, to an end or to a failure
+    pub played_obeys : (outcome : Result Ending Failure) → OnlyReads old new →
+        (IsTrue old.tells → Loads old.contents spec driver choices d bs c) →
+        IfOk outcome (λ ending. (text : List ℕ) × Ends d bs c text ending
+        × (IsTrue out.tells → after.written ≡ out.written ++ text)) →
+        OnErr outcome ((text : List ℕ) × IsPart d bs c text
+        × (IsTrue out.tells → AppendsPrefix text out.written after.written)) →
+        IfErr outcome (IsSinkFailure out after) → out.faults ≤ after.faults →
+        Obeys (Some (run spec driver choices)) old new out after outcome
+    played_obeys (Ok ending) reads loads ends cut failed faults = record {
+      ends = λ told. (ends.0, ended (loads told) ends.1, ends.2);
+      cut = λ told sink. tt;
+      grows = λ sink. (ends.0, ends.2 sink);
+      may_end = play_may (spec ∷ driver ∷ choices ∷ []) d bs c ends.0 ending ends.1;
+      shown = tt;
+      long = play_not_long old new d bs c ends.0 ending ends.1;
+      files = record { touched = touches_run reads; left = λ tells. reads.same_contents };
+      no_fewer_faults = faults;
+    }
+    played_obeys (Err failure) reads loads ends cut failed faults = record {
+      ends = λ told. tt;
+      cut = λ told sink. put_part (loads told) cut.0 failure cut.1 (cut.2 sink) failed;
+      grows = λ sink. grows_part cut.0 out.written after.written (cut.2 sink);
+      may_end = tt;
+      shown = sink_shown (Some (run spec driver choices)) old new out after failure failed;
+      long = tt;
+      files = record { touched = touches_run reads; left = λ tells. play_leaves failure failed };
+      no_fewer_faults = faults;
+    }

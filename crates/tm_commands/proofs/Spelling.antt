@@ -1,0 +1,113 @@
+-- What words can spell: no command with too many registers, and none that writes a file without a name.
+use Rattle.std.proofs.Common.{◌≡◌, ℕ, ◌≤◌, Bool, true, false, ◌&&◌, not, nat_lt, Option, None, Some, List, [], ◌∷◌}
+use Rattle.std.proofs.Common.{refl, subst, if◌then◌else◌}
+use Rattle.std.specs.Prelude.{codes}
+use Rattle.std.specs.Bool.{then_some}
+use Rattle.std.specs.List.{list_all}
+use Rattle.std.specs.Option.{option_map, option_and_then}
+use Rattle.std.specs.Str.{bytes_eq}
+use Rattle.std.proofs.lemmas.Bool.{ltb-false}
+use Rattle.tm_commands.specs.Numbers.{digits_after}
+use Rattle.tm_commands.specs.Words.{Command, run, generate, migrate, is_filled, positional_words, without_options}
+use Rattle.tm_commands.specs.Words.{most_registers, registers_of, run_of, generate_of, migrate_of, command_of}
+use Rattle.tm_commands.specs.Words.{command_with}
+use Rattle.tm_commands.specs.Inner.Obeying.{IsSpelled}
+
+-- the registers are within their limit, and the file that is written has a name
+abbrev pub IsFit : Command → Type 0
+IsFit (run spec driver choices) = Unit {0}
+IsFit (generate registers out) = (registers ≤ most_registers) × (out ≡ [] → ⊥)
+IsFit (migrate spec cert out) = out ≡ [] → ⊥
+
+-- a filled word is not empty
+filled : (word : List ℕ) → is_filled word ≡ true → word ≡ [] → ⊥
+filled [] is none = cc
+filled (b ∷ bs) is none = cc
+
+both : (a b : Bool) → a && b ≡ true → (a ≡ true) × (b ≡ true)
+both true b is = (refl, is)
+both false b is = absurd (cc)
+
+-- what is kept where a test passes
+kept : {X : Type 0} (b : Bool) (x y : X) → then_some b x ≡ Some y → (b ≡ true) × (x ≡ y)
+kept true x y is = (refl, cc)
+kept false x y is = absurd (cc)
+
+-- what is made of an option
+made : {X Y : Type 0} (f : X → Option Y) (o : Option X) (y : Y) → option_and_then f o ≡ Some y →
+    (x : X) × (o ≡ Some x) × (f x ≡ Some y)
+made f None y is = absurd (cc)
+made f (Some x) y is = (x, refl, is)
+
+-- words behind a command are filled
+all_filled : (words found : List (List ℕ)) → positional_words words ≡ Some found → list_all is_filled found ≡ true
+all_filled words found is =
+    let from = made (λ ws. then_some (list_all is_filled ws) ws) (without_options words) found is in
+    let passed = kept (list_all is_filled from.0) from.0 found from.2 in
+    subst (λ (ws : List (List ℕ)). list_all is_filled ws ≡ true) passed.1 passed.0
+
+few : (b : Bool) (n : ℕ) → b && not (nat_lt most_registers n) ≡ true → n ≤ most_registers
+few b n is = by (nat_lt most_registers n) refl (both b (not (nat_lt most_registers n)) is).1
+  where
+    by : (t : Bool) → nat_lt most_registers n ≡ t → not (nat_lt most_registers n) ≡ true → n ≤ most_registers
+    by true is other = absurd (let no : not true ≡ true = subst (λ t. not t ≡ true) is other in cc)
+    by false is other = ltb-false most_registers n is
+
+-- a number of registers that is read is within the limit
+few_registers : (word : List ℕ) (n : ℕ) → registers_of word ≡ Some n → n ≤ most_registers
+few_registers word n is =
+    let from = made (λ n. then_some (is_filled word && not (nat_lt most_registers n)) n) (digits_after 0 word) n is in
+    let passed = kept (is_filled word && not (nat_lt most_registers from.0)) from.0 n from.2 in
+    subst (λ k. k ≤ most_registers) passed.1 (few (is_filled word) from.0 passed.0)
+
+run_fit : (words : List (List ℕ)) (c : Command) → run_of words ≡ Some c → IsFit c
+run_fit [] c is = absurd (cc)
+run_fit (s ∷ []) c is = absurd (cc)
+run_fit (s ∷ d ∷ []) c is = absurd (cc)
+run_fit (s ∷ d ∷ h ∷ []) c is = let same : run s d h ≡ c = cc in subst IsFit same tt
+run_fit (s ∷ d ∷ h ∷ w ∷ ws) c is = absurd (cc)
+
+generate_fit : (words : List (List ℕ)) (c : Command) → list_all is_filled words ≡ true →
+    generate_of words ≡ Some c → IsFit c
+generate_fit [] c all is = absurd (cc)
+generate_fit (n ∷ []) c all is = absurd (cc)
+generate_fit (n ∷ o ∷ []) c all is = by (registers_of n) refl is
+  where
+    by : (r : Option ℕ) → registers_of n ≡ r → option_map (λ n. generate n o) r ≡ Some c → IsFit c
+    by None read is = absurd (cc)
+    by (Some k) read is =
+        let same : generate k o ≡ c = cc in
+        subst IsFit same
+        (few_registers n k read, filled o (both (is_filled o) true (both (is_filled n) (is_filled o && true) all).1).0)
+generate_fit (n ∷ o ∷ w ∷ ws) c all is = absurd (cc)
+
+migrate_fit : (words : List (List ℕ)) (c : Command) → list_all is_filled words ≡ true →
+    migrate_of words ≡ Some c → IsFit c
+migrate_fit [] c all is = absurd (cc)
+migrate_fit (s ∷ []) c all is = absurd (cc)
+migrate_fit (s ∷ k ∷ []) c all is = absurd (cc)
+migrate_fit (s ∷ k ∷ o ∷ []) c all is =
+    let same : migrate s k o ≡ c = cc in
+    let behind = (both (is_filled s) (is_filled k && (is_filled o && true)) all).1 in
+    subst IsFit same
+    (filled o (both (is_filled o) true (both (is_filled k) (is_filled o && true) behind).1).0)
+migrate_fit (s ∷ k ∷ o ∷ w ∷ ws) c all is = absurd (cc)
+
+chosen : (r g m : Bool) (words : List (List ℕ)) (c : Command) → list_all is_filled words ≡ true →
+    (if r then run_of words else if g then generate_of words else if m then migrate_of words else None) ≡ Some c →
+    IsFit c
+chosen true g m words c all is = run_fit words c is
+chosen false true m words c all is = generate_fit words c all is
+chosen false false true words c all is = migrate_fit words c all is
+chosen false false false words c all is = absurd (cc)
+
+-- a command that is spelled is fit
+pub spelled_fit : (c : Command) → IsSpelled c → IsFit c
+spelled_fit c spelled = by spelled.0 spelled.1
+  where
+    by : (words : List (List ℕ)) → command_of words ≡ Some c → IsFit c
+    by [] is = absurd (cc)
+    by (command ∷ words) is =
+        let from = made (command_with command) (positional_words words) c is in
+        chosen (bytes_eq command (codes "run")) (bytes_eq command (codes "gen")) (bytes_eq command (codes "migrate"))
+        from.0 c (all_filled words from.0 from.1) from.2

@@ -1,0 +1,46 @@
+use Rattle.std.proofs.Common.{map, sym, subst, Result}
+use Rattle.std.specs.String.{string_bytes}
+use Rattle.tm_commands.specs.declared.ending.Ending.{Ending}
+use Rattle.tm_commands.specs.declared.ending.Failure.{Failure}
+use Rattle.tm_commands.specs.Words.{command_of}
+use Rattle.tm_commands.specs.World.{files_data, sink_data}
+use Rattle.tm_commands.proofs.Reporting.{Keeps, keeps_whole, keeps_cut}
+use Rattle.tm_commands.proofs.obeying.obey_and_report.Goals as goal
+
+pub returns-in-Ok : goal.returns-in-Ok
+returns-in-Ok g c =
+    let kept = subst (λ (o : Result Ending Failure). Keeps (command_of (map string_bytes c.args.words.now))
+    (files_data g.F.Files c.args.files.now) (files_data g.F.Files c.obey_words-outcome.new.files)
+    (sink_data g.O.Sink c.args.out.now) (sink_data g.O.Sink c.put_outcome.new.out) o) (sym c.status_of.ensures)
+    (keeps_whole (command_of (map string_bytes c.args.words.now)) (files_data g.F.Files c.args.files.now)
+    (files_data g.F.Files c.obey_words-outcome.new.files) g.O.Sink c.args.out.now c.obey_words-outcome.new.out
+    c.put_outcome.new.out c.obey_words-outcome.result c.obey_words-outcome.ensures c.in-Ok.ensures.ok
+    c.put_outcome.ensures.no_fewer_faults) in record {
+      cause = kept.cause;
+      complete = kept.complete;
+      possible = kept.possible;
+      long = kept.long;
+      fault = kept.fault;
+      report = kept.report;
+      last_line = kept.last_line;
+      files = kept.files;
+    }
+
+pub returns-in-Err : goal.returns-in-Err
+returns-in-Err g c =
+    let kept = subst (λ (o : Result Ending Failure). Keeps (command_of (map string_bytes c.args.words.now))
+    (files_data g.F.Files c.args.files.now) (files_data g.F.Files c.obey_words-outcome.new.files)
+    (sink_data g.O.Sink c.args.out.now) (sink_data g.O.Sink c.put_outcome.new.out) o) (sym c.status_of-in-Err.ensures)
+    (keeps_cut (command_of (map string_bytes c.args.words.now)) (files_data g.F.Files c.args.files.now)
+    (files_data g.F.Files c.obey_words-outcome.new.files) g.O.Sink c.args.out.now c.obey_words-outcome.new.out
+    c.put_outcome.new.out c.obey_words-outcome.result c.in-Err.failure c.obey_words-outcome.ensures
+    c.in-Err.ensures.err c.in-Err.ensures.failure) in record {
+      cause = kept.cause;
+      complete = kept.complete;
+      possible = kept.possible;
+      long = kept.long;
+      fault = kept.fault;
+      report = kept.report;
+      last_line = kept.last_line;
+      files = kept.files;
+    }

@@ -1,0 +1,45 @@
+use Rattle.std.proofs.Common.{◌∙◌}
+use Rattle.std.specs.Prelude.{IsTrue}
+use Rattle.tm_commands.specs.Report.{ending_text}
+use Rattle.tm_commands.proofs.Playing.{err_as, ok_as}
+use Rattle.tm_commands.proofs.report.outcome.put_ending.Goals as goal
+
+pub returns-in_ok-line-in-Played-clause-err : goal.returns-in_ok-line-in-Played-clause-err
+returns-in_ok-line-in-Played-clause-err g c =
+    err_as c.put_line.result (IsTrue g.O.Sink.tells) c.deref.result.now (ending_text c.args.ending.now)
+    (g.O.Sink.written c.args.out.now) (g.O.Sink.written c.put_line.new.out)
+    (rw c.in-Played.is (c.deref.ensures.value ∙ c.in_ok-line-in-Played.ensures)) c.put_line.ensures.err
+
+pub returns-in_ok-line-in-Stopped-clause-err : goal.returns-in_ok-line-in-Stopped-clause-err
+returns-in_ok-line-in-Stopped-clause-err g c =
+    err_as c.put_line-in-Stopped.result (IsTrue g.O.Sink.tells) c.deref-in-Stopped.result.now
+    (ending_text c.args.ending.now) (g.O.Sink.written c.args.out.now) (g.O.Sink.written c.put_line-in-Stopped.new.out)
+    (rw c.in-Stopped.is (c.deref-in-Stopped.ensures.value ∙ c.in_ok-line-in-Stopped.ensures))
+    c.put_line-in-Stopped.ensures.err
+
+pub returns-in_ok-line-in-Generated-clause-err : goal.returns-in_ok-line-in-Generated-clause-err
+returns-in_ok-line-in-Generated-clause-err g c =
+    err_as c.put_line-in-Generated.result (IsTrue g.O.Sink.tells) c.deref-in-Generated.result.now
+    (ending_text c.args.ending.now) (g.O.Sink.written c.args.out.now)
+    (g.O.Sink.written c.put_line-in-Generated.new.out)
+    (rw c.in-Generated.is (c.deref-in-Generated.ensures.value ∙ c.in_ok-line-in-Generated.ensures))
+    c.put_line-in-Generated.ensures.err
+
+pub returns-in_ok-line-in-Unbuilt-clause-err : goal.returns-in_ok-line-in-Unbuilt-clause-err
+returns-in_ok-line-in-Unbuilt-clause-err g c =
+    err_as c.put_line-in-Unbuilt.result (IsTrue g.O.Sink.tells) c.deref-in-Unbuilt.result.now
+    (ending_text c.args.ending.now) (g.O.Sink.written c.args.out.now) (g.O.Sink.written c.put_line-in-Unbuilt.new.out)
+    (rw c.in-Unbuilt.is (c.deref-in-Unbuilt.ensures.value ∙ c.in_ok-line-in-Unbuilt.ensures))
+    c.put_line-in-Unbuilt.ensures.err
+
+pub returns-in-Migrated-clause-ok : goal.returns-in-Migrated-clause-ok
+returns-in-Migrated-clause-ok g c =
+    ok_as c.put_line-in-Migrated.result (IsTrue g.O.Sink.tells) c.migrated_line.result.now
+    (ending_text c.args.ending.now) (g.O.Sink.written c.args.out.now) (g.O.Sink.written c.put_line-in-Migrated.new.out)
+    (rw c.in-Migrated.is c.migrated_line.ensures) c.put_line-in-Migrated.ensures.ok
+
+pub returns-in-Migrated-clause-err : goal.returns-in-Migrated-clause-err
+returns-in-Migrated-clause-err g c =
+    err_as c.put_line-in-Migrated.result (IsTrue g.O.Sink.tells) c.migrated_line.result.now
+    (ending_text c.args.ending.now) (g.O.Sink.written c.args.out.now) (g.O.Sink.written c.put_line-in-Migrated.new.out)
+    (rw c.in-Migrated.is c.migrated_line.ensures) c.put_line-in-Migrated.ensures.err

@@ -1,0 +1,51 @@
+-- The commands: what each reads and writes, how it ends, what it puts on the way, and what its end leaves in the files.
+use Rattle.std.specs.Prelude.{◌≡◌, ℕ, Option, None, Some, List, [], ◌∷◌}
+use Rattle.tm_gen.specs.Generated.{generated_text}
+use Rattle.tm_commands.specs.declared.ending.Ending.{Ending}
+use Rattle.tm_commands.specs.declared.ending.Ending.TheVariants.{Usage, Generated}
+use Rattle.tm_commands.specs.Words.{Command, run, generate, migrate}
+use Rattle.tm_commands.specs.Inputs.{Tells}
+use Rattle.tm_commands.specs.Run.{RunEnds, IsRunPart, RunMayEnd}
+use Rattle.tm_commands.specs.Migrate.{MigrateEnds, MigrateLeaves, MigrateMayEnd}
+
+-- the files that a command reads, by name; words without a reading read none
+abbrev pub read_names : Option Command → List (List ℕ)
+read_names None = []
+read_names (Some (run spec driver choices)) = spec ∷ driver ∷ choices ∷ []
+read_names (Some (generate registers out)) = []
+read_names (Some (migrate spec cert out)) = spec ∷ cert ∷ []
+
+-- the files that a command writes, by name
+abbrev pub write_names : Option Command → List (List ℕ)
+write_names None = []
+write_names (Some (run spec driver choices)) = []
+write_names (Some (generate registers out)) = out ∷ []
+write_names (Some (migrate spec cert out)) = out ∷ []
+
+-- how a command ends over contents, with the lines that it puts before it tells so; words without a reading end with
+-- the usage
+abbrev pub CommandEnds : (List ℕ → Option (List ℕ)) → Option Command → List ℕ → Ending → Type 0
+CommandEnds contents None text ending = (text ≡ []) × (ending ≡ Usage)
+CommandEnds contents (Some (run spec driver choices)) text ending = RunEnds contents spec driver choices text ending
+CommandEnds contents (Some (generate registers out)) text ending = (text ≡ []) × (ending ≡ Generated registers)
+CommandEnds contents (Some (migrate spec cert out)) text ending =
+    (text ≡ []) × MigrateEnds contents spec cert ending
+
+-- what a command has put so far
+abbrev pub IsCommandPart : (List ℕ → Option (List ℕ)) → Option Command → List ℕ → Type 0
+IsCommandPart contents (Some (run spec driver choices)) text = IsRunPart contents spec driver choices text
+IsCommandPart contents _ text = text ≡ []
+
+-- the ends that a command may have, whatever its files hold
+abbrev pub MayEnd : Option Command → Ending → Type 0
+MayEnd None ending = ending ≡ Usage
+MayEnd (Some (run spec driver choices)) ending = RunMayEnd (spec ∷ driver ∷ choices ∷ []) ending
+MayEnd (Some (generate registers out)) ending = ending ≡ Generated registers
+MayEnd (Some (migrate spec cert out)) ending = MigrateMayEnd cert ending
+
+-- what an end of a command leaves in the files, from what they held at first: the text that was asked for, a
+-- certificate, or all as it was
+abbrev pub CommandLeaves : (old new : List ℕ → Option (List ℕ)) → Option Command → Ending → Type 0
+CommandLeaves old new (Some (generate registers out)) ending = Tells new out (generated_text registers)
+CommandLeaves old new (Some (migrate spec cert out)) ending = MigrateLeaves old new spec cert out ending
+CommandLeaves old new _ ending = new ≡ old

@@ -1,0 +1,54 @@
+-- What was read, and what stops a command at a text that is not read.
+use Rattle.std.specs.Prelude.{◌≡◌, ℕ, Bool, Option, List, IsTrue}
+use Rattle.tm_syntax.specs.declared.fault.FrontError.{FrontError}
+use Rattle.tm_syntax.specs.declared.fault.FrontError.TheVariants as front
+use Rattle.tm_syntax.specs.declared.token.Token.{Token}
+use Rattle.tm_syntax.specs.Design.{DesignTree}
+use Rattle.tm_allowed.specs.Assuming.{has_assume}
+use Rattle.tm_front.specs.Specification.{IsDesignText}
+use Rattle.tm_cert.specs.declared.cert.Cert.{Cert}
+use Rattle.tm_cert.specs.declared.refusal.ReadCertError.{ReadCertError}
+use Rattle.tm_cert.specs.declared.refusal.ReadCertError.TheVariants.{Bad, Memory}
+use Rattle.tm_cert.specs.declared.shape.CertShape.{CertShape}
+use Rattle.tm_cert.specs.declared.shape.Kind.TheVariants.{Either}
+use Rattle.tm_shape.specs.Shape.{shape_of}
+use Rattle.tm_commands.specs.declared.ending.Bad.TheVariants as bad_file
+use Rattle.tm_commands.specs.declared.ending.Ending.{Ending}
+use Rattle.tm_commands.specs.declared.ending.Ending.TheVariants as endings
+use Rattle.tm_commands.specs.declared.ending.Failure.TheVariants as failures
+use Rattle.tm_commands.specs.declared.ending.Stop.{Stop}
+use Rattle.tm_commands.specs.declared.ending.Stop.TheVariants.{Ends, Fails}
+use Rattle.tm_commands.specs.Inputs.{Tells, TellsSpecification, TellsCert}
+
+-- a file was read as the text of this design, which has the word `assume` or not; where the files tell, it is what they
+-- tell
+pub record IsRead (tells : Bool) (contents : List ℕ → Option (List ℕ)) (spec : List ℕ) (d : DesignTree)
+    (assumes : Bool) : Type 0 where
+  pub text : List ℕ
+  pub tokens : List Token
+  pub told : IsTrue tells → Tells contents spec text
+  pub is : IsDesignText text tokens d
+  pub word : assumes ≡ has_assume tokens
+
+-- two files were read as a design and a certificate for its numbers; where the files tell, they are what they tell
+pub record IsMigration (tells : Bool) (contents : List ℕ → Option (List ℕ)) (spec cert : List ℕ) (shape : CertShape)
+    (c : Cert) : Type 0 where
+  pub design : DesignTree
+  pub shaped : shape ≡ shape_of design Either
+  pub specified : IsTrue tells → TellsSpecification contents spec design
+  pub certified : IsTrue tells → TellsCert contents cert design c
+
+-- what stops a command at a text that is not read: its fault, or want of memory
+abbrev pub refusal_of : FrontError → Stop
+refusal_of (front.Faulty f) = Ends (endings.Faulty f)
+refusal_of front.Memory = Fails failures.Memory
+
+-- an end that tells a fault of a specification
+abbrev pub IsFaulty : Ending → Type 0
+IsFaulty (endings.Faulty f) = Unit {0}
+IsFaulty _ = ⊥
+
+-- an end that tells the fault of a text that is no certificate
+abbrev pub IsBadCert : List ℕ → ReadCertError → Ending → Type 0
+IsBadCert name (Bad bad) ending = ending ≡ endings.BadText name (bad_file.Cert bad)
+IsBadCert name Memory ending = ⊥

@@ -1,0 +1,56 @@
+-- What stops a step of a command.
+use Rattle.std.specs.Prelude.{◌≡◌, ℕ, Result, Ok, Err, List, [], IsTrue, Contains}
+use Rattle.tm_base.specs.declared.sink.SinkError.{SinkError}
+use Rattle.tm_base.specs.declared.sink.SinkError.TheVariants as sink
+use Rattle.tm_commands.specs.declared.ending.Ending.{Ending}
+use Rattle.tm_commands.specs.declared.ending.Failure.{Failure}
+use Rattle.tm_commands.specs.declared.ending.Failure.TheVariants.{ReadFault, WriteFault, Memory}
+use Rattle.tm_commands.specs.declared.ending.Stop.{Stop}
+use Rattle.tm_commands.specs.declared.ending.Stop.TheVariants.{Ends, Fails}
+use Rattle.tm_commands.specs.World.{FilesData, SinkData, HasFailedRead, HasFailedWrite, HasFailedPut}
+use Rattle.tm_commands.specs.Headline.{IsLongShown}
+
+-- an end or a failure for which this holds
+abbrev pub StopsBy : (Ending → Type 0) → (Failure → Type 0) → Stop → Type 0
+StopsBy IsEnd IsFailure (Ends ending) = IsEnd ending
+StopsBy IsEnd IsFailure (Fails failure) = IsFailure failure
+
+-- the outcome of a command that was stopped
+abbrev pub stop_outcome : Stop → Result Ending Failure
+stop_outcome (Ends ending) = Ok ending
+stop_outcome (Fails failure) = Err failure
+
+-- memory ran out, or a read of one of these files failed, which its count shows
+abbrev pub IsReadFailure : List (List ℕ) → FilesData → FilesData → Failure → Type 0
+IsReadFailure names old new Memory = Unit {0}
+IsReadFailure names old new (ReadFault name) = Contains names name × HasFailedRead old new name
+IsReadFailure names old new (WriteFault name) = ⊥
+
+-- memory ran out, or a write of this file failed, which its count shows
+abbrev pub IsWriteFailure : List ℕ → FilesData → FilesData → Failure → Type 0
+IsWriteFailure name old new Memory = Unit {0}
+IsWriteFailure name old new (ReadFault other) = ⊥
+IsWriteFailure name old new (WriteFault other) = (other ≡ name) × HasFailedWrite old new name
+
+-- memory ran out, or a put failed, which its count shows
+abbrev pub IsSinkFailure : SinkData → SinkData → Failure → Type 0
+IsSinkFailure out after Memory = Unit {0}
+IsSinkFailure out after (ReadFault name) = ⊥
+IsSinkFailure out after (WriteFault name) = (name ≡ []) × HasFailedPut out after
+
+-- memory ran out
+abbrev pub IsMemory : Failure → Type 0
+IsMemory Memory = Unit {0}
+IsMemory _ = ⊥
+
+-- a file is refused, for this cause where the files tell
+pub record IsRefusal (Cause Named : Ending → Type 0) (old new : FilesData) (ending : Ending) : Type 0 where
+  pub cause : IsTrue old.tells → Cause ending
+  pub named : Named ending
+  pub long : IsLongShown old new ending
+
+-- the failure of a refused `put`
+abbrev pub IsFailureOf : SinkError → Failure → Type 0
+IsFailureOf error Memory = Unit {0}
+IsFailureOf error (WriteFault name) = (name ≡ []) × (error ≡ sink.Failed)
+IsFailureOf error (ReadFault name) = ⊥

@@ -1,0 +1,138 @@
+-- What files tell: a design, blocks, choices or a certificate, or why they tell none.
+use Rattle.std.specs.Prelude.{◌≡◌, ℕ, ◌≤◌, true, false, Option, Some, Ok, Err, List, length, Contains}
+use Rattle.tm_base.specs.Files.{IsLonger}
+use Rattle.tm_syntax.specs.declared.fault.Faulty.{Faulty as Fault}
+use Rattle.tm_syntax.specs.declared.token.Token.{Token}
+use Rattle.tm_syntax.specs.Limits.{file_limit}
+use Rattle.tm_syntax.specs.Design.{DesignTree}
+use Rattle.tm_syntax.specs.Faults.{FaultOf}
+use Rattle.tm_allowed.specs.Assuming.{has_assume}
+use Rattle.tm_front.specs.Specification.{IsDesignText}
+use Rattle.tm_cir.specs.Tree.{BlockTree}
+use Rattle.tm_cparse.specs.declared.bad.BadDriver.{BadDriver}
+use Rattle.tm_cparse.specs.Faults.{IsDriverFile, HasFault}
+use Rattle.tm_cert.specs.declared.cert.Cert.{Cert as Certificate}
+use Rattle.tm_cert.specs.declared.refusal.BadCert.{BadCert}
+use Rattle.tm_cert.specs.declared.shape.Kind.TheVariants.{Either}
+use Rattle.tm_cert.specs.CertValue.{IsCertText}
+use Rattle.tm_cert.specs.Judge.{judge_text}
+use Rattle.tm_shape.specs.Shape.{shape_of}
+use Rattle.tm_commands.specs.declared.ending.Ending.{Ending}
+use Rattle.tm_commands.specs.declared.ending.Ending.TheVariants.{Faulty, BadText, Unbuilt}
+use Rattle.tm_commands.specs.declared.ending.Bad.{Bad}
+use Rattle.tm_commands.specs.declared.ending.Bad.TheVariants.{TooLong, Driver, Cert, Choices}
+use Rattle.tm_commands.specs.Script.{ScriptData}
+use Rattle.tm_commands.specs.Choices.{reading_of}
+
+-- the file tells this text
+abbrev pub Tells : (List ℕ → Option (List ℕ)) → List ℕ → List ℕ → Type 0
+Tells contents name text = contents name ≡ Some text
+
+-- SPEC tells this design
+pub record TellsSpecification (contents : List ℕ → Option (List ℕ)) (spec : List ℕ) (d : DesignTree) : Type 0 where
+  pub text : List ℕ
+  pub tokens : List Token
+  pub told : Tells contents spec text
+  pub is : IsDesignText text tokens d
+
+-- SPEC tells this design, without the word `assume`
+pub record TellsDesign (contents : List ℕ → Option (List ℕ)) (spec : List ℕ) (d : DesignTree) : Type 0 where
+  pub text : List ℕ
+  pub tokens : List Token
+  pub told : Tells contents spec text
+  pub is : IsDesignText text tokens d
+  pub without : has_assume tokens ≡ false
+
+-- SPEC has this fault
+pub record TellsFault (contents : List ℕ → Option (List ℕ)) (spec : List ℕ) (f : Fault) : Type 0 where
+  pub text : List ℕ
+  pub told : Tells contents spec text
+  pub fault : FaultOf text f
+
+-- SPEC has no fault, and has the word `assume`: which answers of a driver are allowed then is not decided so far
+pub record TellsAssume (contents : List ℕ → Option (List ℕ)) (spec : List ℕ) : Type 0 where
+  pub text : List ℕ
+  pub tokens : List Token
+  pub design : DesignTree
+  pub told : Tells contents spec text
+  pub is : IsDesignText text tokens design
+  pub has : has_assume tokens ≡ true
+
+-- DRIVER tells these blocks over a design
+pub record TellsBlocks
+    (contents : List ℕ → Option (List ℕ)) (driver : List ℕ) (d : DesignTree) (bs : List BlockTree) : Type 0 where
+  pub text : List ℕ
+  pub told : Tells contents driver text
+  pub is : IsDriverFile d text bs
+
+-- DRIVER is within its limit, and has this fault over a design
+pub record TellsBadDriver
+    (contents : List ℕ → Option (List ℕ)) (driver : List ℕ) (d : DesignTree) (bad : BadDriver) : Type 0 where
+  pub text : List ℕ
+  pub told : Tells contents driver text
+  pub short : length text ≤ file_limit
+  pub fault : HasFault d text bad
+
+-- CHOICES tells this start line and these steps over a design
+pub record TellsScript
+    (contents : List ℕ → Option (List ℕ)) (choices : List ℕ) (d : DesignTree) (c : ScriptData) : Type 0 where
+  pub text : List ℕ
+  pub told : Tells contents choices text
+  pub short : length text ≤ file_limit
+  pub reads : reading_of d.processes text ≡ Ok c
+
+-- CHOICES has this first bad line over a design
+pub record TellsBadLine
+    (contents : List ℕ → Option (List ℕ)) (choices : List ℕ) (d : DesignTree) (n : ℕ) : Type 0 where
+  pub text : List ℕ
+  pub told : Tells contents choices text
+  pub short : length text ≤ file_limit
+  pub reads : reading_of d.processes text ≡ Err n
+
+-- CERT tells this certificate of either kind, for the numbers of a design
+pub record TellsCert
+    (contents : List ℕ → Option (List ℕ)) (cert : List ℕ) (d : DesignTree) (c : Certificate) : Type 0 where
+  pub text : List ℕ
+  pub told : Tells contents cert text
+  pub short : length text ≤ file_limit
+  pub is : IsCertText (shape_of d Either) text c
+
+-- CERT is within its limit, and has this first fault for the numbers of a design
+pub record TellsBadCert
+    (contents : List ℕ → Option (List ℕ)) (cert : List ℕ) (d : DesignTree) (bad : BadCert) : Type 0 where
+  pub text : List ℕ
+  pub told : Tells contents cert text
+  pub short : length text ≤ file_limit
+  pub fault : judge_text (shape_of d Either) text ≡ Err bad
+
+-- one of these files is refused
+pub data RefusesOne (names : List (List ℕ)) : Ending → Type 0 where
+  faulty_one : {file : List ℕ} {f : Fault} → Contains names file → RefusesOne names (Faulty f)
+  bad_one : {file : List ℕ} {why : Bad} → Contains names file → RefusesOne names (BadText file why)
+  unbuilt_one : {file : List ℕ} → Contains names file → RefusesOne names (Unbuilt file)
+
+-- why SPEC tells no design
+pub data NoSpecification (contents : List ℕ → Option (List ℕ)) (spec : List ℕ) : Ending → Type 0 where
+  faulty_spec : {f : Fault} → TellsFault contents spec f → NoSpecification contents spec (Faulty f)
+
+-- why SPEC tells no design that is played
+pub data NoDesign (contents : List ℕ → Option (List ℕ)) (spec : List ℕ) : Ending → Type 0 where
+  no_specification : {ending : Ending} → NoSpecification contents spec ending → NoDesign contents spec ending
+  assuming_spec : TellsAssume contents spec → NoDesign contents spec (Unbuilt spec)
+
+-- why DRIVER tells no blocks over a design
+pub data NoBlocks (contents : List ℕ → Option (List ℕ)) (driver : List ℕ) (d : DesignTree) : Ending → Type 0 where
+  long_driver : IsLonger (contents driver) file_limit → NoBlocks contents driver d (BadText driver TooLong)
+  bad_driver : {bad : BadDriver} → TellsBadDriver contents driver d bad →
+      NoBlocks contents driver d (BadText driver (Driver bad))
+
+-- why CHOICES tells no choices over a design
+pub data NoScript (contents : List ℕ → Option (List ℕ)) (choices : List ℕ) (d : DesignTree) : Ending → Type 0 where
+  long_choices : IsLonger (contents choices) file_limit → NoScript contents choices d (BadText choices TooLong)
+  bad_choices : {n : ℕ} → TellsBadLine contents choices d n → NoScript contents choices d (BadText choices (Choices n))
+
+-- why CERT tells no certificate for the numbers of a design
+pub data NoCert (contents : List ℕ → Option (List ℕ)) (cert : List ℕ) (d : DesignTree) : Ending → Type 0 where
+  long_cert : IsLonger (contents cert) file_limit → NoCert contents cert d (BadText cert TooLong)
+  bad_cert : {bad : BadCert} → TellsBadCert contents cert d bad →
+      NoCert contents cert d (BadText cert (Cert bad))

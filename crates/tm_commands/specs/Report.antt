@@ -1,0 +1,180 @@
+-- The lines of reports. A line ends in a line feed.
+use Rattle.std.specs.Prelude.{ℕ, Option, None, Some, Result, Ok, Err, List, [], ◌∷◌, ◌++◌, codes, slice_get}
+use Rattle.std.specs.Option.{option_map_or}
+use Rattle.std.specs.List.{flat_map, zip}
+use Rattle.std.specs.Fmt.{decimal}
+use Rattle.tm_base.specs.declared.place.Place.{Place}
+use Rattle.tm_syntax.specs.declared.fault.FaultKind.{FaultKind}
+use Rattle.tm_syntax.specs.declared.fault.FaultKind.TheVariants as kind
+use Rattle.tm_syntax.specs.declared.fault.Quantity.{Quantity}
+use Rattle.tm_syntax.specs.declared.fault.Quantity.TheVariants as quantity
+use Rattle.tm_syntax.specs.declared.fault.Detail.{Detail}
+use Rattle.tm_syntax.specs.declared.fault.Detail.TheVariants as detail
+use Rattle.tm_syntax.specs.declared.fault.Faulty.{Faulty as Fault}
+use Rattle.tm_syntax.specs.declared.design.Var.{Var}
+use Rattle.tm_syntax.specs.declared.design.Item.{Item}
+use Rattle.tm_syntax.specs.Design.{DesignTree}
+use Rattle.tm_sem.specs.State.{StateData}
+use Rattle.tm_sem.specs.declared.state.Move.{Move}
+use Rattle.tm_sem.specs.declared.state.Move.TheVariants as moves
+use Rattle.tm_cparse.specs.declared.bad.BadDriver.{BadDriver}
+use Rattle.tm_cparse.specs.declared.bad.BadDriver.TheVariants as driver
+use Rattle.tm_cert.specs.declared.refusal.BadCert.{BadCert}
+use Rattle.tm_cert.specs.declared.refusal.BadCert.TheVariants as cert
+use Rattle.tm_commands.specs.declared.ending.Bad.{Bad}
+use Rattle.tm_commands.specs.declared.ending.Bad.TheVariants.{TooLong, Driver, Cert, Choices}
+use Rattle.tm_commands.specs.declared.ending.StopWhy.{StopWhy}
+use Rattle.tm_commands.specs.declared.ending.StopWhy.TheVariants.{Error, Forbidden, Illegal}
+use Rattle.tm_commands.specs.declared.ending.Ending.{Ending}
+use Rattle.tm_commands.specs.declared.ending.Ending.TheVariants.{Usage, Faulty, Played, Stopped, Generated, Migrated}
+use Rattle.tm_commands.specs.declared.ending.Ending.TheVariants.{BadText, Unbuilt}
+use Rattle.tm_commands.specs.declared.ending.Failure.{Failure}
+use Rattle.tm_commands.specs.declared.ending.Failure.TheVariants.{ReadFault, WriteFault, Memory}
+
+-- `PATH=VALUE `
+abbrev pub var_text : Var × ℕ → List ℕ
+var_text v = v.0.path ++ codes "=" ++ decimal v.1 ++ codes " "
+
+-- `PATH@NUMBER `
+abbrev pub place_text : Item × ℕ → List ℕ
+place_text p = p.0.path ++ codes "@" ++ decimal p.1 ++ codes " "
+
+-- a state: its variables, the locations of its processes, and who moved last
+abbrev pub state_text : DesignTree → StateData → List ℕ
+state_text d s =
+    flat_map var_text (zip d.vars s.values) ++ flat_map place_text (zip d.processes s.places)
+    ++ codes "last=" ++ decimal s.last
+
+-- the path of the item of this number
+abbrev pub path_at : List Item → ℕ → List ℕ
+path_at items k = option_map_or (λ i. i.path) (slice_get items k) []
+
+-- the arguments of a call
+abbrev pub args_text : List ℕ → List ℕ
+args_text [] = []
+args_text (a ∷ others) = decimal a ++ flat_map (λ b. codes ", " ++ decimal b) others
+
+-- a move
+abbrev pub move_text : DesignTree → Move → List ℕ
+move_text d moves.Stutter = codes "stutter"
+move_text d (moves.Process p) = codes "process " ++ path_at d.processes p
+move_text d moves.Idle = codes "driver idle"
+move_text d (moves.Leave p) = codes "driver leave " ++ path_at d.processes p
+move_text d (moves.Call t args) = codes "driver call " ++ path_at d.tasks t ++ codes "(" ++ args_text args ++ codes ")"
+
+-- how a state was reached: by a move, or as the initial one
+abbrev pub reached_text : DesignTree → Option Move → List ℕ
+reached_text d None = codes "start"
+reached_text d (Some m) = move_text d m
+
+-- the line of a state of a play: its number, how it was reached, itself, and its pending goal
+abbrev pub state_line : DesignTree → ℕ → Option Move → StateData → ℕ → List ℕ
+state_line d n m s g =
+    decimal n ++ codes " " ++ reached_text d m ++ codes " " ++ state_text d s
+    ++ codes " goal=" ++ decimal g ++ codes "\n"
+
+-- `F` and the number of a kind of faults
+abbrev pub kind_text : FaultKind → List ℕ
+kind_text kind.Byte = codes "F1"
+kind_text kind.Syntax = codes "F2"
+kind_text kind.Deep = codes "F3"
+kind_text kind.UnknownName = codes "F4"
+kind_text kind.Twice = codes "F5"
+kind_text kind.Mismatch = codes "F6"
+kind_text kind.Literal = codes "F7"
+kind_text kind.CallCycle = codes "F8"
+kind_text kind.LoopWithoutLocation = codes "F9"
+kind_text kind.LocationInAtomic = codes "F10"
+kind_text kind.TemplateCycle = codes "F11"
+kind_text kind.Limit = codes "F12"
+
+-- `LINE:COLUMN`
+abbrev pub at_text : Place → List ℕ
+at_text at = decimal at.line ++ codes ":" ++ decimal at.column
+
+-- the word of a quantity that has a limit
+abbrev pub quantity_text : Quantity → List ℕ
+quantity_text quantity.Specification = codes "specification"
+quantity_text quantity.Name = codes "name"
+quantity_text quantity.Statements = codes "statements"
+quantity_text quantity.Instances = codes "instances"
+quantity_text quantity.Processes = codes "processes"
+quantity_text quantity.Goals = codes "goals"
+quantity_text quantity.Fairness = codes "fairness"
+quantity_text quantity.Tasks = codes "tasks"
+quantity_text quantity.State = codes "state"
+quantity_text quantity.Choices = codes "choices"
+quantity_text quantity.Arguments = codes "arguments"
+quantity_text quantity.Locations = codes "locations"
+quantity_text quantity.Atoms = codes "atoms"
+
+-- what a fault says beside its kind and place, each part behind a space
+abbrev pub detail_text : Detail → List ℕ
+detail_text detail.Nothing = []
+detail_text (detail.Named name) = codes " " ++ name
+detail_text (detail.Limit what limit found) =
+    codes " " ++ quantity_text what ++ codes " " ++ decimal limit ++ codes " " ++ decimal found
+
+-- the line of a fault
+abbrev pub fault_line : Fault → List ℕ
+fault_line f = codes "faulty " ++ kind_text f.kind ++ codes " " ++ at_text f.place ++ detail_text f.detail ++ codes "\n"
+
+-- why a text is no driver
+abbrev pub bad_driver_text : BadDriver → List ℕ
+bad_driver_text driver.TooLong = codes "too long"
+bad_driver_text (driver.Text n) = codes "text " ++ decimal n
+bad_driver_text (driver.UnknownName n) = codes "name " ++ decimal n
+bad_driver_text (driver.BackwardGoto n) = codes "backward " ++ decimal n
+
+-- why a text is no certificate
+abbrev pub bad_cert_text : BadCert → List ℕ
+bad_cert_text cert.Json = codes "json"
+bad_cert_text (cert.Shape path) = codes "shape " ++ path
+bad_cert_text (cert.Range path) = codes "range " ++ path
+bad_cert_text (cert.Node id) = codes "node " ++ decimal id
+
+-- why a text has no reading
+abbrev pub bad_text : Bad → List ℕ
+bad_text TooLong = codes "too long"
+bad_text (Driver bad) = bad_driver_text bad
+bad_text (Cert bad) = bad_cert_text bad
+bad_text (Choices n) = codes "line " ++ decimal n
+
+-- why a play stops
+abbrev pub why_text : StopWhy → List ℕ
+why_text Error = codes "error"
+why_text Forbidden = codes "forbidden"
+why_text Illegal = codes "illegal"
+
+-- the usage text
+abbrev pub usage_text : List ℕ
+usage_text =
+    codes "usage: termite synth SPEC OUT [--budget N]\n"
+    ++ codes "       termite check SPEC DRIVER CERT\n"
+    ++ codes "       termite check SPEC CERT\n"
+    ++ codes "       termite run SPEC DRIVER CHOICES\n"
+    ++ codes "       termite gen N OUT\n"
+    ++ codes "       termite migrate SPEC CERT OUT\n"
+
+-- the lines that tell an end
+abbrev pub ending_text : Ending → List ℕ
+ending_text Usage = usage_text
+ending_text (Faulty f) = fault_line f
+ending_text (Played n) = codes "played " ++ decimal n ++ codes "\n"
+ending_text (Stopped step why) = codes "stopped " ++ decimal step ++ codes " " ++ why_text why ++ codes "\n"
+ending_text (Generated registers) = codes "generated " ++ decimal registers ++ codes "\n"
+ending_text Migrated = codes "migrated\n"
+ending_text (BadText file why) = codes "bad " ++ file ++ codes " " ++ bad_text why ++ codes "\n"
+ending_text (Unbuilt name) = codes "unbuilt " ++ name ++ codes "\n"
+
+-- the line that tells a failure, if it has one: none where the output or memory failed
+abbrev pub failure_text : Failure → List ℕ
+failure_text (ReadFault name) = codes "read fault " ++ name ++ codes "\n"
+failure_text (WriteFault []) = []
+failure_text (WriteFault (b ∷ bs)) = codes "write fault " ++ (b ∷ bs) ++ codes "\n"
+failure_text Memory = []
+
+-- the lines that tell an end or a failure
+abbrev pub outcome_text : Result Ending Failure → List ℕ
+outcome_text (Ok ending) = ending_text ending
+outcome_text (Err failure) = failure_text failure

@@ -1,0 +1,49 @@
+-- The command `run`: how it ends, and what it puts on the way.
+use Rattle.std.specs.Prelude.{ℕ, Option, List, []}
+use Rattle.tm_syntax.specs.Design.{DesignTree}
+use Rattle.tm_cir.specs.Tree.{BlockTree}
+use Rattle.tm_commands.specs.declared.ending.Ending.{Ending}
+use Rattle.tm_commands.specs.declared.ending.Ending.TheVariants.{Played, Stopped}
+use Rattle.tm_commands.specs.declared.ending.StopWhy.{StopWhy}
+use Rattle.tm_commands.specs.Script.{ScriptData}
+use Rattle.tm_commands.specs.Inputs.{TellsDesign, TellsBlocks, TellsScript, NoDesign, NoBlocks, NoScript, RefusesOne}
+use Rattle.tm_commands.specs.Played.{Ends, IsPart}
+
+-- the files of `run` tell a design, blocks, and choices
+pub record Loads
+    (contents : List ℕ → Option (List ℕ)) (spec driver choices : List ℕ)
+    (d : DesignTree) (bs : List BlockTree) (c : ScriptData) : Type 0 where
+  pub design : TellsDesign contents spec d
+  pub blocks : TellsBlocks contents driver d bs
+  pub script : TellsScript contents choices d c
+
+-- the first of the files of `run` that is refused, and why
+pub data Refused (contents : List ℕ → Option (List ℕ)) (spec driver choices : List ℕ) : Ending → Type 0 where
+  no_design : {ending : Ending} → NoDesign contents spec ending → Refused contents spec driver choices ending
+  no_blocks : {d : DesignTree} {ending : Ending} →
+      TellsDesign contents spec d → NoBlocks contents driver d ending →
+      Refused contents spec driver choices ending
+  no_script : {d : DesignTree} {bs : List BlockTree} {ending : Ending} →
+      TellsDesign contents spec d → TellsBlocks contents driver d bs → NoScript contents choices d ending →
+      Refused contents spec driver choices ending
+
+-- how `run` ends, with the lines of the states of its play
+pub data RunEnds
+    (contents : List ℕ → Option (List ℕ)) (spec driver choices : List ℕ) : List ℕ → Ending → Type 0 where
+  refused : {ending : Ending} →
+      Refused contents spec driver choices ending → RunEnds contents spec driver choices [] ending
+  ended : {d : DesignTree} {bs : List BlockTree} {c : ScriptData} {text : List ℕ} {ending : Ending} →
+      Loads contents spec driver choices d bs c → Ends d bs c text ending →
+      RunEnds contents spec driver choices text ending
+
+-- the lines of the states of the play that `run` has put so far
+pub data IsRunPart (contents : List ℕ → Option (List ℕ)) (spec driver choices : List ℕ) : List ℕ → Type 0 where
+  no_line : IsRunPart contents spec driver choices []
+  some_lines : {d : DesignTree} {bs : List BlockTree} {c : ScriptData} {text : List ℕ} →
+      Loads contents spec driver choices d bs c → IsPart d bs c text → IsRunPart contents spec driver choices text
+
+-- the ends that `run` may have, whatever its files hold: that of a play, or that one of these files is refused
+pub data RunMayEnd (names : List (List ℕ)) : Ending → Type 0 where
+  may_refuse : {ending : Ending} → RefusesOne names ending → RunMayEnd names ending
+  may_play : {n : ℕ} → RunMayEnd names (Played n)
+  may_stop : {n : ℕ} {why : StopWhy} → RunMayEnd names (Stopped n why)

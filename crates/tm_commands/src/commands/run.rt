@@ -1,0 +1,88 @@
+//! The command `run`.
+ghost use Rattle.std.specs.Prelude.{◌≡◌, ◌≤◌, ◌++◌, ℕ, List, Some, IsTrue, OnErr, IfOk, IfErr};
+ghost use Rattle.tm_base.specs.Sink.{AppendsPrefix};
+ghost use Rattle.tm_syntax.specs.Design.View.{design_tree};
+ghost use Rattle.tm_cir.specs.View.{trees_of};
+ghost use Rattle.tm_cir.specs.Fit.{FitBlocks};
+ghost use Rattle.tm_commands.specs.Words.{run as run_words};
+ghost use Rattle.tm_commands.specs.World.{files_data, sink_data};
+ghost use Rattle.tm_commands.specs.Played.{Ends, IsPart};
+ghost use Rattle.tm_commands.specs.Inner.Advance.{IsPlayable};
+ghost use Rattle.tm_commands.specs.Inner.Obeying.{Obeys};
+ghost use Rattle.tm_commands.specs.Inner.Stopping.{IsSinkFailure};
+
+use crate::ending::{Ending, Failure};
+use crate::input::load::{Inputs, load};
+use crate::input::script::Script;
+use crate::play::turns::play;
+use std::alloc::Global;
+use tm_base::{Files, Sink};
+use tm_cir::Blocks;
+use tm_machine::{Machine, Tables};
+
+/// Plays choices against blocks by the tables of a design.
+fn play_by_tables<O: Sink>(
+    alloc: Global,
+    tables: &Tables,
+    blocks: &Blocks,
+    script: &Script,
+    out: &mut O,
+) -> Result<Ending, Failure>
+    requires playable { IsPlayable (design_tree tables.now) }
+    requires blocks { FitBlocks (design_tree tables.now) (trees_of blocks.now) }
+    ensures ended { IfOk result (λ ending. (text : List ℕ)
+        × Ends (design_tree tables.now) (trees_of blocks.now) script.now text ending
+        × (IsTrue O.tells → O.written out.new ≡ O.written out.old ++ text)) }
+    ensures cut { OnErr result ((text : List ℕ)
+        × IsPart (design_tree tables.now) (trees_of blocks.now) script.now text
+        × (IsTrue O.tells → AppendsPrefix text (O.written out.old) (O.written out.new))) }
+    ensures failure { IfErr result (IsSinkFailure
+        (sink_data ⟦<O as Sink>⟧ out.old) (sink_data ⟦<O as Sink>⟧ out.new)) }
+    ensures no_fewer_faults { O.faults out.old ≤ O.faults out.new }
+{
+    let Ok(machine) = Machine::new(alloc, tables) else {
+        return Err(Failure::Memory);
+    };
+    play(alloc, &machine, blocks, script, out)
+}
+
+/// Plays what was read.
+fn play_inputs<O: Sink>(alloc: Global, inputs: &Inputs, out: &mut O) -> Result<Ending, Failure>
+    requires playable { IsPlayable (design_tree inputs.now.design) }
+    requires blocks { FitBlocks (design_tree inputs.now.design) (trees_of inputs.now.blocks) }
+    ensures ended { IfOk result (λ ending. (text : List ℕ)
+        × Ends (design_tree inputs.now.design) (trees_of inputs.now.blocks) inputs.now.script text ending
+        × (IsTrue O.tells → O.written out.new ≡ O.written out.old ++ text)) }
+    ensures cut { OnErr result ((text : List ℕ)
+        × IsPart (design_tree inputs.now.design) (trees_of inputs.now.blocks) inputs.now.script text
+        × (IsTrue O.tells → AppendsPrefix text (O.written out.old) (O.written out.new))) }
+    ensures failure { IfErr result (IsSinkFailure
+        (sink_data ⟦<O as Sink>⟧ out.old) (sink_data ⟦<O as Sink>⟧ out.new)) }
+    ensures no_fewer_faults { O.faults out.old ≤ O.faults out.new }
+{
+    let Ok(tables) = Tables::new(alloc, &inputs.design) else {
+        return Err(Failure::Memory);
+    };
+    play_by_tables(alloc, &tables, &inputs.blocks, &inputs.script, out)
+}
+
+/// Plays the choices against the driver's blocks over the design, and puts the line of each state. The lines that tell
+/// the outcome are left.
+pub fn run<F: Files, O: Sink>(
+    alloc: Global,
+    files: &mut F,
+    out: &mut O,
+    spec: &str,
+    driver: &str,
+    choices: &str,
+) -> Result<Ending, Failure>
+    ensures { Obeys (Some (run_words spec.now driver.now choices.now))
+        (files_data ⟦<F as Files>⟧ files.old) (files_data ⟦<F as Files>⟧ files.new)
+        (sink_data ⟦<O as Sink>⟧ out.old) (sink_data ⟦<O as Sink>⟧ out.new) result }
+{
+    let inputs = match load(alloc, files, spec, driver, choices) {
+        Ok(inputs) => inputs,
+        Err(stop) => return stop.outcome(),
+    };
+    play_inputs(alloc, &inputs, out)
+}

@@ -1,0 +1,116 @@
+//! How a command ends, and what may come before its end.
+
+use std::alloc::AllocError;
+use tm_base::Name;
+use tm_cert::BadCert;
+use tm_cparse::BadDriver;
+use tm_syntax::fault::Faulty;
+
+/// Why a text has no reading.
+#[derive(Drop)]
+pub enum Bad {
+    TooLong,
+    /// The first fault of a text of a driver.
+    Driver(BadDriver),
+    /// The first fault of a text of a certificate.
+    Cert(BadCert),
+    /// The number of the first bad line of a text of choices.
+    Choices(u64),
+}
+
+/// Why a play stops at a step.
+#[derive(Clone, Copy, Debug, PartialEq, Eq)]
+pub enum StopWhy {
+    /// An assertion fails.
+    Error,
+    /// The driver's answer is not allowed.
+    Forbidden,
+    /// The environment's part is not legal.
+    Illegal,
+}
+
+/// How a command ends: what the words and the files determine. A name is a file's.
+#[derive(Drop)]
+pub enum Ending {
+    /// The words have no reading.
+    Usage,
+    /// The specification has this fault.
+    Faulty(Faulty),
+    /// The choices were read to their end and are a play of so many steps.
+    Played(u64),
+    /// The step of this number has no next state.
+    Stopped { step: u64, why: StopWhy },
+    /// The specification of so many registers was generated.
+    Generated(u32),
+    /// The certificate was written in format 2.
+    Migrated,
+    BadText { file: Name, why: Bad },
+    /// The specification has the word `assume`, with which no play is made so far.
+    Unbuilt(Name),
+}
+
+/// What may come before the end: what the words and the files do not determine.
+#[derive(Drop)]
+pub enum Failure {
+    ReadFault(Name),
+    /// The name is empty where the output failed.
+    WriteFault(Name),
+    /// Memory ran out.
+    Memory,
+}
+
+impl From<AllocError> for Failure {
+    ghost use Rattle.std.specs.Prelude.{◌≡◌};
+    ghost use Rattle.tm_commands.specs.declared.ending.Failure.TheVariants.{Memory};
+
+    ghost from_gives = { λ _ failure. failure ≡ Memory };
+
+    fn from(_error: AllocError) -> Failure {
+        Failure::Memory
+    }
+}
+
+/// What stops a command before its last step: an end, or a failure.
+#[derive(Drop)]
+pub enum Stop {
+    Ends(Ending),
+    Fails(Failure),
+}
+
+impl Stop {
+    ghost use Rattle.std.specs.Prelude.{◌≡◌};
+    ghost use Rattle.tm_commands.specs.Inner.Stopping.{stop_outcome};
+
+    /// The outcome of a command that was stopped.
+    pub fn outcome(self) -> Result<Ending, Failure>
+        ensures { result ≡ stop_outcome self }
+    {
+        match self {
+            Stop::Ends(ending) => Ok(ending),
+            Stop::Fails(failure) => Err(failure),
+        }
+    }
+}
+
+impl From<Failure> for Stop {
+    ghost use Rattle.std.specs.Prelude.{◌≡◌};
+    ghost use Rattle.tm_commands.specs.declared.ending.Stop.TheVariants.{Fails};
+
+    ghost from_gives = { λ failure stop. stop ≡ Fails failure };
+
+    fn from(failure: Failure) -> Stop {
+        Stop::Fails(failure)
+    }
+}
+
+impl From<AllocError> for Stop {
+    ghost use Rattle.std.specs.Prelude.{◌≡◌};
+    ghost use Rattle.tm_commands.specs.declared.ending.Failure.TheVariants.{Memory};
+    ghost use Rattle.tm_commands.specs.declared.ending.Stop.TheVariants.{Fails};
+
+    ghost from_gives = { λ _ stop. stop ≡ Fails Memory };
+
+    fn from(_error: AllocError) -> Stop {
+        Stop::Fails(Failure::Memory)
+    }
+}

@@ -1,0 +1,117 @@
+//! What the words of a command line ask for, done and reported.
+ghost use Rattle.std.specs.Prelude.{Some, map, IfOk, IfErr};
+ghost use Rattle.std.specs.String.{string_bytes};
+ghost use Rattle.tm_commands.specs.Words.{command_of, command_view};
+ghost use Rattle.tm_commands.specs.Commands.{MayEnd};
+ghost use Rattle.tm_commands.specs.World.{files_data, sink_data};
+ghost use Rattle.tm_commands.specs.Status.{outcome_of};
+ghost use Rattle.tm_commands.specs.Headline.{HasCause, IsComplete, IsShown, IsLongShown, Reports, EndsWithLines};
+ghost use Rattle.tm_commands.specs.Headline.{KeepsFiles};
+ghost use Rattle.tm_commands.specs.Inner.Obeying.{IsSpelled, Obeys};
+
+use crate::commands::generate::generate;
+use crate::commands::migrate::migrate;
+use crate::commands::run::run;
+use crate::ending::{Ending, Failure};
+use crate::report::outcome::put_outcome;
+use crate::status::{Status, status_of};
+use crate::words::command::Command;
+use crate::words::reading::read_words;
+use std::alloc::Global;
+use tm_base::{Files, Sink};
+
+/// Does what a command says. The lines that tell the outcome are left.
+fn obey<F: Files, O: Sink>(
+    alloc: Global,
+    command: Command,
+    files: &mut F,
+    out: &mut O,
+) -> Result<Ending, Failure>
+    requires { IsSpelled (command_view command) }
+    ensures { Obeys (Some (command_view command.entry))
+        (files_data ⟦<F as Files>⟧ files.old) (files_data ⟦<F as Files>⟧ files.new)
+        (sink_data ⟦<O as Sink>⟧ out.old) (sink_data ⟦<O as Sink>⟧ out.new) result }
+{
+    match command {
+        Command::Run {
+            spec,
+            driver,
+            choices,
+        } => run(alloc, files, out, spec, driver, choices),
+        Command::Generate {
+            registers,
+            out: name,
+        } => generate(alloc, files, out, registers, name),
+        Command::Migrate {
+            spec,
+            cert,
+            out: name,
+        } => migrate(alloc, files, out, spec, cert, name),
+    }
+}
+
+/// Does what the words say. The lines that tell the outcome are left.
+fn obey_words<F: Files, O: Sink>(
+    alloc: Global,
+    words: &[String],
+    files: &mut F,
+    out: &mut O,
+) -> Result<Ending, Failure>
+    ensures { Obeys (command_of (map string_bytes words.now))
+        (files_data ⟦<F as Files>⟧ files.old) (files_data ⟦<F as Files>⟧ files.new)
+        (sink_data ⟦<O as Sink>⟧ out.old) (sink_data ⟦<O as Sink>⟧ out.new) result }
+{
+    match read_words(alloc, words)? {
+        None => Ok(Ending::Usage),
+        Some(command) => obey(alloc, command, files, out),
+    }
+}
+
+/// Does what the words say, without the program's own name, and puts a report, line by line.
+///
+/// The files are read in the order of the words, each judged before the next one is read, and a file is written only
+/// after all of them. What is wrong with a text of choices is found before any output. `specs/Headline` says what is
+/// promised.
+pub fn obey_and_report<F: Files, O: Sink>(
+    alloc: Global,
+    words: &[String],
+    files: &mut F,
+    out: &mut O,
+) -> Status
+    // Which end comes is what the words and the files determine, where the files tell; so `Faulty` comes wherever the
+    // specification has a fault, `BadText` wherever the first text without a reading is another one, and `Played`
+    // wherever each step has a next state.
+    ensures cause { HasCause (files_data ⟦<F as Files>⟧ files.old)
+        (command_of (map string_bytes words.now)) (outcome_of result) }
+    ensures complete { IsComplete (files_data ⟦<F as Files>⟧ files.old)
+        (command_of (map string_bytes words.now)) (outcome_of result) }
+
+    // What is known of an end in any case: `Usage` comes exactly where the words have no reading, a file that is
+    // refused is one that the command reads, and a text that is too long shows.
+    ensures possible { IfOk (outcome_of result) (MayEnd (command_of (map string_bytes words.now))) }
+    ensures long { IfOk (outcome_of result) (IsLongShown
+        (files_data ⟦<F as Files>⟧ files.old) (files_data ⟦<F as Files>⟧ files.new)) }
+
+    // A fault is one that a count shows.
+    ensures fault { IfErr (outcome_of result) (IsShown (command_of (map string_bytes words.now))
+        (files_data ⟦<F as Files>⟧ files.old) (files_data ⟦<F as Files>⟧ files.new)
+        (sink_data ⟦<O as Sink>⟧ out.old) (sink_data ⟦<O as Sink>⟧ out.new)) }
+
+    // What the output took is the report, or where it failed or memory ran out some first part of one.
+    ensures report { Reports (command_of (map string_bytes words.now))
+        (files_data ⟦<F as Files>⟧ files.old) (files_data ⟦<F as Files>⟧ files.new)
+        (sink_data ⟦<O as Sink>⟧ out.old) (sink_data ⟦<O as Sink>⟧ out.new) (outcome_of result) }
+    ensures last_line { EndsWithLines
+        (sink_data ⟦<O as Sink>⟧ out.old) (sink_data ⟦<O as Sink>⟧ out.new) (outcome_of result) }
+
+    // No file changes but those that the command writes. At `Generated` and `Migrated` what they hold is the text or
+    // the certificate that was asked for; where a read failed or a text is refused none of them has changed.
+    ensures files { KeepsFiles (command_of (map string_bytes words.now))
+        (files_data ⟦<F as Files>⟧ files.old) (files_data ⟦<F as Files>⟧ files.new) (outcome_of result) }
+{
+    let outcome = obey_words(alloc, words, files, out);
+    match put_outcome(alloc, &outcome, out) {
+        Ok(()) => status_of(outcome),
+        Err(failure) => status_of(Err(failure)),
+    }
+}

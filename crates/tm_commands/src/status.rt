@@ -1,0 +1,73 @@
+//! What the program answers.
+ghost use Rattle.std.specs.Prelude.{◌≡◌};
+ghost use Rattle.tm_commands.specs.Status.{outcome_of};
+
+use crate::ending::{Bad, Ending, Failure, StopWhy};
+use tm_base::Name;
+use tm_syntax::fault::Faulty;
+
+/// How a command ended. A name is a file's; that of a failed write is empty where the output failed.
+#[derive(Drop)]
+pub enum Status {
+    /// The choices were read to their end and are a play of so many steps.
+    Played(u64),
+    /// The specification of so many registers was written.
+    Generated(u32),
+    /// The certificate was written in format 2.
+    Migrated,
+    /// The words have no reading.
+    Usage,
+    /// The specification has this fault.
+    Faulty(Faulty),
+    ReadFault(Name),
+    WriteFault(Name),
+    /// Memory ran out.
+    Memory,
+    BadText { file: Name, why: Bad },
+    /// The step of this number has no next state.
+    Stopped { step: u64, why: StopWhy },
+    /// The specification has the word `assume`, with which no play is made so far.
+    Unbuilt(Name),
+}
+
+impl Status {
+    ghost use Rattle.tm_commands.specs.Status.{code_of};
+
+    /// The code with which the program ends. It takes no memory.
+    pub fn code(&self) -> u8
+        ensures { result ≡ code_of self.now }
+    {
+        match self {
+            Status::Played(_) => 0,
+            Status::Generated(_) => 0,
+            Status::Migrated => 0,
+            Status::Usage => 2,
+            Status::Faulty(_) => 3,
+            Status::ReadFault(_) => 5,
+            Status::WriteFault(_) => 6,
+            Status::Memory => 7,
+            Status::BadText { .. } => 8,
+            Status::Stopped { .. } => 9,
+            Status::Unbuilt(_) => 10,
+        }
+    }
+}
+
+/// The status that tells an end or a failure.
+pub fn status_of(outcome: Result<Ending, Failure>) -> Status
+    ensures { outcome_of result ≡ outcome }
+{
+    match outcome {
+        Ok(Ending::Usage) => Status::Usage,
+        Ok(Ending::Faulty(fault)) => Status::Faulty(fault),
+        Ok(Ending::Played(steps)) => Status::Played(steps),
+        Ok(Ending::Stopped { step, why }) => Status::Stopped { step, why },
+        Ok(Ending::Generated(registers)) => Status::Generated(registers),
+        Ok(Ending::Migrated) => Status::Migrated,
+        Ok(Ending::BadText { file, why }) => Status::BadText { file, why },
+        Ok(Ending::Unbuilt(name)) => Status::Unbuilt(name),
+        Err(Failure::ReadFault(name)) => Status::ReadFault(name),
+        Err(Failure::WriteFault(name)) => Status::WriteFault(name),
+        Err(Failure::Memory) => Status::Memory,
+    }
+}

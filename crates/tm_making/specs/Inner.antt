@@ -1,0 +1,6 @@
+pub mod Below
+pub mod Driving
+pub mod Inputs
+pub mod Pushed
+pub mod Sides
+pub mod Turns

@@ -1,0 +1,16 @@
+//! The steps of guarded updates as decision diagrams.
+#![tactic(auto)]
+
+mod driver;
+mod encoding;
+mod making;
+mod passes;
+mod places;
+mod sets;
+mod steps;
+mod turn;
+
+pub use encoding::Encoding;
+pub use making::MadeGame;
+pub use passes::pass_terms;
+pub use places::{Place, place_terms};

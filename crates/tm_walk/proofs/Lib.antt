@@ -1,0 +1,16 @@
+pub mod Aiming
+pub mod Alternating
+pub mod Answering
+pub mod Bodies
+pub mod Branching
+pub mod Cutting
+pub mod Found
+pub mod Invoking
+pub mod Leaving
+pub mod Passed
+pub mod Returning
+pub mod Rows
+pub mod Standing
+pub mod TableCalls
+pub mod TrailNumbers
+pub mod Weights

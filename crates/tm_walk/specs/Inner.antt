@@ -1,0 +1,4 @@
+-- What contracts of private functions alone cite.
+pub mod Aimed
+pub mod Alternatives
+pub mod Passing

@@ -1,0 +1,6 @@
+pub mod Asked
+pub mod Calls
+pub mod Inner
+pub mod Tables
+pub mod Trial
+pub mod Walks
