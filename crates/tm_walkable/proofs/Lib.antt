@@ -1,0 +1,7 @@
+pub mod Alike
+pub mod Elements
+pub mod Promising
+pub mod Targets
+pub mod Tasks
+pub mod Typing
+pub mod Walking
