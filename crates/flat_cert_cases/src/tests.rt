@@ -23,6 +23,7 @@ fn design(alloc: Global) -> Result<Flat, AllocError> {
     Ok(Flat {
         processes: Vec::new(alloc),
         tasks: Vec::new(alloc),
+        parameters: Vec::new(alloc),
         magic: Vec::new(alloc),
         goals: vec![in alloc; TermId(0)]?,
         fairs: vec![in alloc; TermId(0)]?,

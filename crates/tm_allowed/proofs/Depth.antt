@@ -76,7 +76,7 @@ module _ (spec : SpecTree) where
   all_members = flat_map members_of (enumerate_from 0 spec.templates)
 
   -- a task that is there is one of them
-  is_member : (b : Member) (t : TemplateTree) (k : TaskTree) → slice_get spec.templates b.template ≡ Some t →
+  pub is_member : (b : Member) (t : TemplateTree) (k : TaskTree) → slice_get spec.templates b.template ≡ Some t →
       slice_get t.tasks b.index ≡ Some k → In b all_members
   is_member b t k there at =
       in_flat members_of (enumerate_from 0 spec.templates) (in_list spec.templates b.template t there)
@@ -164,3 +164,15 @@ module _ (spec : SpecTree) where
     pub all_under : (b : Member) → Under deepest b
     unfolding deepest Left
     all_under b = under (suc (length all_members)) all_members b (omega arith) (λ x i. inl i)
+
+    -- below each of them calls nest less deep than there are tasks
+    pub each_under : (b : Member) → In b all_members → Under (length all_members) b
+    unfolding Left
+    each_under b i =
+        let less = without b all_members i in
+        under (length all_members) less.rest b (omega (arith, less.shorter)) (λ x j. by x less (less.others x j))
+      where
+        by : (x : Member) (less : Without b all_members) → (x ≡ b) ⊎ In x less.rest →
+            In x less.rest ⊎ ((x ≡ b) ⊎ Reaches spec x b)
+        by x less (inl same) = inr (inl same)
+        by x less (inr j) = inl j

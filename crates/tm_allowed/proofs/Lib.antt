@@ -4,3 +4,4 @@ pub mod Ending
 pub mod Moves
 pub mod Plain
 pub mod Sizes
+pub mod TextBodies

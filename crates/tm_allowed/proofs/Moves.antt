@@ -33,7 +33,8 @@ use Rattle.tm_typing.proofs.Fitting.{all_of_both, both_true}
 use Rattle.tm_typing.proofs.Listed.{all_join, holds_in, in_get}
 use Rattle.tm_locations.proofs.CalledBodies.{made, site-number, along-number}
 use Rattle.tm_allowed.specs.Assuming.{AssumesNothing}
-use Rattle.tm_allowed.proofs.Bodies.{IsBody, task_is, process_is, sizes, task_ends, all_fine}
+use Rattle.tm_allowed.proofs.Bodies.{sizes, task_ends, all_fine}
+use Rattle.tm_allowed.proofs.TextBodies.{IsBody, task_is, process_is}
 use Rattle.tm_allowed.proofs.Ending.{Always, nothing_ends, Fine, row_passes, one_passes}
 use Rattle.tm_allowed.proofs.Plain.{row_is}
 use Rattle.tm_allowed.proofs.Sizes.{HasValue}
@@ -226,7 +227,7 @@ module _ (d : DesignTree) where
     where
       -- the locations of a body, where calls nest at most so deep
       body_leaves : (depth : ℕ) (scope : Scope) (s : Site) (body : BodyTree) →
-          IsBody d sound of plain_text vars scope s body → (trail : List Place) (after : List WorkItem) →
+          IsBody d sound of scope s body → (trail : List Place) (after : List WorkItem) →
           Always d after → AllLeave (body_locations depth d scope trail body after)
       body_leaves zero scope s body at trail after always = tt
       body_leaves (suc depth) scope s body at trail after always =
@@ -238,7 +239,7 @@ module _ (d : DesignTree) where
           (body_stmts body) (all_fine d sound of plain_text vars scope s body at) after always
         where
           callee_leaves : ((scope : Scope) (s : Site) (body : BodyTree) →
-              IsBody d sound of plain_text vars scope s body → (trail : List Place) (after : List WorkItem) →
+              IsBody d sound of scope s body → (trail : List Place) (after : List WorkItem) →
               Always d after → AllLeave (body_locations depth d scope trail body after)) → (path : List Ident)
               (left : List WorkItem) → Always d left → (o : Option Called) → called d scope path ≡ o →
               AllLeave (option_map_or (λ callee.
@@ -249,7 +250,7 @@ module _ (d : DesignTree) where
               subst (λ (c : Called). AllLeave (body_locations depth d c.scope (call_place path ++ trail) c.body left))
               made.same
               (deeper (record { instance = made.at.number; body = task_body made.number }) made.at
-              made.task.body (task_is d sound of plain_text vars made.at made.number made.task made.there made.is)
+              made.task.body (task_is d sound of made.at made.number made.task made.there made.is)
               (call_place path ++ trail) left ends)
 
       locations_leave : (p : ℕ) → AllLeave (locations d p)
@@ -266,7 +267,7 @@ module _ (d : DesignTree) where
               (body_leaves (suc (call_depth d.spec))
               (record { instance = of_design.at.number; body = process_body of_design.number }) of_design.at
               t.process.body
-              (process_is d sound of plain_text vars of_design.at of_design.number t.process of_design.there
+              (process_is d sound of of_design.at of_design.number t.process of_design.there
               of_design.is)
               [] [] (nothing_ends d))
 

@@ -1,6 +1,7 @@
 -- The steps of the tiny design are what their terms tell.
-use Rattle.std.proofs.Common.{◌≡◌, ℕ, zero, suc, ◌<◌, ◌≤◌, ◌↔◌, ◌==◌, ◌||◌, inr, Bool, true, false, nat_lt, bit_and, ltb-true, lt-ltb, eqb-true, eq-eqb, Some, List, [], ◌∷◌, length, refl, sym, ap, ◌∙◌, subst, arith, slice_index}
+use Rattle.std.proofs.Common.{◌≡◌, ℕ, zero, suc, ◌<◌, ◌≤◌, ◌↔◌, ◌==◌, ◌||◌, inr, Bool, true, false, nat_lt, bit_and, ltb-true, lt-ltb, eqb-true, eq-eqb, Some, All, List, [], ◌∷◌, length, refl, sym, ap, ◌∙◌, subst, arith, slice_index}
 use Rattle.std.specs.List.{AllZip}
+use Rattle.std.proofs.lemmas.List.Elements.{All-nil}
 use Rattle.tm_bits.specs.Arithmetic.{bit}
 use Rattle.tm_term.specs.Value.{AreInputs, value_of, value_within}
 use Rattle.tm_syntax.specs.Design.Locations.{rest, end_number, is_magic_at}
@@ -205,6 +206,8 @@ is_flat = record {
   magic = refl;
   processes = (steps_are, tt);
   tasks = tt;
+  parameters = tt;
+  narrow = All-nil (λ widths. All (λ w. w ≤ room) widths);
   goals = (goal_is, tt);
   fairs = (fair_is, tt);
   initial = record { term = (omega arith, refl); holds = initial_is };

@@ -10,10 +10,12 @@ pub record StepTerms : Type 0 where
   pub error : TermId
   pub next : List TermId
 
--- a design: a step for each process and location and for each controllable task, and its predicates
+-- a design: a step for each process and location and for each controllable task, with the widths of its parameters,
+-- and its predicates
 pub record FlatTerms : Type 0 where
   pub processes : List (List StepTerms)
   pub tasks : List StepTerms
+  pub parameters : List (List ℕ)
   pub magic : List (List Bool)
   pub goals : List TermId
   pub fairs : List TermId
@@ -32,6 +34,7 @@ abbrev pub flat_terms : Flat → FlatTerms
 flat_terms f = record {
   processes = map (λ steps. map step_terms steps.items) f.processes.items;
   tasks = map step_terms f.tasks.items;
+  parameters = map (λ widths. widths.items) f.parameters.items;
   magic = map (λ magics. magics.items) f.magic.items;
   goals = f.goals.items;
   fairs = f.fairs.items;

@@ -1,5 +1,5 @@
 -- The inputs of the terms: the numbers of a state, 64 bits of choices and 64 bits of arguments.
-use Rattle.std.specs.Prelude.{◌≡◌, ℕ, ◌+◌, ◌<◌, ◌≤◌, ◌^◌, ◌==◌, Bool, Some, List, [], ◌∷◌, ◌++◌, length, replicate, take, drop, slice_index}
+use Rattle.std.specs.Prelude.{◌≡◌, ℕ, ◌+◌, ◌<◌, ◌≤◌, ◌^◌, ◌==◌, Bool, Some, List, [], ◌∷◌, ◌++◌, length, map, replicate, take, drop, slice_index}
 use Rattle.tm_syntax.specs.Design.{DesignTree}
 use Rattle.tm_syntax.specs.Design.Cells.{Cell}
 use Rattle.tm_syntax.specs.Design.Sizes.{type_size, type_bits}
@@ -45,6 +45,10 @@ arguments_from d (c ∷ cs) bits k =
 -- the arguments that bits hold for these parameters
 abbrev pub arguments_in : DesignTree → List Cell → List ℕ → List ℕ
 arguments_in d params bits = arguments_from d params (bits_in bits) 0
+
+-- how many bits hold each argument
+abbrev pub parameter_widths : DesignTree → List Cell → List ℕ
+parameter_widths d params = map (λ c. type_bits d.spec (asked_by d (Some c))) params
 
 -- the state that numbers tell, in the order of the inputs
 abbrev pub state_from : DesignTree → List ℕ → StateData

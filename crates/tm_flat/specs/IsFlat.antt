@@ -1,5 +1,5 @@
 -- What `flatten` gives of a design.
-use Rattle.std.specs.Prelude.{◌≡◌, ℕ, ◌+◌, ◌↔◌, Option, List, map, length, slice_get}
+use Rattle.std.specs.Prelude.{◌≡◌, ℕ, ◌+◌, ◌≤◌, ◌↔◌, All, Option, Some, List, map, length, slice_get}
 use Rattle.std.specs.Option.{option_and_then}
 use Rattle.std.specs.List.{AllZip, range_with_len}
 use Rattle.tm_bits.specs.Arithmetic.{bit}
@@ -7,13 +7,14 @@ use Rattle.tm_term.specs.declared.term.TermId.{TermId}
 use Rattle.tm_term.specs.Table.{Table}
 use Rattle.tm_term.specs.Value.{AreInputs, value_of}
 use Rattle.tm_syntax.specs.Design.{DesignTree}
+use Rattle.tm_syntax.specs.Design.Cells.{Called}
 use Rattle.tm_syntax.specs.Design.Locations.{end_number, is_magic_at}
 use Rattle.tm_sem.specs.State.{StateData}
-use Rattle.tm_sem.specs.Step.{IsState, IsInitial}
+use Rattle.tm_sem.specs.Step.{IsState, IsInitial, task_of}
 use Rattle.tm_sem.specs.Play.{goal_holds}
 use Rattle.tm_sem.specs.Fairness.{conditions, IsFair}
 use Rattle.tm_flat.specs.Flat.{StepTerms, FlatTerms}
-use Rattle.tm_flat.specs.Inputs.{AreBits, input_widths, input_values, state_from}
+use Rattle.tm_flat.specs.Inputs.{room, AreBits, input_widths, input_values, parameter_widths, state_from}
 use Rattle.tm_flat.specs.Steps.{IsTerm, IsProcessStep, IsTaskStep}
 
 -- the numbers of the processes
@@ -41,6 +42,10 @@ pub record IsStateTerm (t : Table) (d : DesignTree) (IsSuch : StateData → Type
   pub term : IsTerm t 1 id
   pub holds : (values : List ℕ) → AreInputs t values → (value_of t values id ≡ 1) ↔ IsSuch (state_from d values)
 
+-- the widths of the parameters of the controllable task of this number
+abbrev pub AreWidths : DesignTree → ℕ → List ℕ → Type 0
+AreWidths d n widths = (callee : Called) → task_of d n ≡ Some callee → widths ≡ parameter_widths d callee.params
+
 -- a design as guarded updates over the inputs of its terms
 pub record IsFlat (t : Table) (d : DesignTree) (f : FlatTerms) : Type 0 where
   pub inputs : t.inputs ≡ input_widths d
@@ -49,6 +54,8 @@ pub record IsFlat (t : Table) (d : DesignTree) (f : FlatTerms) : Type 0 where
   pub processes : AllZip (λ p steps. AllZip (IsProcessStep t d p) (location_numbers d p) steps) (process_numbers d)
       f.processes
   pub tasks : AllZip (IsTaskStep t d) (range_with_len 0 (length d.tasks)) f.tasks
+  pub parameters : AllZip (AreWidths d) (range_with_len 0 (length d.tasks)) f.parameters
+  pub narrow : All (λ widths. All (λ w. w ≤ room) widths) f.parameters
   pub goals : AllZip (IsGoalTerm t d) (range_with_len 0 (length d.goals)) f.goals
   pub fairs : AllZip (IsFairTerm t d) (range_with_len 0 (length (conditions d))) f.fairs
   pub initial : IsStateTerm t d (IsInitial d) f.initial

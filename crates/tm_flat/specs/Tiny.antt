@@ -80,6 +80,7 @@ abbrev pub tiny_flat : FlatTerms
 tiny_flat = record {
   processes = tiny_steps ∷ [];
   tasks = [];
+  parameters = [];
   magic = (false ∷ false ∷ false ∷ []) ∷ [];
   goals = term_at 1 ∷ [];
   fairs = term_at 1 ∷ [];

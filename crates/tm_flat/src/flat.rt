@@ -12,13 +12,14 @@ pub struct FlatStep {
 }
 
 /// A design as terms over a state, 64 bits of choices and 64 bits of arguments: a step for each process and location
-/// and for each controllable task, which locations are magic blocks, goals and fairness conditions, the initial and the
-/// valid states, the pool of predicates with the number of those that the abstraction begins with, and the widths of
-/// the inputs.
+/// and for each controllable task, the widths of the parameters of these tasks, which locations are magic blocks, goals
+/// and fairness conditions, the initial and the valid states, the pool of predicates with the number of those that the
+/// abstraction begins with, and the widths of the inputs.
 #[derive(Drop)]
 pub struct Flat {
     pub processes: Vec<Vec<FlatStep>>,
     pub tasks: Vec<FlatStep>,
+    pub parameters: Vec<Vec<u8>>,
     pub magic: Vec<Vec<bool>>,
     pub goals: Vec<TermId>,
     pub fairs: Vec<TermId>,

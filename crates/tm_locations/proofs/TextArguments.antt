@@ -37,6 +37,7 @@ AreArguments spec t ports args =
 pub record HasArguments (spec : SpecTree) (t : TemplateTree) (i : InstanceTree) : Type 0 where
   pub of : TemplateTree
   pub is : template_named spec i.template.text ≡ Some of
+  pub count : nat_eq (length of.ports) (length i.args) ≡ true
   pub args : AreArguments spec t of.ports i.args
 
 -- what stands in a list before an index is in front of it
@@ -192,6 +193,7 @@ module _ (spec : SpecTree) (f : IsJoined spec) where
           record {
             of = u;
             is = (template_is spec n.template.text u text_once is).0;
+            count = fits_there (nat_eq (length u.ports) (length n.args)) n.name.place parts.0;
             args = zip-arguments (Suits spec t) u.ports n.args
                 (fits_there (nat_eq (length u.ports) (length n.args)) n.name.place parts.0)
                 (λ p a at. argument t i p a

@@ -1,5 +1,6 @@
 -- The tasks that the driver calls, by the tables of a design.
 use Rattle.std.proofs.Common.{◌≡◌, ℕ, Option, None, Some, List, length, map, slice_get, refl, sym, ap, ◌∙◌, subst}
+use Rattle.std.specs.Prelude.{IfNone, IfSome}
 use Rattle.std.specs.Option.{option_and_then, option_map}
 use Rattle.std.proofs.lemmas.List.{length-map}
 use Rattle.std.proofs.lemmas.Option.{slice_get-map}
@@ -35,7 +36,8 @@ use Rattle.tm_runs.specs.Runs.{HasTypedCells}
 use Rattle.tm_runs.specs.Tables.{body_of, sites_of, tables_of}
 use Rattle.tm_runs.proofs.Found.{map_is, own_cells}
 use Rattle.tm_runnable.specs.Runnable.{HasSizedCalls}
-use Rattle.tm_machine.specs.Tasks.{IsDriverTask}
+use Rattle.tm_machine.specs.declared.machine.tasks.DriverTask.{DriverTask}
+use Rattle.tm_machine.specs.Tasks.{IsDriverTask, IsFoundTask}
 
 -- the tasks of the instances of a design, as calls run them
 module _ (d : Design) (n k : ℕ) where
@@ -205,3 +207,17 @@ module _ (d : Design) (number : ℕ) (f : Frame) (task : TaskDef) (of : IsDriver
       ap (λ (s : ScopedCells). map (cell_at s.tables s.at) numbers) of.frame.reader
       ∙ (subst (λ s. AreCalledCells s (length task.params.items) numbers) of.frame.reader are).cells (design_tree d)
       (own_cells d) of.called of.by of.as_many
+
+-- a task that is there was found
+pub found_task : (d : Design) (number : ℕ) (o : Option DriverTask) →
+    IfSome o (λ k. IsDriverTask d number k.frame k.task.now) →
+    IfNone o (task_of (design_tree d) number ≡ None) → (task_of (design_tree d) number ≡ None → ⊥) →
+    IsFoundTask d number o
+found_task d number (Some k) is none some = is
+found_task d number None is none some = some none
+
+-- and stands in the body of its frame
+pub tasks_here : (d : Design) (number : ℕ) (o : Option DriverTask) →
+    IfSome o (λ k. IsDriverTask d number k.frame k.task.now) → IfSome o (λ k. task_at k.frame.reader ≡ Some k.task.now)
+tasks_here d number (Some k) is = task_here d number k.frame k.task.now is
+tasks_here d number None is = is

@@ -1,5 +1,5 @@
 -- The bodies that a machine finds of its design.
-use Rattle.std.proofs.Common.{◌≡◌, ℕ, Bool, true, slice_get, Option, None, Some, List, sym, ap, ◌∙◌, subst}
+use Rattle.std.proofs.Common.{◌≡◌, ℕ, Bool, true, slice_get, Option, None, Some, List, refl, sym, ap, ◌∙◌, subst}
 use Rattle.std.specs.Option.{option_map, option_map_or}
 use Rattle.tm_syntax.specs.declared.design.Design.{Design}
 use Rattle.tm_syntax.specs.declared.design.Item.{Item}
@@ -60,3 +60,13 @@ module _ (d : Design) (s : StateData) (g : ℕ) (item : Item) (here : slice_get 
   pub goal_with : (e : ExprTree) (truth : Bool) → Some e ≡ goal_expr (design_tree d) item →
       truth ≡ holds_in (design_tree d) (place_of item) (memory_of s) e → truth ≡ goal_holds (design_tree d) s g
   goal_with e truth is holds = holds ∙ at_item (Some e) (sym is)
+
+-- what is found where there is an instance
+pub there : {A B : Type 0} (o : Option A) (x : B) (r : Option B) → r ≡ option_map (λ _. x) o → (o ≡ None → ⊥) →
+    r ≡ Some x
+there None x r is some = absurd (some refl)
+there (Some a) x r is some = is
+
+-- one thing alone is found
+pub one_found : {A : Type 0} (o : Option A) (x y : A) → o ≡ Some x → o ≡ Some y → x ≡ y
+one_found o x y is found = let both : Some x ≡ Some y = sym is ∙ found in cc

@@ -105,6 +105,26 @@ module _ (d : Design) (at : SiteBody) where
       (r : Result A Halt) → DoesRow f.reader ss from to r → DoesRow (body_of d at) ss from to r
   done_there f frame ss from to r does = subst (λ s. DoesRow s ss from to r) frame.reader does
 
+  -- the same of statements that are those of a node's work
+  module _ (f : Frame) (frame : IsFrame d at f) (ss ts : List StmtTree) (same : ss ≡ ts) where
+    pub work_fits : (e : Design) → e ≡ d → (ss ≡ [] → ⊥) → StmtsStand tree (scope_of at) ss → RowFits e f ts
+    work_fits e own filled stand =
+        subst (λ (d : Design). RowFits d f ts) (sym own)
+        (row_fits f frame ts (λ none. filled (same ∙ none)) (subst (StmtsStand tree (scope_of at)) same stand))
+
+    pub work_does : {A : Type 0} (from to : Course) (r : Result A Halt) → DoesRow f.reader ts from to r →
+        DoesRow (body_of d at) ss from to r
+    work_does from to r does =
+        subst (λ (ss : List StmtTree). DoesRow (body_of d at) ss from to r) (sym same)
+        (done_there f frame ts from to r does)
+
+  pub work_typed : (f : Frame) → IsFrame d at f → (ss : List StmtTree) (place : Place) (e : ExprTree) →
+      ss ≡ assume place e ∷ [] → StmtsStand tree (scope_of at) ss → HasTypeAt f.reader types.Bool e
+  work_typed f frame ss place e same stand =
+      let there : StmtsStand tree (scope_of at) (assume place e ∷ []) =
+      subst (StmtsStand tree (scope_of at)) same stand in
+      subst (λ s. HasTypeAt s types.Bool e) (sym frame.reader) (condition_typed place e there.0)
+
   -- of no statements nothing is done
   pub nothing_done : {A : Type 0} (done : A) (ss : List StmtTree) → ss ≡ [] → (c : Course) →
       DoesRow (body_of d at) ss c c (Ok done)

@@ -184,7 +184,7 @@ module _ (d : DesignTree) (p : ℕ) (h : Thread) (s : Site) (is : IsThread d p h
       front : 0 + is.number ≡ is.number
       front = omega arith
 
-  process-in : In (process_text d s h) (bodies d.spec)
+  pub process-in : In (process_text d s h) (bodies d.spec)
   process-in =
       in_flat (template_bodies d.spec) d.spec.templates
       (in_get d.spec.templates s.node.template (site-template d h.scope.instance s there))

@@ -22,7 +22,7 @@ use Rattle.tm_settled.proofs.FoundCells.{is_site}
 use Rattle.tm_runnable.specs.Runnable.{HasFewPlaces}
 
 -- each of some numbers is at most the greatest
-at_most_greatest : (n : ℕ) (ns : List ℕ) → In n ns → n ≤ greatest ns
+pub at_most_greatest : (n : ℕ) (ns : List ℕ) → In n ns → n ≤ greatest ns
 at_most_greatest n _ (first_of {xs = ns}) = omega arith
 at_most_greatest n _ (later_of {y = m} {xs = ns} i) = let deeper = at_most_greatest n ns i in omega (arith, deeper)
 
@@ -39,7 +39,7 @@ few_counted spec none = by (nat_lt 1024 (count_locations spec)) refl
 
 module _ (d : DesignTree) (sound : IsSound d) (of : IsOfText d.spec) where
   -- the template of an instance is counted
-  template_counted : (n : ℕ) (s : Site) → site d n ≡ Some s → In s.template (instance_templates d.spec)
+  pub template_counted : (n : ℕ) (s : Site) → site d n ≡ Some s → In s.template (instance_templates d.spec)
   template_counted n s there =
       let is = is_site d n s there in
       subst (In s.template) (templates_agree d sound.no_template_cycle sound.numbered)

@@ -80,7 +80,7 @@ module _ (d e : DesignTree) (text : d.spec ≡ e.spec) (instances : d.instances 
         option_and_then (λ (at : Site). slice_get (option_to_list (own_alike scope at names i)
         ++ option_to_list (member_alike at names index i)) 0) (site_alike scope.instance i)
 
-    type_alike : (c : Cell) → cell_type d c ≡ cell_type e c
+    pub type_alike : (c : Cell) → cell_type d c ≡ cell_type e c
     type_alike (in_state k) = λ i. option_map (λ (v : Var). v.ty) (slice_get (vars i) k)
     type_alike (in_step scope name ty) = refl
 

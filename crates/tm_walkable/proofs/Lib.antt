@@ -1,5 +1,6 @@
 pub mod Alike
 pub mod Elements
+pub mod FitsAlike
 pub mod Promising
 pub mod Targets
 pub mod Tasks

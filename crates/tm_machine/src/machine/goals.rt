@@ -1,6 +1,7 @@
 //! Which goals hold at a state.
-ghost use Rattle.std.specs.Prelude.{◌≡◌, ◌<◌, IfOk, length};
+ghost use Rattle.std.specs.Prelude.{◌≡◌, ◌<◌, ℕ, IfOk, Some, length};
 ghost use Rattle.std.specs.Option.{option_map};
+ghost use Rattle.tm_syntax.specs.declared.design.Design.{Design};
 ghost use Rattle.tm_syntax.specs.declared.design.Ty.TheVariants as resolved;
 ghost use Rattle.tm_syntax.specs.Tree.View.{expr_tree};
 ghost use Rattle.tm_syntax.specs.Scopes.Context.{outside};
@@ -11,6 +12,7 @@ ghost use Rattle.tm_sem.specs.Value.{holds_in};
 ghost use Rattle.tm_runs.specs.Tables.{body_of};
 ghost use Rattle.tm_operands.specs.Typed.{HasTypeAt};
 ghost use Rattle.tm_scope.specs.declared.context.BodyName.TheVariants.{Outside};
+ghost use Rattle.tm_machine.specs.Tasks.{outside_of};
 
 use crate::machine::Machine;
 use std::alloc::{AllocError, Global};
@@ -18,7 +20,45 @@ use tm_scope::{BodyName, SiteBody};
 use tm_sem::state::State;
 use tm_syntax::design::Item;
 use tm_syntax::tree::Expr;
-use tm_values::Store;
+use tm_values::{Reader, Store};
+
+// Whether a condition holds at a state, by the reader of what stands outside of all bodies of an instance.
+fn condition_by(
+    alloc: Global,
+    reader: &Reader<'_>,
+    e: &Expr,
+    state: &State,
+) -> Result<bool, AllocError>
+    requires typed { HasTypeAt reader.now resolved.Bool (expr_tree e.now) }
+    requires outside { reader.now.at.body ≡ Outside }
+    ensures { IfOk result (λ holds. (d : Design) (n : ℕ) → reader.now ≡ outside_of d n
+        → holds ≡ holds_in (design_tree d) (record { instance = n; body = outside }) (memory_of state.now)
+        (expr_tree e.now)) }
+{
+    let values = Vec::from_slice(alloc, state.values.as_slice())?;
+    let store = Store::new(alloc, values);
+    let mut text = Vec::new(alloc);
+    reader.holds_outside(&store, e, &mut text)
+}
+
+// The same by the reader that was found.
+fn condition_holds(
+    alloc: Global,
+    found: &Option<Reader<'_>>,
+    e: &Expr,
+    state: &State,
+) -> Result<bool, AllocError>
+    requires { (d : Design) × (n : ℕ) × (found.now ≡ Some (outside_of d n))
+        × HasTypeAt (outside_of d n) resolved.Bool (expr_tree e.now) }
+    ensures { IfOk result (λ holds. (d : Design) (n : ℕ) → found.now ≡ Some (outside_of d n)
+        → holds ≡ holds_in (design_tree d) (record { instance = n; body = outside }) (memory_of state.now)
+        (expr_tree e.now)) }
+{
+    match found {
+        Some(reader) => condition_by(alloc, reader, e, state),
+        None => unreachable!(),
+    }
+}
 
 impl<'s> Machine<'s> {
     // The expression of a goal; the one that a design without goals gets has none.
@@ -48,13 +88,8 @@ impl<'s> Machine<'s> {
             instance,
             body: BodyName::Outside,
         };
-        let Some(reader) = self.runner.reader(at) else {
-            unreachable!()
-        };
-        let values = Vec::from_slice(alloc, state.values.as_slice())?;
-        let store = Store::new(alloc, values);
-        let mut text = Vec::new(alloc);
-        reader.holds_outside(&store, e, &mut text)
+        let found = self.runner.reader(at);
+        condition_holds(alloc, &found, e, state)
     }
 
     /// Whether the goal of a number holds at a state. Linear in the goal and in the number of state variables.

@@ -1,5 +1,5 @@
 //! Which moves the turn rule permits.
-ghost use Rattle.std.specs.Prelude.{◌≡◌, ℕ, IfOk, List, Some, is_some, map};
+ghost use Rattle.std.specs.Prelude.{◌≡◌, IfOk, IfSome, List, Some, is_some, map};
 ghost use Rattle.std.specs.List.{AllByRecursion};
 ghost use Rattle.tm_syntax.specs.Design.{DesignTree};
 ghost use Rattle.tm_syntax.specs.Design.Cells.{Cell};
@@ -8,9 +8,12 @@ ghost use Rattle.tm_scope.specs.Cells.{HasCells, cell_at};
 ghost use Rattle.tm_sem.specs.Run.{asked_by};
 ghost use Rattle.tm_sem.specs.Step.{arguments_fit as fit_so, call_work, process_work, work};
 ghost use Rattle.tm_typing.specs.HasType.{IsSized};
+ghost use Rattle.tm_operands.specs.Parameters.{task_at};
+ghost use Rattle.tm_machine.specs.Tasks.{Suits, Takes};
 
 use crate::machine::Machine;
 use crate::machine::places::place_of;
+use crate::machine::tasks::DriverTask;
 use std::alloc::{AllocError, Global};
 use tm_scope::CellNumber;
 use tm_sem::state::{Move, State};
@@ -31,6 +34,28 @@ fn arguments_fit(reader: &Reader<'_>, cells: &[CellNumber], args: &[u64]) -> boo
         }
     }
     true
+}
+
+// Whether these arguments fit the parameters of a controllable task.
+fn suits(alloc: Global, called: &DriverTask<'_>, args: &[u64]) -> Result<bool, AllocError>
+    requires { task_at called.now.frame.reader ≡ Some called.now.task.now }
+    ensures { IfOk result (Suits called.now args.now) }
+{
+    let mut text = Vec::new(alloc);
+    let reader = &called.frame.reader;
+    let cells = reader.parameters(alloc, called.task, &mut text)?;
+    Ok(arguments_fit(reader, cells.as_slice(), args))
+}
+
+// Whether a controllable task was found, and these arguments fit its parameters.
+fn takes(alloc: Global, found: &Option<DriverTask<'_>>, args: &[u64]) -> Result<bool, AllocError>
+    requires { IfSome found.now (λ k. task_at k.frame.reader ≡ Some k.task.now) }
+    ensures { IfOk result (Takes found.now args.now) }
+{
+    match found {
+        Some(called) => suits(alloc, called, args),
+        None => Ok(false),
+    }
 }
 
 impl<'s> Machine<'s> {
@@ -61,14 +86,8 @@ impl<'s> Machine<'s> {
         if !self.magic(state) {
             return Ok(false);
         }
-        let Some(called) = self.controllable(number) else {
-            return Ok(false);
-        };
-        let task = called.task;
-        let reader = called.frame.reader;
-        let mut text = Vec::new(alloc);
-        let cells = reader.parameters(alloc, task, &mut text)?;
-        Ok(arguments_fit(&reader, cells.as_slice(), args))
+        let called = self.controllable(number);
+        takes(alloc, &called, args)
     }
 
     /// Whether the turn rule permits a move: a process runs from before its end, at no magic block; the driver moves

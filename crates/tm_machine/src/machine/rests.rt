@@ -1,27 +1,24 @@
 //! What is left to be done at the locations of processes.
-ghost use Rattle.std.specs.Prelude.{◌≡◌, ◌<◌, ◌++◌, ◌∷◌, ℕ, IfOk, List, [], length, map};
+ghost use Rattle.std.specs.Prelude.{◌≡◌, ◌<◌, ◌++◌, ℕ, IfNone, IfOk, IfSome, List, None, [], false, length, true};
 ghost use Rattle.tm_base.specs.declared.place.Place as placed;
-ghost use Rattle.tm_syntax.specs.Tree as trees;
-ghost use Rattle.tm_syntax.specs.Tree.View.{expr_tree, local_tree, stmt_trees};
 ghost use Rattle.tm_syntax.specs.Design.{DesignTree};
 ghost use Rattle.tm_syntax.specs.Design.Locations.{location_number};
+ghost use Rattle.tm_syntax.specs.Design.Scope.{site};
 ghost use Rattle.tm_syntax.specs.Design.View.{design_tree};
 ghost use Rattle.tm_locations.specs.Locations.{AreLocations, IsTrail, table_of, work_stmts};
 ghost use Rattle.tm_scope.specs.Cells.{scope_of};
-ghost use Rattle.tm_runs.specs.Frames.{local_stmts};
+ghost use Rattle.tm_runs.specs.Frames.{IsFrame};
 ghost use Rattle.tm_runs.specs.Runs.{DoesRow};
 ghost use Rattle.tm_runs.specs.Tables.{body_of};
 ghost use Rattle.tm_machine.specs.Ends.{IsEndOf, RestEnds};
-ghost use Rattle.tm_steady.specs.Standing.{StandsIn, StmtsStand};
+ghost use Rattle.tm_steady.specs.Standing.{StmtsStand};
 
 use crate::machine::Machine;
 use crate::machine::places::rest_number;
 use std::alloc::AllocError;
 use tm_base::Place;
 use tm_locations::{Locations, RestNode, Work};
-use tm_runs::{Course, Halt, Trail, assume};
-use tm_scope::SiteBody;
-use tm_syntax::tree::{Expr, LocalDef, Stmt};
+use tm_runs::{Course, Frame, Halt, Trail, assume};
 
 /// How the work of a process ends: at the location of a number, in an error, or with no outcome.
 #[derive(Clone, Copy, Debug, Drop)]
@@ -66,63 +63,67 @@ fn end_of(
     }
 }
 
+// Whether nothing is to be done first.
+fn is_idle(node: &RestNode<'_>) -> bool
+    ensures idle { result ≡ true → work_stmts node.now.work ≡ [] }
+    ensures filled { result ≡ false → ¬ (work_stmts node.now.work ≡ []) }
+{
+    match node.work {
+        Work::Locals(locals) => locals.is_empty(),
+        Work::Stmts(stmts) => stmts.is_empty(),
+        Work::Assume(_, _) => false,
+    }
+}
+
 impl<'s> Machine<'s> {
-    // Does the declarations of locals of a body of an instance.
-    fn perform_locals(
-        &self,
-        at: SiteBody,
-        course: &mut Course,
-        locals: &[LocalDef],
-    ) -> Result<(), Halt>
-        requires { StmtsStand (design_tree self.now) (scope_of at) (local_stmts (map local_tree locals.now)) }
-        ensures { DoesRow (body_of self.now at) (local_stmts (map local_tree locals.now)) course.old course.new
-            result }
-    {
-        if locals.is_empty() {
-            return Ok(());
-        }
-        let Some(frame) = self.runner.frame(at) else {
-            unreachable!()
-        };
-        self.runner.perform_locals(&frame, course, locals)
-    }
-
-    // Does statements of a body of an instance.
-    fn perform_row(&self, at: SiteBody, course: &mut Course, stmts: &[Stmt]) -> Result<(), Halt>
-        requires { StmtsStand (design_tree self.now) (scope_of at) (stmt_trees stmts.now) }
-        ensures { DoesRow (body_of self.now at) (stmt_trees stmts.now) course.old course.new result }
-    {
-        if stmts.is_empty() {
-            return Ok(());
-        }
-        let Some(frame) = self.runner.frame(at) else {
-            unreachable!()
-        };
-        self.runner.perform_row(&frame, course, stmts)
-    }
-
-    // Goes on where the condition of a `wait` of a body of an instance holds.
-    fn assume(&self, at: SiteBody, course: &mut Course, e: &Expr) -> Result<(), Halt>
-        requires { (place : placed.Place) × StandsIn (design_tree self.now) (scope_of at)
-            (trees.assume place (expr_tree e.now)) }
-        ensures { (place : placed.Place) → DoesRow (body_of self.now at)
-            (trees.assume place (expr_tree e.now) ∷ []) course.old course.new result }
-    {
-        let Some(reader) = self.runner.reader(at) else {
-            unreachable!()
-        };
-        assume(&reader, course, e)
-    }
-
     // Does work of a body of an instance.
     fn perform_work(&self, node: &RestNode<'_>, course: &mut Course) -> Result<(), Halt>
         requires { StmtsStand (design_tree self.now) (scope_of node.now.scope) (work_stmts node.now.work) }
         ensures { DoesRow (body_of self.now node.now.scope) (work_stmts node.now.work) course.old course.new result }
     {
+        if is_idle(node) {
+            return Ok(());
+        }
+        let found = self.runner.frame(node.scope);
+        self.work_in(node, &found, course)
+    }
+
+    // Does work of a body of an instance, of which this is the frame. A frame that is lent in an `Option` is cheap to
+    // check; one that is taken out of it is not.
+    fn work_in<'a>(
+        &'a self,
+        node: &RestNode<'_>,
+        found: &Option<Frame<'a>>,
+        course: &mut Course,
+    ) -> Result<(), Halt>
+        requires filled { ¬ (work_stmts node.now.work ≡ []) }
+        requires stand { StmtsStand (design_tree self.now) (scope_of node.now.scope) (work_stmts node.now.work) }
+        requires frame { IfSome found.now (IsFrame self.now node.now.scope) }
+        requires none { IfNone found.now (site (design_tree self.now) node.now.scope.instance ≡ None) }
+        ensures { DoesRow (body_of self.now node.now.scope) (work_stmts node.now.work) course.old course.new result }
+    {
+        match found {
+            Some(frame) => self.work_by(node, frame, course),
+            None => unreachable!(),
+        }
+    }
+
+    // Does work of a body of an instance by its frame.
+    fn work_by<'a>(
+        &'a self,
+        node: &RestNode<'_>,
+        frame: &Frame<'a>,
+        course: &mut Course,
+    ) -> Result<(), Halt>
+        requires filled { ¬ (work_stmts node.now.work ≡ []) }
+        requires stand { StmtsStand (design_tree self.now) (scope_of node.now.scope) (work_stmts node.now.work) }
+        requires frame { IsFrame self.now node.now.scope frame.now }
+        ensures { DoesRow (body_of self.now node.now.scope) (work_stmts node.now.work) course.old course.new result }
+    {
         match node.work {
-            Work::Locals(locals) => self.perform_locals(node.scope, course, locals),
-            Work::Stmts(stmts) => self.perform_row(node.scope, course, stmts),
-            Work::Assume(_, e) => self.assume(node.scope, course, e),
+            Work::Locals(locals) => self.runner.perform_locals(frame, course, locals),
+            Work::Stmts(stmts) => self.runner.perform_row(frame, course, stmts),
+            Work::Assume(_, e) => assume(&frame.reader, course, e),
         }
     }
 

@@ -1,19 +1,21 @@
 //! The calls that the driver makes.
-ghost use Rattle.std.specs.Prelude.{◌≡◌, ℕ, IfNone, IfOk, IfSome, List, None, is_some, length, true};
+ghost use Rattle.std.specs.Prelude.{◌≡◌, ℕ, IfNone, IfOk, IfSome, List, None, Some, is_some, length, true};
 ghost use Rattle.std.specs.Option.{option_map};
 ghost use Rattle.tm_syntax.specs.declared.design.Design as designs;
 ghost use Rattle.tm_syntax.specs.Design.View.{design_tree};
 ghost use Rattle.tm_syntax.specs.Design.Work as works;
 ghost use Rattle.tm_scope.specs.declared.context.BodyName.TheVariants.{Task};
-ghost use Rattle.tm_sem.specs.Step.{Comes, Step, call_work, task_of};
+ghost use Rattle.tm_syntax.specs.Faults.{IsSound};
+ghost use Rattle.tm_sem.specs.State.{StateData};
+ghost use Rattle.tm_sem.specs.Step.{Comes, Step, call_work, memory_of, task_of};
 ghost use Rattle.tm_sem.specs.Value as run;
 ghost use Rattle.tm_sem.specs.declared.state.Move.TheVariants as moves;
 ghost use Rattle.tm_sem.specs.declared.state.Outcome.TheVariants as outcomes;
 ghost use Rattle.tm_operands.specs.Parameters.{task_at};
 ghost use Rattle.tm_runs.specs.Tables.{body_of, tables_of};
-ghost use Rattle.tm_values.specs.Kept.{Keeps};
+ghost use Rattle.tm_values.specs.Kept.{Keeps, put_all};
 ghost use Rattle.tm_machine.specs.Ends.{HaltsSo, Leads, driver_work};
-ghost use Rattle.tm_machine.specs.Tasks.{IsDriverTask};
+ghost use Rattle.tm_machine.specs.Tasks.{IsDriverTask, IsFoundTask};
 
 use crate::machine::Machine;
 use crate::machine::moves::left_state;
@@ -75,6 +77,27 @@ fn called_outcome(
     }
 }
 
+// Gives the parameters of a controllable task the values of arguments.
+fn give(
+    alloc: Global,
+    called: &DriverTask<'_>,
+    course: &mut Course,
+    args: &[u64],
+) -> Result<(), AllocError>
+    requires { task_at called.now.frame.reader ≡ Some called.now.task.now }
+    ensures trail { IfOk result (λ _. course.new.trail ≡ course.old.trail) }
+    ensures choices { IfOk result (λ _. course.new.choices ≡ course.old.choices) }
+    ensures given { IfOk result (λ _. (d : designs.Design) (number : ℕ)
+        (of : IsDriverTask d number called.now.frame called.now.task.now) (s : StateData) → IsSound (design_tree d)
+        → Keeps (tables_of d) course.old.store (memory_of s)
+        → Keeps (tables_of d) course.new.store (put_all (memory_of s) of.called.params args.now)) }
+{
+    let reader = &called.frame.reader;
+    let cells = reader.parameters(alloc, called.task, &mut course.text)?;
+    reader.put_all(&mut course.store, cells.as_slice(), args)?;
+    Ok(())
+}
+
 impl<'s> Machine<'s> {
     // The task of a number of an instance.
     fn task_def(&self, instance: u32, index: usize) -> Option<&'s TaskDef>
@@ -94,11 +117,14 @@ impl<'s> Machine<'s> {
         let item = self.design.tasks.get(number as usize)?;
         let index = item.index? as usize;
         let task = self.task_def(item.instance, index)?;
-        let frame = self.runner.frame(SiteBody {
+        let at = SiteBody {
             instance: item.instance,
             body: BodyName::Task(index),
-        })?;
-        Some(DriverTask { frame, task })
+        };
+        match self.runner.frame(at) {
+            Some(frame) => Some(DriverTask { frame, task }),
+            None => None,
+        }
     }
 
     // The driver calls a controllable task, where the turn rule permits it.
@@ -113,18 +139,51 @@ impl<'s> Machine<'s> {
         requires { is_some (call_work (design_tree self.now) state.now number args.now) ≡ true }
         ensures { IfOk result (Step (design_tree self.now) state.now (moves.Call number args.now) choices.now) }
     {
-        let Some(called) = self.controllable(number) else {
-            unreachable!()
-        };
-        let task = called.task;
-        let frame = called.frame;
+        let called = self.controllable(number);
+        self.call_found(alloc, state, &called, args, choices)
+    }
+
+    // The driver calls a controllable task that was found, and that it may call. A task with a frame is lent in its
+    // `Option`: to take it out would cost the check of the caller ten times as much.
+    fn call_found<'a>(
+        &'a self,
+        alloc: Global,
+        state: &State,
+        called: &Option<DriverTask<'a>>,
+        args: &[u64],
+        choices: &[u64],
+    ) -> Result<Outcome, AllocError>
+        requires { (number : ℕ) × IsFoundTask self.now number called.now }
+        ensures { (number : ℕ) → is_some (call_work (design_tree self.now) state.now number args.now) ≡ true
+            → IsFoundTask self.now number called.now
+            → IfOk result (Step (design_tree self.now) state.now (moves.Call number args.now) choices.now) }
+    {
+        match called {
+            Some(called) => self.call(alloc, state, called, args, choices),
+            None => unreachable!(),
+        }
+    }
+
+    // The driver calls a controllable task that it may call.
+    fn call<'a>(
+        &'a self,
+        alloc: Global,
+        state: &State,
+        called: &DriverTask<'a>,
+        args: &[u64],
+        choices: &[u64],
+    ) -> Result<Outcome, AllocError>
+        requires { (number : ℕ) × IsDriverTask self.now number called.now.frame called.now.task.now }
+        ensures { (number : ℕ) → is_some (call_work (design_tree self.now) state.now number args.now) ≡ true
+            → IsDriverTask self.now number called.now.frame called.now.task.now
+            → IfOk result (Step (design_tree self.now) state.now (moves.Call number args.now) choices.now) }
+    {
         let values = Vec::from_slice(alloc, state.values.as_slice())?;
         let mut course = Course::new(alloc, values, choices)?;
-        let cells = frame.reader.parameters(alloc, task, &mut course.text)?;
-        frame
-            .reader
-            .put_all(&mut course.store, cells.as_slice(), args)?;
-        let done = self.runner.perform_body(&frame, &mut course, &task.body);
+        give(alloc, called, &mut course, args)?;
+        let done = self
+            .runner
+            .perform_body(&called.frame, &mut course, &called.task.body);
         called_outcome(alloc, state, &course, done)
     }
 }

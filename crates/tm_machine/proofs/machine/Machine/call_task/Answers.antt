@@ -1,73 +1,26 @@
-use Rattle.std.proofs.Common.{◌≡◌, List, [], Some, length, map, refl, sym, ap, ◌∙◌, subst}
-use Rattle.std.specs.Prelude.{IfOk}
-use Rattle.std.specs.List.{zip}
-use Rattle.tm_syntax.specs.declared.design.Design.{Design}
-use Rattle.tm_syntax.specs.Tree.View.{body_tree}
+use Rattle.std.proofs.Common.{◌≡◌, false, None, sym, ◌∙◌, true≢false}
+use Rattle.std.specs.Prelude.{is_some}
 use Rattle.tm_syntax.specs.Design.View.{design_tree}
-use Rattle.tm_syntax.specs.Design.Work.{body_items}
-use Rattle.tm_scope.specs.Cells.{cell_at, scope_of}
-use Rattle.tm_scope.specs.declared.cells.site_body.CellNumber.{CellNumber}
-use Rattle.tm_sem.specs.declared.state.Move.TheVariants as moves
-use Rattle.tm_sem.specs.State.{StateData}
-use Rattle.tm_sem.specs.Step.{Comes, memory_of, work}
-use Rattle.tm_sem.specs.Value.{plain_memory}
-use Rattle.tm_typing.proofs.Sound.{checked}
-use Rattle.tm_values.specs.Kept.{Keeps, put_all}
-use Rattle.tm_runs.specs.Frames.{BodyFits}
-use Rattle.tm_runs.specs.Tables.{tables_of}
-use Rattle.tm_machine.specs.Ends.{Leads, driver_work}
-use Rattle.tm_machine.specs.Machine.{IsRunnable}
-use Rattle.tm_machine.proofs.Calling.{arguments_count, body_fits, call_leads, given_memory, items_are, work_done}
-use Rattle.tm_machine.proofs.DriverTasks.{cells_are}
-use Rattle.tm_machine.proofs.Fitness.{typed_cells}
-use Rattle.tm_machine.proofs.Permitting.{call_is, call_of}
+use Rattle.tm_sem.specs.Step.{call_work, task_of}
+use Rattle.tm_machine.proofs.DriverTasks.{found_task}
+use Rattle.tm_machine.proofs.Permitting.{no_call}
 use Rattle.tm_machine.proofs.machine.Machine.call_task.Goals as goal
 
-pub perform_body-done-requires : goal.perform_body-done-requires
-perform_body-done-requires c =
+pub call_found-requires : goal.call_found-requires
+call_found-requires c =
     let d = c.args.self.now in
-    let frame = c.in-Some.called.frame in
-    let task = c.in-Some.called.task.now in
-    let runnable : IsRunnable d = subst IsRunnable c.self.view_is c.self.invariant.1 in
-    subst (λ (d : Design). BodyFits d frame (body_tree task.body)) (sym (c.self.invariant.0 ∙ c.self.view_is))
-    (body_fits d c.args.number frame task c.in-Some.ensures.found
-    (checked (design_tree d) runnable.sound runnable.read))
+    let n = c.args.number in
+    let called = c.controllable-called in (
+      n,
+      found_task d n called.result called.ensures.found called.ensures.none
+          (λ none. true≢false (sym (no_call (design_tree d) c.args.state.now n c.args.args.now none ∙ c.requires))),
+    )
 
 pub returns : goal.returns
 returns c =
     let d = c.args.self.now in
-    let s = c.args.state.now in
-    let frame = c.in-Some.called.frame in
-    let task = c.in-Some.called.task.now in
-    let of = c.in-Some.ensures.found in
-    let args = c.args.args.now in
-    let choices = c.args.choices.now in
-    let begun = c.in_ok-course.course in
-    let to = c.perform_body-done.new.course in
-    let done = c.perform_body-done.result in
-    let runnable : IsRunnable d = subst IsRunnable c.self.view_is c.self.invariant.1 in
-    let values : c.in_ok-values.values.items ≡ s.values =
-    c.in_ok-values.ensures.items ∙ c.as_slice.ensures.value ∙ ap (λ (s : StateData). s.values) c.state.view_is in
-    let kept : Keeps (tables_of d) begun.store (memory_of s) =
-    subst (λ vs. Keeps (tables_of d) begun.store (plain_memory vs)) values
-    (c.in_ok-course.ensures.keeps (tables_of d)) in
-    let numbers : map (cell_at frame.reader.tables frame.reader.at) c.as_slice-2.result.now
-    ≡ map Some of.called.params =
-    ap (λ (ns : List CellNumber). map (cell_at frame.reader.tables frame.reader.at) ns) c.as_slice-2.ensures.value
-    ∙ cells_are d c.args.number frame task of c.in_ok-cells.cells.items c.in_ok-cells.ensures in
-    let m = put_all (memory_of s) of.called.params args in
-    let keeps : Keeps (tables_of d) c.put_all.new.store m =
-    given_memory d c.args.number frame task runnable.sound of c.as_slice-2.result.now args s begun.store
-    c.put_all.new.store numbers kept c.in_ok-put_all.ensures in
-    let items = body_items (scope_of of.at) [] (body_tree task.body) in
-    let counted = arguments_count (length s.values) (memory_of s) (zip of.called.params args) refl in
-    let leads : Leads d items m choices to done =
-    subst (λ cs. Leads d items m cs to done) c.in_ok-course.ensures.choices
-    (call_leads d c.args.number frame task of runnable.sound (typed_cells d runnable) m _ to
-    c.in_ok-course.ensures.trail keeps done c.perform_body-done.ensures.does) in
-    work_done (design_tree d) s choices (work (design_tree d) s (moves.Call c.args.number args))
-    (call_of (design_tree d) s c.args.number args of.called)
-    (call_is (design_tree d) s c.args.number args of.called of.is c.requires) c.called_outcome.result
-    (subst (λ items. IfOk c.called_outcome.result (Comes (design_tree d) s (driver_work items m) choices))
-    (sym (items_are d c.args.number frame task of))
-    (c.called_outcome.ensures d items m choices counted leads))
+    let n = c.args.number in
+    let called = c.controllable-called in
+    c.call_found.ensures n c.requires
+    (found_task d n called.result called.ensures.found called.ensures.none
+    (λ none. true≢false (sym (no_call (design_tree d) c.args.state.now n c.args.args.now none ∙ c.requires))))

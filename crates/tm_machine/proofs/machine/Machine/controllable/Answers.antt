@@ -12,8 +12,8 @@ use Rattle.tm_machine.proofs.DriverTasks.{is_driver_task}
 use Rattle.tm_machine.proofs.Fitness.{calls_are_sized, typed_cells}
 use Rattle.tm_machine.proofs.machine.Machine.controllable.Goals as goal
 
-pub returns-clause-found : goal.returns-clause-found
-returns-clause-found c =
+pub returns-in-Some-clause-found : goal.returns-in-Some-clause-found
+returns-in-Some-clause-found c =
     let d = c.args.self.now in
     let n = c.args.number in
     let item = c.in_ok-item.item.now in
@@ -24,9 +24,9 @@ returns-clause-found c =
     (item-read c.self.inside.design.now.tasks.items c.deref.result.now n (Some c.in_ok-item.item)
     c.deref.ensures.value c.in_ok-item.ensures.lookup) in
     let runnable : IsRunnable d = subst IsRunnable c.self.view_is c.self.invariant.1 in
-    let frame : IsFrame d at c.in_ok-frame.frame =
-    subst (λ (d : Design). IsFrame d at c.in_ok-frame.frame) (c.self.invariant.0 ∙ c.self.view_is)
-    c.in_ok-frame.ensures.found in
+    let frame : IsFrame d at c.in-Some.frame =
+    subst (λ (d : Design). IsFrame d at c.in-Some.frame) (c.self.invariant.0 ∙ c.self.view_is)
+    c.in-Some.ensures.found in
     is_driver_task d n item listed k c.in_ok-index.was (typed_cells d runnable) (calls_are_sized d runnable)
-    c.in_ok-frame.frame c.in_ok-task.task.now
+    c.in-Some.frame c.in_ok-task.task.now
     (sym c.task_def.ensures ∙ ap (option_map (λ (task : Bor TaskDef). task.now)) c.in_ok-task.was) frame

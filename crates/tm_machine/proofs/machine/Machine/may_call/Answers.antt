@@ -1,24 +1,23 @@
-use Rattle.std.proofs.Common.{◌≡◌, Some, List, map, sym, ap, ◌∙◌, subst}
+use Rattle.std.proofs.Common.{◌≡◌, sym, ◌∙◌}
+use Rattle.std.specs.Prelude.{is_some}
+use Rattle.std.proofs.lemmas.Result.{IfOk-weaker}
 use Rattle.tm_syntax.specs.Design.View.{design_tree}
-use Rattle.tm_scope.specs.Cells.{HasCells, ScopedCells, cell_at}
-use Rattle.tm_scope.specs.declared.cells.site_body.CellNumber.{CellNumber}
-use Rattle.tm_runs.proofs.Found.{own_cells}
-use Rattle.tm_machine.proofs.DriverTasks.{cells_are}
-use Rattle.tm_machine.proofs.Permitting.{call_at_turn}
+use Rattle.tm_sem.specs.Step.{call_work}
+use Rattle.tm_machine.specs.Tasks.{Takes}
+use Rattle.tm_machine.proofs.DriverTasks.{tasks_here}
 use Rattle.tm_machine.proofs.machine.Machine.may_call.Goals as goal
+
+pub takes-requires : goal.takes-requires
+takes-requires c =
+    tasks_here c.args.self.now c.args.number c.controllable-called.result c.controllable-called.ensures.found
 
 pub returns : goal.returns
 returns c =
     let d = c.args.self.now in
-    let frame = c.in-Some.called.frame in
-    let task = c.in-Some.called.task.now in
-    let of = c.in-Some.ensures.found in
-    let tables = ap (λ (s : ScopedCells). s.tables) of.frame.reader in
-    let are : map (cell_at frame.reader.tables frame.reader.at) c.as_slice.result.now ≡ map Some of.called.params =
-    ap (λ (numbers : List CellNumber). map (cell_at frame.reader.tables frame.reader.at) numbers)
-    c.as_slice.ensures.value
-    ∙ cells_are d c.args.number frame task of c.in_ok-cells.cells.items c.in_ok-cells.ensures in
-    call_at_turn (design_tree d) c.args.state.now c.args.number c.args.args.now of.called of.is
-    (sym c.magic.ensures ∙ c.if-not-magic.false) c.arguments_fit.result
-    (c.arguments_fit.ensures (design_tree d) of.called.params
-    (subst (λ x. HasCells x (design_tree d)) (sym tables) (own_cells d)) are of.sized)
+    let s = c.args.state.now in
+    let n = c.args.number in
+    let args = c.args.args.now in
+    let called = c.controllable-called in
+    IfOk-weaker c.takes.result (Takes called.result args) (λ may. may ≡ is_some (call_work (design_tree d) s n args))
+    (λ fit takes. takes d n s called.ensures.found called.ensures.none (sym c.magic.ensures ∙ c.if-not-magic.false))
+    c.takes.ensures

@@ -1,20 +1,28 @@
-use Rattle.std.proofs.Common.{sym, subst}
+use Rattle.std.proofs.Common.{◌≡◌, None, ◌∙◌, subst}
+use Rattle.std.specs.Prelude.{IfNone, IfSome}
+use Rattle.tm_syntax.specs.declared.design.Design.{Design}
+use Rattle.tm_syntax.specs.Design.View.{design_tree}
+use Rattle.tm_syntax.specs.Design.Scope.{site}
 use Rattle.tm_locations.specs.Locations.{work_stmts}
-use Rattle.tm_runs.specs.Runs.{DoesRow}
-use Rattle.tm_runs.specs.Tables.{body_of}
+use Rattle.tm_runs.specs.Frames.{IsFrame}
+use Rattle.tm_machine.proofs.Working.{nothing_done}
 use Rattle.tm_machine.proofs.machine.Machine.perform_work.Goals as goal
 
-pub returns-in-Locals : goal.returns-in-Locals
-returns-in-Locals c =
-    subst (λ work. DoesRow (body_of c.args.self.now c.args.node.now.scope) (work_stmts work) c.args.course.now
-    c.perform_locals.new.course c.perform_locals.result) (sym c.in-Locals.is) c.perform_locals.ensures
+pub returns-then-is_idle : goal.returns-then-is_idle
+returns-then-is_idle c =
+    nothing_done c.args.self.now c.args.node.now.scope {A = Unit {0}} tt (work_stmts c.args.node.now.work)
+    (c.is_idle.ensures.idle c.if-is_idle.true) c.args.course.now
 
-pub returns-in-Stmts : goal.returns-in-Stmts
-returns-in-Stmts c =
-    subst (λ work. DoesRow (body_of c.args.self.now c.args.node.now.scope) (work_stmts work) c.args.course.now
-    c.perform_row.new.course c.perform_row.result) (sym c.in-Stmts.is) c.perform_row.ensures
+pub work_in-requires-clause-filled : goal.work_in-requires-clause-filled
+work_in-requires-clause-filled c = c.is_idle.ensures.filled c.if-is_idle.false
 
-pub returns-in-Assume : goal.returns-in-Assume
-returns-in-Assume c =
-    subst (λ work. DoesRow (body_of c.args.self.now c.args.node.now.scope) (work_stmts work) c.args.course.now
-    c.assume.new.course c.assume.result) (sym c.in-Assume.is) (c.assume.ensures c.in-Assume.field-0)
+pub work_in-requires-clause-frame : goal.work_in-requires-clause-frame
+work_in-requires-clause-frame c =
+    subst (λ (d : Design). IfSome c.frame-found.result (IsFrame d c.args.node.now.scope))
+    (c.self.invariant.0 ∙ c.self.view_is) c.frame-found.ensures.found
+
+pub work_in-requires-clause-none : goal.work_in-requires-clause-none
+work_in-requires-clause-none c =
+    subst (λ (d : Design). IfNone c.frame-found.result
+    (site (design_tree d) c.args.node.now.scope.instance ≡ None))
+    (c.self.invariant.0 ∙ c.self.view_is) c.frame-found.ensures.none

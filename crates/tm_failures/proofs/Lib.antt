@@ -1,0 +1,5 @@
+pub mod DriverFailures
+pub mod DriverPasses
+pub mod LevelFailures
+pub mod LevelPasses
+pub mod Ranks

@@ -1,0 +1,43 @@
+use Rattle.std.proofs.Common.{◌<◌, sym, subst}
+use Rattle.tm_dd.specs.Table.{Knows, level_of}
+use Rattle.tm_game.specs.Game.{GameData}
+use Rattle.tm_game.proofs.Extending.{extended_only, grows_from}
+use Rattle.tm_game.proofs.game.Game.make.Goals as goal
+
+pub make-requires-clause-lo_known : goal.make-requires-clause-lo_known
+make-requires-clause-lo_known c =
+    subst (λ (g : GameData). Knows g.diagrams.table c.args.lo) (sym c.self.view_is) c.requires.lo_known
+
+pub make-requires-clause-hi_known : goal.make-requires-clause-hi_known
+make-requires-clause-hi_known c =
+    subst (λ (g : GameData). Knows g.diagrams.table c.args.hi) (sym c.self.view_is) c.requires.hi_known
+
+pub make-requires-clause-lo_deeper : goal.make-requires-clause-lo_deeper
+make-requires-clause-lo_deeper c =
+    subst (λ (g : GameData). c.args.level < level_of g.diagrams.table c.args.lo) (sym c.self.view_is)
+    c.requires.lo_deeper
+
+pub make-requires-clause-hi_deeper : goal.make-requires-clause-hi_deeper
+make-requires-clause-hi_deeper c =
+    subst (λ (g : GameData). c.args.level < level_of g.diagrams.table c.args.hi) (sym c.self.view_is)
+    c.requires.hi_deeper
+
+pub make-requires-clause-level : goal.make-requires-clause-level
+make-requires-clause-level c =
+    subst (λ (g : GameData). c.args.level < g.diagrams.table.levels) (sym c.self.view_is) c.requires.level
+
+pub invariant_of-self : goal.invariant_of-self
+invariant_of-self c =
+    extended_only c.self.inside c.make.new.self c.self.invariant c.make.ensures.grows.extends
+
+pub invariant_of-self-2 : goal.invariant_of-self-2
+invariant_of-self-2 c =
+    extended_only c.self.inside c.make.new.self c.self.invariant c.make.ensures.grows.extends
+
+pub returns-in_err-id-clause-grows : goal.returns-in_err-id-clause-grows
+returns-in_err-id-clause-grows c =
+    grows_from c.self.inside _ c.self.view_is c.make.new.self c.self.inside.recent c.make.ensures.grows.extends
+
+pub returns-clause-grows : goal.returns-clause-grows
+returns-clause-grows c =
+    grows_from c.self.inside _ c.self.view_is c.make.new.self c.self.inside.recent c.make.ensures.grows.extends

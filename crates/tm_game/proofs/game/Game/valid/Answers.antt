@@ -1,0 +1,11 @@
+use Rattle.std.proofs.Common.{subst}
+use Rattle.tm_game.specs.Game.{GameData, IsOf, IsStates}
+use Rattle.tm_game.proofs.StateSets.{valid_told}
+use Rattle.tm_game.proofs.game.Game.valid.Goals as goal
+use Rattle.tm_syntax.specs.Design.{DesignTree}
+
+pub returns-clause-states : goal.returns-clause-states
+returns-clause-states c =
+    subst (λ (g : GameData). (d : DesignTree) → IsOf d g → IsStates d g.order g.diagrams.table
+    (λ s. Unit {0}) c.self.inside.made.steps.valid) c.self.view_is
+    (λ d of. valid_told c.self.inside c.self.invariant d of)

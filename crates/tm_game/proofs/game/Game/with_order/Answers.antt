@@ -1,0 +1,89 @@
+use Rattle.std.proofs.Common.{length, sym, ap, subst, arith}
+use Rattle.tm_blast.specs.Memory.{Made}
+use Rattle.tm_flat.specs.Flat.{flat_terms}
+use Rattle.tm_forcing.specs.Diagrams.{game_of}
+use Rattle.tm_game.proofs.Extending.{made_kept}
+use Rattle.tm_game.proofs.FlatGrowth.{flat_kept}
+use Rattle.tm_game.proofs.game.Game.with_order.Goals as goal
+use Rattle.tm_game.specs.Shape.{IsShape}
+use Rattle.tm_game.specs.Start.{state_bits_in}
+use Rattle.tm_levels.specs.Order.{IsOrder}
+use Rattle.tm_levels.proofs.Orders.{length_order}
+use Rattle.tm_making.specs.Passing.{ArePassing}
+use Rattle.tm_making.specs.Places.{ArePlaces}
+use Rattle.tm_making.specs.Setting.{IsReady, setting_of}
+
+pub manager-requires : goal.manager-requires
+manager-requires c =
+    omega (
+      arith,
+      c.requires.design.1.levels,
+      length_order (state_bits_in (flat_terms c.args.flat)) c.args.order.items c.requires.order,
+      ap length c.deref.ensures.value,
+    )
+
+pub prepare-requires-clause-design : goal.prepare-requires-clause-design
+prepare-requires-clause-design c = c.requires.design
+
+pub prepare-requires-clause-order : goal.prepare-requires-clause-order
+prepare-requires-clause-order c =
+    subst (IsOrder (state_bits_in (flat_terms c.args.flat))) (sym c.deref-2.ensures.value) c.requires.order
+
+pub game-requires-clause-terms : goal.game-requires-clause-terms
+game-requires-clause-terms c = c.in_ok-start.ensures.terms
+
+pub game-requires-clause-places : goal.game-requires-clause-places
+game-requires-clause-places c =
+    subst
+    (ArePlaces c.in_ok-start.start.encoding.terms (flat_terms c.args.flat).magic c.in_ok-start.start.encoding.first)
+    (sym c.deref-3.ensures.value) c.in_ok-start.ensures.places_are
+
+pub game-requires-clause-stutter : goal.game-requires-clause-stutter
+game-requires-clause-stutter c =
+    subst (ArePassing c.in_ok-start.start.encoding.terms c.in_ok-start.start.encoding.numbers 0)
+    (sym c.deref-4.ensures.value) c.in_ok-start.ensures.stutter_is
+
+pub game-requires-clause-idle : goal.game-requires-clause-idle
+game-requires-clause-idle c =
+    subst (ArePassing c.in_ok-start.start.encoding.terms c.in_ok-start.start.encoding.numbers 1)
+    (sym c.deref-5.ensures.value) c.in_ok-start.ensures.idle_is
+
+pub game-requires-clause-ready : goal.game-requires-clause-ready
+game-requires-clause-ready c =
+    subst (λ (made : Made). IsReady (setting_of c.in_ok-start.start.encoding) c.in_ok-dd.dd.table made)
+    (sym c.new-bits.ensures) (c.in_ok-start.ensures.ready c.in_ok-dd.dd.table
+    (omega (
+      arith,
+      c.in_ok-dd.ensures,
+      c.in_ok-start.ensures.shape.count,
+      ap length c.deref.ensures.value,
+      ap length c.deref-2.ensures.value,
+    )))
+
+pub returns-clause-of : goal.returns-clause-of
+returns-clause-of c = λ d can. record {
+  flat = flat_kept c.args.terms c.in_ok-start.start.encoding.terms c.in_ok-start.ensures.earlier d
+      (flat_terms c.args.flat) can.flat;
+  room = can.room;
+  small = can.small;
+  design = can.design;
+}
+
+pub invariant_of-result : goal.invariant_of-result
+invariant_of-result c = record {
+  shape = subst (IsShape (setting_of c.in_ok-start.start.encoding) (flat_terms c.args.flat)) c.deref-2.ensures.value
+      c.in_ok-start.ensures.shape;
+  terms = c.in_ok-start.ensures.terms;
+  levels = omega (
+    arith,
+    c.in_ok-dd.ensures,
+    ap length c.deref.ensures.value,
+    c.game.ensures.earlier.same_levels,
+    c.kept_ids.ensures.earlier.same_levels,
+  );
+  ready = c.kept_ids.ensures.ready;
+  steps = made_kept c.game.new.dd.table c.kept_ids.new.dd.table c.kept_ids.ensures.earlier
+      (setting_of c.in_ok-start.start.encoding) (flat_terms c.args.flat) c.in_ok-made.made c.in_ok-made.ensures.game;
+  answers = c.new.ensures c.kept_ids.new.dd.table (game_of c.kept_ids.new.dd.table c.in_ok-made.made.steps);
+  kept = c.in_ok-kept.ensures.kept;
+}

@@ -1,0 +1,47 @@
+use Rattle.std.proofs.Common.{sym, subst}
+use Rattle.tm_dd.specs.Table.{Knows}
+use Rattle.tm_ddops.specs.Connective.{larger, smaller}
+use Rattle.tm_ddops.specs.Manager.{Remembers}
+use Rattle.tm_ddops.specs.declared.operation.Operation.TheVariants as operation
+use Rattle.tm_game.specs.Game.{GameData}
+use Rattle.tm_game.proofs.Extending.{extended_only, grows_from}
+use Rattle.tm_game.proofs.game.Game.xor.Goals as goal
+
+pub xor-requires-clause-f : goal.xor-requires-clause-f
+xor-requires-clause-f c =
+    subst (λ (g : GameData). Knows g.diagrams.table c.args.f) (sym c.self.view_is) c.requires.f
+
+pub xor-requires-clause-g : goal.xor-requires-clause-g
+xor-requires-clause-g c =
+    subst (λ (g : GameData). Knows g.diagrams.table c.args.g) (sym c.self.view_is) c.requires.g
+
+pub invariant_of-self : goal.invariant_of-self
+invariant_of-self c =
+    extended_only c.self.inside c.xor.new.self c.self.invariant c.xor.ensures.grows.extends
+
+pub invariant_of-self-2 : goal.invariant_of-self-2
+invariant_of-self-2 c =
+    extended_only c.self.inside c.xor.new.self c.self.invariant c.xor.ensures.grows.extends
+
+pub returns-in_err-id-clause-grows : goal.returns-in_err-id-clause-grows
+returns-in_err-id-clause-grows c =
+    grows_from c.self.inside _ c.self.view_is c.xor.new.self c.self.inside.recent c.xor.ensures.grows.extends
+
+pub returns-clause-grows : goal.returns-clause-grows
+returns-clause-grows c =
+    grows_from c.self.inside _ c.self.view_is c.xor.new.self c.self.inside.recent c.xor.ensures.grows.extends
+
+pub returns-in_err-id-clause-again : goal.returns-in_err-id-clause-again
+returns-in_err-id-clause-again c = λ id h.
+    let never = c.in_err-id.ensures.again id
+    (subst
+    (λ (d : GameData). Remembers d.diagrams (operation.Xor (smaller c.args.f c.args.g) (larger c.args.f c.args.g)) id)
+    (sym c.self.view_is) h) in
+    absurd cc
+
+pub returns-clause-again : goal.returns-clause-again
+returns-clause-again c = λ id h.
+    c.in_ok-id.ensures.again id
+    (subst
+    (λ (d : GameData). Remembers d.diagrams (operation.Xor (smaller c.args.f c.args.g) (larger c.args.f c.args.g)) id)
+    (sym c.self.view_is) h)

@@ -1,0 +1,9 @@
+pub mod Called
+pub mod Good
+pub mod LeastBits
+pub mod Listed
+pub mod Permitted
+pub mod Restored
+pub mod Starts
+pub mod Valued
+pub mod Values

@@ -1,0 +1,9 @@
+pub mod Copied
+pub mod Game
+pub mod Inner
+pub mod Kept
+pub mod Layout
+pub mod Least
+pub mod Moves
+pub mod Shape
+pub mod Start

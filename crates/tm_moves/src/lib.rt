@@ -1,0 +1,12 @@
+//! Makes guarded updates of walks: the step of a process from a location.
+#![tactic(auto)]
+
+mod arrivals;
+mod begin;
+mod finish;
+mod mover;
+mod next;
+mod process;
+mod rests;
+
+pub use mover::Mover;

@@ -1,0 +1,12 @@
+pub mod Alternatives
+pub mod Arguments
+pub mod Bodies
+pub mod Chosen
+pub mod Driven
+pub mod Fits
+pub mod Memory
+pub mod Rests
+pub mod Room
+pub mod Sums
+pub mod Targets
+pub mod Wired
