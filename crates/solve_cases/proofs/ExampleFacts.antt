@@ -46,6 +46,7 @@ follows_of s t e reduced two = record {
   extends = record {
     known = λ id known. let r = e.rises in omega (arith, known);
     same = λ id known. λ i. λ u. e.same_meaning id known (assignment (high u ∷ low u ∷ [])) i;
+    of = λ d is. is;
   };
   exact = exact_of t reduced (e.same_levels ∙ two);
 }

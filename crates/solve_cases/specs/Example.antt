@@ -44,7 +44,11 @@ example_game = game_of four_states 2 2 four
 
 -- an id of a store of two levels means the states at whose bits its function is true
 abbrev pub example_ids : Table → Ids
-example_ids t = record { knows = Knows t; means = λ id s. means t id (assignment (high s ∷ low s ∷ [])) }
+example_ids t = record {
+  knows = Knows t;
+  means = λ id s. means t id (assignment (high s ∷ low s ∷ []));
+  of = λ d. Unit {0};
+}
 
 and_rises : (a b a' b' : Bool) → (a ≡ true → a' ≡ true) → (b ≡ true → b' ≡ true) → (a && b) ≡ true → (a' && b') ≡ true
 and_rises true b a' b' f g e = and_here a' b' (f refl) (g e)

@@ -2,14 +2,14 @@
 
 /// The formats of a certificate. The first one has no order.
 #[derive(Clone, Copy, PartialEq, Eq, Debug)]
-pub(crate) enum Format {
+pub enum Format {
     First,
     Second,
 }
 
 /// Whose certificate it is.
 #[derive(Clone, Copy, PartialEq, Eq, Debug)]
-pub(crate) enum Side {
+pub enum Side {
     Driver,
     Environment,
 }

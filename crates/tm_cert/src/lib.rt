@@ -3,7 +3,7 @@
 
 mod cert;
 mod goals;
-mod head;
+pub mod head;
 mod levels;
 mod nodes;
 mod order;

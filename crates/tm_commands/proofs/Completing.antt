@@ -15,20 +15,21 @@ use Rattle.tm_cparse.specs.Faults.{IsDriverFile, HasFault}
 use Rattle.tm_cparse.proofs.Files.{file_no_fault}
 use Rattle.tm_cparse.proofs.OneFault.{one_fault}
 use Rattle.tm_commands.specs.declared.ending.Ending.{Ending}
-use Rattle.tm_commands.specs.declared.ending.Ending.TheVariants.{BadText}
+use Rattle.tm_commands.specs.declared.ending.Ending.TheVariants.{Play, BadText}
 use Rattle.tm_commands.specs.declared.ending.Bad.TheVariants.{Driver, Choices}
-use Rattle.tm_commands.specs.Script.{ScriptData}
+use Rattle.tm_play.specs.declared.ending.PlayEnd.{PlayEnd}
+use Rattle.tm_play.specs.Script.{ScriptData}
 use Rattle.tm_commands.specs.Words.{Command, run, generate, migrate}
-use Rattle.tm_commands.specs.Choices.{reading_of}
+use Rattle.tm_play.specs.Choices.{reading_of}
 use Rattle.tm_front.specs.Specification.{IsDesignText}
 use Rattle.tm_commands.specs.Inputs.{TellsDesign, TellsFault, TellsAssume, TellsBlocks, TellsBadDriver}
 use Rattle.tm_commands.specs.Inputs.{TellsScript, TellsBadLine, faulty_spec, NoDesign, no_specification, assuming_spec}
 use Rattle.tm_commands.specs.Inputs.{NoBlocks, long_driver, bad_driver, NoScript, long_choices, bad_choices}
 use Rattle.tm_commands.specs.Run.{Loads, Refused, no_design, no_blocks, no_script, RunEnds, refused, ended}
 use Rattle.tm_commands.specs.Commands.{CommandEnds}
-use Rattle.tm_commands.specs.Played.{Ends}
+use Rattle.tm_play.specs.Played.{Ends}
 use Rattle.tm_commands.proofs.Migrating.{one_migrate_end}
-use Rattle.tm_commands.proofs.OneEnd.{one_end}
+use Rattle.tm_play.proofs.OneEnd.{one_end}
 use Rattle.tm_commands.proofs.Telling.{not_longer, one_no_specification, one_text}
 use Rattle.tm_commands.proofs.Texts.{one_design, design_no_fault, design_names}
 
@@ -196,7 +197,7 @@ module _ (contents : List ℕ → Option (List ℕ)) where
 
     -- two plays of the files are one
     same_end : (d e : DesignTree) (bs cs : List BlockTree) (c f : ScriptData) (text other_text : List ℕ)
-        (one other : Ending) →
+        (one other : PlayEnd) →
         Loads contents spec driver choices d bs c → Ends d bs c text one → Loads contents spec driver choices e cs f →
         Ends e cs f other_text other → one ≡ other
     same_end d e bs cs c f text other_text one other p ends q others =
@@ -219,13 +220,13 @@ module _ (contents : List ℕ → Option (List ℕ)) where
     one_run_end : (text other_text : List ℕ) (one other : Ending) → RunEnds contents spec driver choices text one →
         RunEnds contents spec driver choices other_text other → one ≡ other
     one_run_end text other_text one other (refused p) (refused q) = one_refusal one other p q
-    one_run_end text other_text one other (refused p) (ended {d = d} {bs = bs} {c = c} loads ends) =
+    one_run_end text other_text one _ (refused p) (ended {d = d} {bs = bs} {c = c} loads ends) =
         absurd (not_refused d bs c one loads p)
-    one_run_end text other_text one other (ended {d = d} {bs = bs} {c = c} loads ends) (refused q) =
+    one_run_end text other_text _ other (ended {d = d} {bs = bs} {c = c} loads ends) (refused q) =
         absurd (not_refused d bs c other loads q)
-    one_run_end text other_text one other (ended {d = d} {bs = bs} {c = c} p ends)
-        (ended {d = e} {bs = cs} {c = f} q others) =
-        same_end d e bs cs c f text other_text one other p ends q others
+    one_run_end text other_text _ _ (ended {d = d} {bs = bs} {c = c} {end = one} p ends)
+        (ended {d = e} {bs = cs} {c = f} {end = other} q others) =
+        ap Play (same_end d e bs cs c f text other_text one other p ends q others)
 
   -- a command has one end
   pub one_command_end : (command : Option Command) (text other_text : List ℕ) (one other : Ending) →

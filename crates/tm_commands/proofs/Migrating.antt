@@ -18,7 +18,7 @@ use Rattle.tm_cert.proofs.Texts.{judge_text-complete}
 use Rattle.tm_shape.specs.Shape.{shape_of}
 use Rattle.tm_commands.specs.declared.ending.Bad.TheVariants.{Cert}
 use Rattle.tm_commands.specs.declared.ending.Ending.{Ending}
-use Rattle.tm_commands.specs.declared.ending.Ending.TheVariants.{Usage, Faulty, Played, Stopped, Generated, Migrated}
+use Rattle.tm_commands.specs.declared.ending.Ending.TheVariants.{Usage, Faulty, Play, Generated, Migrated}
 use Rattle.tm_commands.specs.declared.ending.Ending.TheVariants.{BadText, Unbuilt}
 use Rattle.tm_commands.specs.declared.ending.Failure.{Failure}
 use Rattle.tm_commands.specs.declared.ending.Failure.TheVariants.{ReadFault, WriteFault, Memory}
@@ -99,8 +99,7 @@ module _ {tells : Bool} {contents : List ℕ → Option (List ℕ)} {spec : List
 pub faulty_spec_refuses : (cert : List ℕ) (ending : Ending) → IsFaulty ending → MigrateRefuses cert ending
 faulty_spec_refuses cert (Faulty f) faulty = refuses_spec
 faulty_spec_refuses cert Usage faulty = elim faulty [ ]
-faulty_spec_refuses cert (Played n) faulty = elim faulty [ ]
-faulty_spec_refuses cert (Stopped n why) faulty = elim faulty [ ]
+faulty_spec_refuses cert (Play end) faulty = elim faulty [ ]
 faulty_spec_refuses cert (Generated n) faulty = elim faulty [ ]
 faulty_spec_refuses cert Migrated faulty = elim faulty [ ]
 faulty_spec_refuses cert (BadText file why) faulty = elim faulty [ ]

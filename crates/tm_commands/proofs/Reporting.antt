@@ -20,7 +20,7 @@ use Rattle.tm_commands.specs.Inner.Stopping.{IsSinkFailure}
 use Rattle.tm_commands.specs.Inner.Obeying.{PutBefore, Obeys}
 use Rattle.tm_commands.proofs.Completing.{one_command_end}
 use Rattle.tm_commands.proofs.Loading.{rose_later}
-use Rattle.tm_commands.proofs.Playing.{cut_more}
+use Rattle.tm_play.proofs.Putting.{cut_more}
 
 -- all that is promised of an outcome
 pub record Keeps (command : Option Command) (old new : FilesData) (out after : SinkData)

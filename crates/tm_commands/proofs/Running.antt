@@ -7,23 +7,23 @@ use Rattle.tm_base.specs.Sink.{AppendsPrefix}
 use Rattle.tm_syntax.specs.Design.{DesignTree}
 use Rattle.tm_cir.specs.Tree.{BlockTree}
 use Rattle.tm_commands.specs.declared.ending.Ending.{Ending}
-use Rattle.tm_commands.specs.declared.ending.Ending.TheVariants.{Usage}
+use Rattle.tm_commands.specs.declared.ending.Ending.TheVariants.{Usage, Play}
 use Rattle.tm_commands.specs.declared.ending.Failure.{Failure}
 use Rattle.tm_commands.specs.declared.ending.Stop.{Stop}
 use Rattle.tm_commands.specs.declared.ending.Stop.TheVariants as stops_at
 use Rattle.tm_commands.specs.declared.ending.Failure.TheVariants.{ReadFault, WriteFault, Memory}
-use Rattle.tm_commands.specs.Script.{ScriptData}
+use Rattle.tm_play.specs.Script.{ScriptData}
 use Rattle.tm_commands.specs.Words.{Command, run, generate, migrate}
 use Rattle.tm_commands.specs.World.{FilesData, SinkData, OnlyReads, OnlyTouches}
-use Rattle.tm_commands.specs.Played.{Ends, IsPart, plays, stops, begins_badly}
+use Rattle.tm_play.specs.declared.ending.PlayEnd.{PlayEnd}
+use Rattle.tm_play.specs.Played.{Ends, IsPart}
 use Rattle.tm_commands.specs.Inputs.{RefusesOne}
-use Rattle.tm_commands.specs.Run.{Loads, Refused, refused, ended, IsRunPart, some_lines, no_line, RunMayEnd, may_refuse}
-use Rattle.tm_commands.specs.Run.{may_play, may_stop}
+use Rattle.tm_commands.specs.Run.{Loads, Refused, refused, ended, IsRunPart, some_lines, no_line, may_refuse, may_play}
 use Rattle.tm_commands.specs.Commands.{read_names, write_names, CommandEnds, IsCommandPart, MayEnd, CommandLeaves}
-use Rattle.tm_commands.specs.Headline.{AreTold, IsShown, IsLongShown, Leaves}
+use Rattle.tm_commands.specs.Headline.{AreTold, IsShown, Leaves}
 use Rattle.tm_commands.specs.Inner.Stopping.{StopsBy, stop_outcome, IsReadFailure, IsSinkFailure, IsRefusal}
 use Rattle.tm_commands.specs.Inner.Obeying.{PutBefore, Obeys}
-use Rattle.tm_commands.proofs.Playing.{cut_nothing}
+use Rattle.tm_play.proofs.Putting.{cut_nothing}
 
 -- nothing was put
 pub grows_none : (before : List ℕ) → (text : List ℕ) × (before ≡ before ++ text)
@@ -90,22 +90,6 @@ unread_words_obey command files out (Err failure) failed =
       files = record { touched = touches_none (read_names command) (write_names command) files; left = λ tells. tt };
       no_fewer_faults = omega arith;
     })
-
--- the end of a play is one that `run` may have
-play_may : (names : List (List ℕ)) (d : DesignTree) (bs : List BlockTree) (c : ScriptData) (text : List ℕ)
-    (ending : Ending) → Ends d bs c text ending → RunMayEnd names ending
-play_may names d bs c text ending (plays reached) = may_play
-play_may names d bs c text ending (stops reached at why) = may_stop
-play_may names d bs c text ending (begins_badly none) = may_stop
-
--- the end of a play is no text that is too long
-play_not_long : (old new : FilesData) (d : DesignTree) (bs : List BlockTree) (c : ScriptData) (text : List ℕ)
-    (ending : Ending) → Ends d bs c text ending → IsLongShown old new ending
-play_not_long old new d bs c text ending (plays reached) = record { specification = λ is. cc; file = λ name is. cc }
-play_not_long old new d bs c text ending (stops reached at why) =
-    record { specification = λ is. cc; file = λ name is. cc }
-play_not_long old new d bs c text ending (begins_badly none) =
-    record { specification = λ is. cc; file = λ name is. cc }
 
 -- some first part of a text was put, so what was put stands behind what stood
 pub grows_part : (text before now : List ℕ) → AppendsPrefix text before now →
@@ -218,25 +202,34 @@ module _ (spec driver choices : List ℕ) (old new : FilesData) where
     touches_run : OnlyReads old new → OnlyTouches (spec ∷ driver ∷ choices ∷ []) [] old new
     touches_run = touches_read (spec ∷ driver ∷ choices ∷ []) [] old new (λ is. cc)
 
+    -- the choices were played to an end
+    ended_obeys : (end : PlayEnd) (text : List ℕ) → OnlyReads old new →
+        (IsTrue old.tells → Loads old.contents spec driver choices d bs c) → Ends d bs c text end →
+        (IsTrue out.tells → after.written ≡ out.written ++ text) → out.faults ≤ after.faults →
+        Obeys (Some (run spec driver choices)) old new out after (Ok (Play end))
+    ended_obeys end text reads loads ends put faults = record {
+      ends = λ told. (text, ended (loads told) ends, put);
+      cut = λ told sink. tt;
+      grows = λ sink. (text, put sink);
+      may_end = may_play;
+      shown = tt;
+      long = record { specification = λ is. cc; file = λ name is. cc };
+      files = record { touched = touches_run reads; left = λ tells. reads.same_contents };
+      no_fewer_faults = faults;
+    }
+
     -- the choices were played, to an end or to a failure
     pub played_obeys : (outcome : Result Ending Failure) → OnlyReads old new →
         (IsTrue old.tells → Loads old.contents spec driver choices d bs c) →
-        IfOk outcome (λ ending. (text : List ℕ) × Ends d bs c text ending
+        IfOk outcome (λ ending. (end : PlayEnd) × (text : List ℕ) × (ending ≡ Play end) × Ends d bs c text end
         × (IsTrue out.tells → after.written ≡ out.written ++ text)) →
         OnErr outcome ((text : List ℕ) × IsPart d bs c text
         × (IsTrue out.tells → AppendsPrefix text out.written after.written)) →
         IfErr outcome (IsSinkFailure out after) → out.faults ≤ after.faults →
         Obeys (Some (run spec driver choices)) old new out after outcome
-    played_obeys (Ok ending) reads loads ends cut failed faults = record {
-      ends = λ told. (ends.0, ended (loads told) ends.1, ends.2);
-      cut = λ told sink. tt;
-      grows = λ sink. (ends.0, ends.2 sink);
-      may_end = play_may (spec ∷ driver ∷ choices ∷ []) d bs c ends.0 ending ends.1;
-      shown = tt;
-      long = play_not_long old new d bs c ends.0 ending ends.1;
-      files = record { touched = touches_run reads; left = λ tells. reads.same_contents };
-      no_fewer_faults = faults;
-    }
+    played_obeys (Ok ending) reads loads ends cut failed faults =
+        subst (λ (e : Ending). Obeys (Some (run spec driver choices)) old new out after (Ok e)) (sym ends.2)
+        (ended_obeys ends.0 ends.1 reads loads ends.3 ends.4 faults)
     played_obeys (Err failure) reads loads ends cut failed faults = record {
       ends = λ told. tt;
       cut = λ told sink. put_part (loads told) cut.0 failure cut.1 (cut.2 sink) failed;

@@ -1,5 +1,5 @@
 -- What the file of a specification tells, from what was read of its text.
-use Rattle.std.proofs.Common.{◌≡◌, ℕ, ◌≤◌, Bool, true, false, Some, List, [], ◌∷◌, length, refl, sym, subst, ◌∙◌, arith}
+use Rattle.std.proofs.Common.{◌≡◌, ℕ, ◌≤◌, Bool, true, Some, List, [], ◌∷◌, length, refl, sym, subst, ◌∙◌, arith}
 use Rattle.std.specs.Prelude.{IsTrue}
 use Rattle.tm_syntax.specs.declared.fault.Faulty.{Faulty as Fault}
 use Rattle.tm_syntax.specs.declared.fault.FrontError.{FrontError}
@@ -10,7 +10,7 @@ use Rattle.tm_syntax.specs.Design.{DesignTree}
 use Rattle.tm_syntax.specs.Faults.{FaultOf}
 use Rattle.tm_allowed.specs.Assuming.{has_assume}
 use Rattle.tm_commands.specs.declared.ending.Ending.{Ending}
-use Rattle.tm_commands.specs.declared.ending.Ending.TheVariants.{Usage, Faulty, Played, Stopped, Generated, Migrated}
+use Rattle.tm_commands.specs.declared.ending.Ending.TheVariants.{Usage, Faulty, Play, Generated, Migrated}
 use Rattle.tm_commands.specs.declared.ending.Ending.TheVariants.{BadText, Unbuilt}
 use Rattle.tm_commands.specs.declared.ending.Stop.{Stop}
 use Rattle.tm_commands.specs.World.{FilesData}
@@ -18,24 +18,9 @@ use Rattle.tm_commands.specs.Headline.{long_fault}
 use Rattle.tm_front.specs.Specification.{IsDesignText, IsMemoryOr}
 use Rattle.tm_commands.specs.Inputs.{NoSpecification, faulty_spec, NoDesign, assuming_spec, RefusesOne}
 use Rattle.tm_commands.specs.Inputs.{faulty_one, unbuilt_one}
-use Rattle.tm_commands.specs.Inner.Advance.{IsPlayable}
 use Rattle.tm_commands.specs.Inner.Reading.{IsRead, IsFaulty, refusal_of}
 use Rattle.tm_commands.specs.Inner.Stopping.{StopsBy, IsReadFailure, IsRefusal}
-use Rattle.tm_allowed.proofs.Plain.{plain_tree}
-use Rattle.tm_commands.proofs.Numbering.{some_goal, few_goals, few_processes}
 use Rattle.tm_commands.proofs.Texts.{not_long}
-
--- a design without the word `assume` in its text can be played
-pub playable_text : (text : List ℕ) (tokens : List Token) (d : DesignTree) → IsDesignText text tokens d →
-    has_assume tokens ≡ false → IsPlayable d
-playable_text text tokens d is without = record {
-  sound = is.sound;
-  of_text = record { text = text; tokens = tokens; are_tokens = is.are_tokens; is_tree = is.is_tree };
-  plain = plain_tree text tokens d.spec is.is_tree without;
-  some_goal = some_goal d is.sound;
-  few_goals = few_goals d is.sound;
-  few_processes = few_processes d is.sound;
-}
 
 module _ (old new : FilesData) (spec text read : List ℕ) (told : IsTrue old.tells → old.contents spec ≡ Some text)
     (short : length text ≤ specification_limit) (same : read ≡ text) where
@@ -98,8 +83,7 @@ assume_refuses old new spec d assumes read with_word = record {
 pub faulty_refuses : (spec : List ℕ) (ending : Ending) → IsFaulty ending → RefusesOne (spec ∷ []) ending
 faulty_refuses spec (Faulty f) faulty = faulty_one {file = spec} (0, omega arith, refl)
 faulty_refuses spec Usage faulty = elim faulty [ ]
-faulty_refuses spec (Played n) faulty = elim faulty [ ]
-faulty_refuses spec (Stopped n why) faulty = elim faulty [ ]
+faulty_refuses spec (Play end) faulty = elim faulty [ ]
 faulty_refuses spec (Generated n) faulty = elim faulty [ ]
 faulty_refuses spec Migrated faulty = elim faulty [ ]
 faulty_refuses spec (BadText file why) faulty = elim faulty [ ]

@@ -7,7 +7,7 @@ use Rattle.std.specs.List.{list_all}
 use Rattle.std.specs.Option.{option_map, option_and_then}
 use Rattle.std.specs.Str.{bytes_eq}
 use Rattle.std.proofs.lemmas.Bool.{ltb-false}
-use Rattle.tm_commands.specs.Numbers.{digits_after}
+use Rattle.tm_play.specs.Numbers.{digits_after}
 use Rattle.tm_commands.specs.Words.{Command, run, generate, migrate, is_filled, positional_words, without_options}
 use Rattle.tm_commands.specs.Words.{most_registers, registers_of, run_of, generate_of, migrate_of, command_of}
 use Rattle.tm_commands.specs.Words.{command_with}

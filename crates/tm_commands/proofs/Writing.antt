@@ -25,7 +25,7 @@ use Rattle.tm_commands.specs.Inner.Stopping.{IsWriteFailure}
 use Rattle.tm_commands.specs.Inner.Reading.{IsMigration}
 use Rattle.tm_commands.specs.Inner.Obeying.{PutBefore, Obeys}
 use Rattle.tm_commands.proofs.Loading.{reads_none}
-use Rattle.tm_commands.proofs.Playing.{cut_nothing}
+use Rattle.tm_play.proofs.Putting.{cut_nothing}
 use Rattle.tm_commands.proofs.Running.{grows_none, nothing_put}
 
 -- a write behind reads changes no other file

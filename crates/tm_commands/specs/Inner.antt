@@ -1,4 +1,3 @@
-pub mod Advance
 pub mod Obeying
 pub mod Reading
 pub mod Splitting

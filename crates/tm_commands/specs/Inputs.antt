@@ -21,8 +21,8 @@ use Rattle.tm_commands.specs.declared.ending.Ending.{Ending}
 use Rattle.tm_commands.specs.declared.ending.Ending.TheVariants.{Faulty, BadText, Unbuilt}
 use Rattle.tm_commands.specs.declared.ending.Bad.{Bad}
 use Rattle.tm_commands.specs.declared.ending.Bad.TheVariants.{TooLong, Driver, Cert, Choices}
-use Rattle.tm_commands.specs.Script.{ScriptData}
-use Rattle.tm_commands.specs.Choices.{reading_of}
+use Rattle.tm_play.specs.Script.{ScriptData}
+use Rattle.tm_play.specs.Choices.{reading_of}
 
 -- the file tells this text
 abbrev pub Tells : (List ℕ → Option (List ℕ)) → List ℕ → List ℕ → Type 0

@@ -1,14 +1,10 @@
-pub mod Choices
 pub mod Commands
 pub mod Headline
 pub mod Inner
 pub mod Inputs
 pub mod Migrate
-pub mod Numbers
-pub mod Played
 pub mod Report
 pub mod Run
-pub mod Script
 pub mod Status
 pub mod Words
 pub mod World

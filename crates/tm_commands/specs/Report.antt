@@ -1,7 +1,5 @@
 -- The lines of reports. A line ends in a line feed.
-use Rattle.std.specs.Prelude.{ℕ, Option, None, Some, Result, Ok, Err, List, [], ◌∷◌, ◌++◌, codes, slice_get}
-use Rattle.std.specs.Option.{option_map_or}
-use Rattle.std.specs.List.{flat_map, zip}
+use Rattle.std.specs.Prelude.{ℕ, Result, Ok, Err, List, [], ◌∷◌, ◌++◌, codes}
 use Rattle.std.specs.Fmt.{decimal}
 use Rattle.tm_base.specs.declared.place.Place.{Place}
 use Rattle.tm_syntax.specs.declared.fault.FaultKind.{FaultKind}
@@ -11,67 +9,18 @@ use Rattle.tm_syntax.specs.declared.fault.Quantity.TheVariants as quantity
 use Rattle.tm_syntax.specs.declared.fault.Detail.{Detail}
 use Rattle.tm_syntax.specs.declared.fault.Detail.TheVariants as detail
 use Rattle.tm_syntax.specs.declared.fault.Faulty.{Faulty as Fault}
-use Rattle.tm_syntax.specs.declared.design.Var.{Var}
-use Rattle.tm_syntax.specs.declared.design.Item.{Item}
-use Rattle.tm_syntax.specs.Design.{DesignTree}
-use Rattle.tm_sem.specs.State.{StateData}
-use Rattle.tm_sem.specs.declared.state.Move.{Move}
-use Rattle.tm_sem.specs.declared.state.Move.TheVariants as moves
 use Rattle.tm_cparse.specs.declared.bad.BadDriver.{BadDriver}
 use Rattle.tm_cparse.specs.declared.bad.BadDriver.TheVariants as driver
 use Rattle.tm_cert.specs.declared.refusal.BadCert.{BadCert}
 use Rattle.tm_cert.specs.declared.refusal.BadCert.TheVariants as cert
 use Rattle.tm_commands.specs.declared.ending.Bad.{Bad}
 use Rattle.tm_commands.specs.declared.ending.Bad.TheVariants.{TooLong, Driver, Cert, Choices}
-use Rattle.tm_commands.specs.declared.ending.StopWhy.{StopWhy}
-use Rattle.tm_commands.specs.declared.ending.StopWhy.TheVariants.{Error, Forbidden, Illegal}
+use Rattle.tm_play.specs.Report.{end_text}
 use Rattle.tm_commands.specs.declared.ending.Ending.{Ending}
-use Rattle.tm_commands.specs.declared.ending.Ending.TheVariants.{Usage, Faulty, Played, Stopped, Generated, Migrated}
+use Rattle.tm_commands.specs.declared.ending.Ending.TheVariants.{Usage, Faulty, Play, Generated, Migrated}
 use Rattle.tm_commands.specs.declared.ending.Ending.TheVariants.{BadText, Unbuilt}
 use Rattle.tm_commands.specs.declared.ending.Failure.{Failure}
 use Rattle.tm_commands.specs.declared.ending.Failure.TheVariants.{ReadFault, WriteFault, Memory}
-
--- `PATH=VALUE `
-abbrev pub var_text : Var × ℕ → List ℕ
-var_text v = v.0.path ++ codes "=" ++ decimal v.1 ++ codes " "
-
--- `PATH@NUMBER `
-abbrev pub place_text : Item × ℕ → List ℕ
-place_text p = p.0.path ++ codes "@" ++ decimal p.1 ++ codes " "
-
--- a state: its variables, the locations of its processes, and who moved last
-abbrev pub state_text : DesignTree → StateData → List ℕ
-state_text d s =
-    flat_map var_text (zip d.vars s.values) ++ flat_map place_text (zip d.processes s.places)
-    ++ codes "last=" ++ decimal s.last
-
--- the path of the item of this number
-abbrev pub path_at : List Item → ℕ → List ℕ
-path_at items k = option_map_or (λ i. i.path) (slice_get items k) []
-
--- the arguments of a call
-abbrev pub args_text : List ℕ → List ℕ
-args_text [] = []
-args_text (a ∷ others) = decimal a ++ flat_map (λ b. codes ", " ++ decimal b) others
-
--- a move
-abbrev pub move_text : DesignTree → Move → List ℕ
-move_text d moves.Stutter = codes "stutter"
-move_text d (moves.Process p) = codes "process " ++ path_at d.processes p
-move_text d moves.Idle = codes "driver idle"
-move_text d (moves.Leave p) = codes "driver leave " ++ path_at d.processes p
-move_text d (moves.Call t args) = codes "driver call " ++ path_at d.tasks t ++ codes "(" ++ args_text args ++ codes ")"
-
--- how a state was reached: by a move, or as the initial one
-abbrev pub reached_text : DesignTree → Option Move → List ℕ
-reached_text d None = codes "start"
-reached_text d (Some m) = move_text d m
-
--- the line of a state of a play: its number, how it was reached, itself, and its pending goal
-abbrev pub state_line : DesignTree → ℕ → Option Move → StateData → ℕ → List ℕ
-state_line d n m s g =
-    decimal n ++ codes " " ++ reached_text d m ++ codes " " ++ state_text d s
-    ++ codes " goal=" ++ decimal g ++ codes "\n"
 
 -- `F` and the number of a kind of faults
 abbrev pub kind_text : FaultKind → List ℕ
@@ -140,12 +89,6 @@ bad_text (Driver bad) = bad_driver_text bad
 bad_text (Cert bad) = bad_cert_text bad
 bad_text (Choices n) = codes "line " ++ decimal n
 
--- why a play stops
-abbrev pub why_text : StopWhy → List ℕ
-why_text Error = codes "error"
-why_text Forbidden = codes "forbidden"
-why_text Illegal = codes "illegal"
-
 -- the usage text
 abbrev pub usage_text : List ℕ
 usage_text =
@@ -160,8 +103,7 @@ usage_text =
 abbrev pub ending_text : Ending → List ℕ
 ending_text Usage = usage_text
 ending_text (Faulty f) = fault_line f
-ending_text (Played n) = codes "played " ++ decimal n ++ codes "\n"
-ending_text (Stopped step why) = codes "stopped " ++ decimal step ++ codes " " ++ why_text why ++ codes "\n"
+ending_text (Play end) = end_text end
 ending_text (Generated registers) = codes "generated " ++ decimal registers ++ codes "\n"
 ending_text Migrated = codes "migrated\n"
 ending_text (BadText file why) = codes "bad " ++ file ++ codes " " ++ bad_text why ++ codes "\n"

@@ -3,11 +3,11 @@ use Rattle.std.specs.Prelude.{ℕ, Option, List, []}
 use Rattle.tm_syntax.specs.Design.{DesignTree}
 use Rattle.tm_cir.specs.Tree.{BlockTree}
 use Rattle.tm_commands.specs.declared.ending.Ending.{Ending}
-use Rattle.tm_commands.specs.declared.ending.Ending.TheVariants.{Played, Stopped}
-use Rattle.tm_commands.specs.declared.ending.StopWhy.{StopWhy}
-use Rattle.tm_commands.specs.Script.{ScriptData}
+use Rattle.tm_commands.specs.declared.ending.Ending.TheVariants.{Play}
+use Rattle.tm_play.specs.declared.ending.PlayEnd.{PlayEnd}
+use Rattle.tm_play.specs.Script.{ScriptData}
 use Rattle.tm_commands.specs.Inputs.{TellsDesign, TellsBlocks, TellsScript, NoDesign, NoBlocks, NoScript, RefusesOne}
-use Rattle.tm_commands.specs.Played.{Ends, IsPart}
+use Rattle.tm_play.specs.Played.{Ends, IsPart}
 
 -- the files of `run` tell a design, blocks, and choices
 pub record Loads
@@ -32,9 +32,9 @@ pub data RunEnds
     (contents : List ℕ → Option (List ℕ)) (spec driver choices : List ℕ) : List ℕ → Ending → Type 0 where
   refused : {ending : Ending} →
       Refused contents spec driver choices ending → RunEnds contents spec driver choices [] ending
-  ended : {d : DesignTree} {bs : List BlockTree} {c : ScriptData} {text : List ℕ} {ending : Ending} →
-      Loads contents spec driver choices d bs c → Ends d bs c text ending →
-      RunEnds contents spec driver choices text ending
+  ended : {d : DesignTree} {bs : List BlockTree} {c : ScriptData} {text : List ℕ} {end : PlayEnd} →
+      Loads contents spec driver choices d bs c → Ends d bs c text end →
+      RunEnds contents spec driver choices text (Play end)
 
 -- the lines of the states of the play that `run` has put so far
 pub data IsRunPart (contents : List ℕ → Option (List ℕ)) (spec driver choices : List ℕ) : List ℕ → Type 0 where
@@ -45,5 +45,4 @@ pub data IsRunPart (contents : List ℕ → Option (List ℕ)) (spec driver choi
 -- the ends that `run` may have, whatever its files hold: that of a play, or that one of these files is refused
 pub data RunMayEnd (names : List (List ℕ)) : Ending → Type 0 where
   may_refuse : {ending : Ending} → RefusesOne names ending → RunMayEnd names ending
-  may_play : {n : ℕ} → RunMayEnd names (Played n)
-  may_stop : {n : ℕ} {why : StopWhy} → RunMayEnd names (Stopped n why)
+  may_play : {end : PlayEnd} → RunMayEnd names (Play end)

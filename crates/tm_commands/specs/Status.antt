@@ -7,13 +7,14 @@ use Rattle.tm_commands.specs.declared.ending.Failure.TheVariants as failures
 use Rattle.tm_commands.specs.declared.status.Status.{Status}
 use Rattle.tm_commands.specs.declared.status.Status.TheVariants.{Played, Usage, Faulty, ReadFault, WriteFault, Memory}
 use Rattle.tm_commands.specs.declared.status.Status.TheVariants.{BadText, Stopped, Generated, Migrated, Unbuilt}
+use Rattle.tm_play.specs.declared.ending.PlayEnd.TheVariants as plays
 
 -- the end of a command, or the failure that came before it
 abbrev pub outcome_of : Status → Result Ending Failure
 outcome_of Usage = Ok endings.Usage
 outcome_of (Faulty f) = Ok (endings.Faulty f)
-outcome_of (Played n) = Ok (endings.Played n)
-outcome_of (Stopped step why) = Ok (endings.Stopped step why)
+outcome_of (Played n) = Ok (endings.Play (plays.Played n))
+outcome_of (Stopped step why) = Ok (endings.Play (plays.Stopped step why))
 outcome_of (Generated registers) = Ok (endings.Generated registers)
 outcome_of Migrated = Ok endings.Migrated
 outcome_of (BadText file why) = Ok (endings.BadText file why)

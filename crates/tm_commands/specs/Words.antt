@@ -7,7 +7,7 @@ use Rattle.std.specs.Option.{option_map, option_and_then}
 use Rattle.std.specs.Str.{bytes_eq}
 use Rattle.tm_commands.specs.declared.words.command.Command.{Command as Words}
 use Rattle.tm_commands.specs.declared.words.command.Command.TheVariants as words
-use Rattle.tm_commands.specs.Numbers.{digits_after}
+use Rattle.tm_play.specs.Numbers.{digits_after}
 
 -- a command, with the names of its files
 pub data Command : Type 0 where

@@ -4,6 +4,7 @@ use std::alloc::AllocError;
 use tm_base::Name;
 use tm_cert::BadCert;
 use tm_cparse::BadDriver;
+use tm_play::PlayEnd;
 use tm_syntax::fault::Faulty;
 
 /// Why a text has no reading.
@@ -18,17 +19,6 @@ pub enum Bad {
     Choices(u64),
 }
 
-/// Why a play stops at a step.
-#[derive(Clone, Copy, Debug, PartialEq, Eq)]
-pub enum StopWhy {
-    /// An assertion fails.
-    Error,
-    /// The driver's answer is not allowed.
-    Forbidden,
-    /// The environment's part is not legal.
-    Illegal,
-}
-
 /// How a command ends: what the words and the files determine. A name is a file's.
 #[derive(Drop)]
 pub enum Ending {
@@ -36,10 +26,8 @@ pub enum Ending {
     Usage,
     /// The specification has this fault.
     Faulty(Faulty),
-    /// The choices were read to their end and are a play of so many steps.
-    Played(u64),
-    /// The step of this number has no next state.
-    Stopped { step: u64, why: StopWhy },
+    /// The choices were played to this end.
+    Play(PlayEnd),
     /// The specification of so many registers was generated.
     Generated(u32),
     /// The certificate was written in format 2.

@@ -4,14 +4,12 @@
 mod commands;
 mod ending;
 mod input;
-mod laws;
 mod obeying;
-mod play;
 mod report;
 mod status;
 mod words;
 
-pub use ending::{Bad, Ending, Failure, StopWhy};
-pub use laws::ends_are_determined;
+pub use ending::{Bad, Ending, Failure};
 pub use obeying::obey_and_report;
 pub use status::Status;
+pub use tm_play::{PlayEnd, StopWhy};

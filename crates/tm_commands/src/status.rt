@@ -2,8 +2,9 @@
 ghost use Rattle.std.specs.Prelude.{◌≡◌};
 ghost use Rattle.tm_commands.specs.Status.{outcome_of};
 
-use crate::ending::{Bad, Ending, Failure, StopWhy};
+use crate::ending::{Bad, Ending, Failure};
 use tm_base::Name;
+use tm_play::{PlayEnd, StopWhy};
 use tm_syntax::fault::Faulty;
 
 /// How a command ended. A name is a file's; that of a failed write is empty where the output failed.
@@ -60,8 +61,8 @@ pub fn status_of(outcome: Result<Ending, Failure>) -> Status
     match outcome {
         Ok(Ending::Usage) => Status::Usage,
         Ok(Ending::Faulty(fault)) => Status::Faulty(fault),
-        Ok(Ending::Played(steps)) => Status::Played(steps),
-        Ok(Ending::Stopped { step, why }) => Status::Stopped { step, why },
+        Ok(Ending::Play(PlayEnd::Played(steps))) => Status::Played(steps),
+        Ok(Ending::Play(PlayEnd::Stopped { step, why })) => Status::Stopped { step, why },
         Ok(Ending::Generated(registers)) => Status::Generated(registers),
         Ok(Ending::Migrated) => Status::Migrated,
         Ok(Ending::BadText { file, why }) => Status::BadText { file, why },

@@ -127,6 +127,14 @@ ready_first x f order d flat shape few words s enough =
       bits = none_made x.terms x.levels s;
     }
 
+-- the levels of a game follow an order of the places of the bits of a state
+pub places_permuted : (x : Setting) (f : FlatTerms) (order : List ℕ) → IsShape x f order →
+    IsOrder (state_bits_in f) order
+unfolding room
+places_permuted x f order shape =
+    let numbers : x.numbers ≡ length f.widths - 128 = omega (arith, shape.widths) in
+    subst (λ (n : ℕ). IsOrder (sum (take n f.widths)) order) numbers shape.permutes
+
 -- all of it
 pub start_is : (d : DesignTree) (t : Terms) (f : FlatTerms) → CanStart d t f → (order : List ℕ) (start : Start) →
     Extends t start.encoding.terms → IsOrder (state_bits_in f) order → start.encoding.numbers ≡ length f.widths - 128 →

@@ -1,5 +1,5 @@
 -- The symbolic game of a design, as contracts see it.
-use Rattle.std.specs.Prelude.{◌≡◌, ℕ, List, length}
+use Rattle.std.specs.Prelude.{◌≡◌, ℕ, ◌<◌, true, List, length, slice_index_or}
 use Rattle.tm_assigned.specs.States.{coding_of, state_of}
 use Rattle.tm_coding.specs.Coding.{IsIn}
 use Rattle.tm_dd.specs.declared.node.NodeId.{NodeId}
@@ -12,6 +12,8 @@ use Rattle.tm_flat.specs.Inputs.{AreSmall}
 use Rattle.tm_flat.specs.IsFlat.{IsFlat}
 use Rattle.tm_forcing.specs.Diagrams.{IsSetOf}
 use Rattle.tm_forcing.specs.States.{ReadsState}
+use Rattle.tm_sem.specs.Fairness.{IsFair}
+use Rattle.tm_sem.specs.Play.{goal_holds}
 use Rattle.tm_sem.specs.State.{StateData}
 use Rattle.tm_sem.specs.Step.{IsState}
 use Rattle.tm_syntax.specs.Design.{DesignTree, IsDesign}
@@ -48,6 +50,18 @@ pub record IsSet (g : GameData) (id : NodeId) : Type 0 where
 abbrev pub IsStates : DesignTree → List ℕ → Table → (StateData → Type 0) → NodeId → Type 0
 IsStates d order s IsSuch id =
     IsSetOf s (λ v. IsState d (state_of d order v) × IsSuch (state_of d order v)) id
+
+-- each id of goals is the set of the states at which that goal holds
+abbrev pub AreGoals : DesignTree → GameData → Type 0
+AreGoals d g =
+    (j : ℕ) (e : NodeId) → j < length g.goals →
+    IsStates d g.order g.diagrams.table (λ s. goal_holds d s j ≡ true) (slice_index_or g.goals j e)
+
+-- each id of fairness conditions is the set of the states at which that condition holds
+abbrev pub AreFairs : DesignTree → GameData → Type 0
+AreFairs d g =
+    (i : ℕ) (e : NodeId) → i < length g.fairs →
+    IsStates d g.order g.diagrams.table (λ s. IsFair d s i) (slice_index_or g.fairs i e)
 
 -- the states of an id, as a test
 abbrev pub in_set : DesignTree → GameData → NodeId → StateData → Type 0

@@ -1,6 +1,8 @@
 //! The symbolic game of a design.
 ghost use Rattle.std.specs.Prelude.{◌≡◌};
 ghost use Rattle.tm_flat.specs.Flat.{flat_terms};
+ghost use Rattle.tm_game.specs.Start.{state_bits_in};
+ghost use Rattle.tm_levels.specs.Order.{IsOrder};
 
 use crate::opening::Kept;
 use std::marker::Model;
@@ -40,9 +42,10 @@ impl Model for Game {
 }
 
 impl Game {
-    /// The place of the bit of each level of a state. It takes no memory.
+    /// The place of the bit of each level of a state: each place once. It takes no memory.
     pub fn order(&self) -> &[u32]
-        ensures { result.now ≡ self.now.order }
+        ensures value { result.now ≡ self.now.order }
+        ensures places { IsOrder (state_bits_in self.now.flat) self.now.order }
     {
         &self.order
     }

@@ -46,6 +46,8 @@ impl Game {
         ensures flat { IfOk result (λ g. g.flat ≡ flat_terms flat) }
         ensures terms { IfOk result (λ g. Extends terms g.terms) }
         ensures order { IfOk result (λ g. g.order ≡ range_with_len 0 (state_bits_in (flat_terms flat))) }
+        ensures goals { IfOk result (λ g. length g.goals ≡ length g.flat.goals) }
+        ensures fairs { IfOk result (λ g. length g.fairs ≡ length g.flat.fairs) }
         ensures of { IfOk result (λ g. (d : DesignTree) → CanStart d terms (flat_terms flat) → IsOf d g) }
     {
         let count = state_bits(&flat.widths);
@@ -70,6 +72,8 @@ impl Game {
         ensures flat { IfOk result (λ g. g.flat ≡ flat_terms flat) }
         ensures terms { IfOk result (λ g. Extends terms g.terms) }
         ensures order { IfOk result (λ g. g.order ≡ order.items) }
+        ensures goals { IfOk result (λ g. length g.goals ≡ length g.flat.goals) }
+        ensures fairs { IfOk result (λ g. length g.fairs ≡ length g.flat.fairs) }
         ensures of { IfOk result (λ g. (d : DesignTree) → CanStart d terms (flat_terms flat) → IsOf d g) }
     {
         let mut bits = TermBits::new(alloc);

@@ -1,7 +1,7 @@
 //! The sets of states that a game keeps.
 ghost use Rattle.std.specs.Prelude.{◌≡◌, ◌<◌, true, length, slice_index_or};
 ghost use Rattle.tm_dd.specs.declared.node.NodeId.{NodeId as Id};
-ghost use Rattle.tm_game.specs.Game.{IsOf, IsStates};
+ghost use Rattle.tm_game.specs.Game.{AreFairs, AreGoals, IsOf, IsStates};
 ghost use Rattle.tm_sem.specs.Fairness.{IsFair, conditions};
 ghost use Rattle.tm_sem.specs.Play.{goal_holds};
 ghost use Rattle.tm_sem.specs.Step.{IsInitial, is_driver_turn};
@@ -11,6 +11,24 @@ use crate::game::Game;
 use tm_dd::NodeId;
 
 impl Game {
+    /// For each goal the valid states at which it holds. It takes no memory.
+    pub fn goals(&self) -> &[NodeId]
+        ensures value { result.now ≡ self.now.goals }
+        ensures states { (d : DesignTree) → IsOf d self.now → AreGoals d self.now }
+        ensures count { (d : DesignTree) → IsOf d self.now → length self.now.goals ≡ length d.goals }
+    {
+        &self.kept.goals
+    }
+
+    /// For each fairness condition the valid states at which it holds. It takes no memory.
+    pub fn fairs(&self) -> &[NodeId]
+        ensures value { result.now ≡ self.now.fairs }
+        ensures states { (d : DesignTree) → IsOf d self.now → AreFairs d self.now }
+        ensures count { (d : DesignTree) → IsOf d self.now → length self.now.fairs ≡ length (conditions d) }
+    {
+        &self.kept.fairs
+    }
+
     /// The valid states at which a goal holds. It takes no memory.
     pub fn goal(&self, goal: u32) -> NodeId
         requires { goal < length self.now.goals }

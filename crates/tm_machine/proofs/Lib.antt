@@ -3,6 +3,7 @@ pub mod Arguing
 pub mod Calling
 pub mod Chains
 pub mod Conditions
+pub mod Depth
 pub mod DriverTasks
 pub mod Empties
 pub mod Ending

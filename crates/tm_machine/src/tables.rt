@@ -84,6 +84,7 @@ impl<'d> Tables<'d> {
             pausing,
         })
     }
+
     /// The design.
     pub fn design(&self) -> &Design
         ensures { result.now ≡ self.now }
@@ -96,5 +97,19 @@ impl<'d> Tables<'d> {
         ensures { result.now ≡ self.now.spec }
     {
         &self.scopes
+    }
+
+    /// How deep the calls of the design's text may nest: it has so many tasks and procedures.
+    pub fn depth(&self) -> usize
+        ensures { result ≡ call_depth (spec_tree self.now.spec) }
+    {
+        self.order.len()
+    }
+
+    /// Which tasks of the design's text may pause.
+    pub fn pausing(&self) -> &TaskSet
+        ensures { ArePausing (spec_tree self.now.spec) result.now }
+    {
+        &self.pausing
     }
 }

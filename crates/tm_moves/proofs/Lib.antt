@@ -1,21 +1,21 @@
-mod Arriving
-mod Beginning
-mod Choosing
-mod Finishing
-mod Following
-mod Given
-mod InputTerms
-mod InputWidths
-mod Judging
-mod Lists
-mod Located
-mod NextNumbers
-mod Placed
-mod ReadTerms
-mod Rows
-mod Running
-mod Stepping
-mod Stopped
-mod Told
-mod Waiting
-mod Working
+pub mod Arriving
+pub mod Beginning
+pub mod Choosing
+pub mod Finishing
+pub mod Following
+pub mod Given
+pub mod InputTerms
+pub mod InputWidths
+pub mod Judging
+pub mod Lists
+pub mod Located
+pub mod NextNumbers
+pub mod Placed
+pub mod ReadTerms
+pub mod Rows
+pub mod Running
+pub mod Stepping
+pub mod Stopped
+pub mod Told
+pub mod Waiting
+pub mod Working

@@ -15,7 +15,7 @@ use tm_term::{Term, TermId, Terms};
 use tm_walk::Course;
 
 /// The inputs of so many numbers, as terms. `AllocError` is want of memory.
-pub(crate) fn input_terms(
+pub fn input_terms(
     alloc: Global,
     terms: &mut Terms,
     first: u32,
@@ -36,7 +36,7 @@ pub(crate) fn input_terms(
 
 impl<'s> Mover<'s> {
     /// The runs that begin where a truth holds: their memory is the inputs. `AllocError` is want of memory.
-    pub(crate) fn begin(&self, course: &mut Course, guard: TermId) -> Result<Flow, AllocError>
+    pub fn begin(&self, course: &mut Course, guard: TermId) -> Result<Flow, AllocError>
         requires sound { IsSound course.old.terms }
         requires guard { IsTerm course.old.terms 1 guard }
         requires inputs { course.old.terms.inputs ≡ input_widths (design_tree self.now.design.now) }

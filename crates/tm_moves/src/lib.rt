@@ -9,4 +9,6 @@ mod next;
 mod process;
 mod rests;
 
+pub use begin::input_terms;
 pub use mover::Mover;
+pub use process::stop_behind;

@@ -123,7 +123,7 @@ fn walk_node<'s>(
 impl<'s> Mover<'s> {
     /// A body of an instance, whose statements are walked where the trail of a number has reached it. There is none
     /// exactly where the design has no such instance.
-    pub(crate) fn stand(&self, at: SiteBody, trail: usize) -> Option<Stand<'s>>
+    pub fn stand(&self, at: SiteBody, trail: usize) -> Option<Stand<'s>>
         ensures found { IfSome result (IsStandAt self.now at trail) }
         ensures none { IfNone result (site (design_tree self.now.design.now) at.instance ≡ None) }
     {
@@ -192,8 +192,8 @@ impl<'s> Mover<'s> {
         Ok(Some(here))
     }
 
-    // A walker by the tables of the design. `first` is the number of the first input that is a bit of choices.
-    fn walker(&self, first: u32) -> Walker<'s>
+    /// A walker by the tables of the design. `first` is the number of the first input that is a bit of choices.
+    pub fn walker(&self, first: u32) -> Walker<'s>
         requires { first ≡ first_choice (design_tree self.now.design.now) }
         ensures { known_by result ≡ tables_by self.now }
     {

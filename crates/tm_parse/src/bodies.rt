@@ -23,11 +23,11 @@ fn local<'a>(alloc: Global, text: &[u8], depth: u8, tokens: &'a [Token]) -> Read
     ensures shorter { IfOk result (λ r. length r.1.now < length tokens.now) }
     ensures refused { IfErr result (IsRefused (AnyOf (ALocal text.now depth)) Nothing tokens.now) }
 {
-    let (ty, rest) = type_name(alloc, text, tokens)?;
-    let (name, rest) = name(alloc, text, rest)?;
-    let (_, rest) = need(rest, TokenKind::Sign(Sign::Assign))?;
-    let (value, rest) = value(alloc, text, depth, rest)?;
-    let (_, rest) = need(rest, TokenKind::Sign(Sign::Semicolon))?;
+    let (ty, rest) = read!(type_name(alloc, text, tokens));
+    let (name, rest) = read!(name(alloc, text, rest));
+    let (_, rest) = read!(need(rest, TokenKind::Sign(Sign::Assign)));
+    let (value, rest) = read!(value(alloc, text, depth, rest));
+    let (_, rest) = read!(need(rest, TokenKind::Sign(Sign::Semicolon)), value);
     Ok((LocalDef { ty, name, value }, rest))
 }
 
@@ -76,11 +76,11 @@ fn locals_stmts<'a>(
     let mut locals = Vec::new(alloc);
     let mut rest = tokens;
     'declarations: while begins_local(rest) {
-        let (local, behind) = local(alloc, text, depth, rest)?;
+        let (local, behind) = read!(local(alloc, text, depth, rest));
         locals.push(local)?;
         rest = behind;
     }
-    let (stmts, rest) = stmts(alloc, text, depth, rest)?;
+    let (stmts, rest) = read!(stmts(alloc, text, depth, rest));
     Ok(((locals, stmts), rest))
 }
 
@@ -97,8 +97,8 @@ fn answer<'a>(alloc: Global, text: &[u8], depth: u8, tokens: &'a [Token]) -> Rea
     let Some((_, rest)) = mark(tokens, TokenKind::Word(Word::Return)) else {
         return Ok((None, tokens));
     };
-    let (answer, rest) = expr(alloc, text, depth, rest)?;
-    let (_, rest) = need(rest, TokenKind::Sign(Sign::Semicolon))?;
+    let (answer, rest) = read!(expr(alloc, text, depth, rest));
+    let (_, rest) = read!(need(rest, TokenKind::Sign(Sign::Semicolon)), answer);
     Ok((Some(answer), rest))
 }
 
@@ -109,9 +109,9 @@ pub fn silent_body<'a>(alloc: Global, text: &[u8], depth: u8, tokens: &'a [Token
     ensures shorter { IfOk result (λ r. length r.1.now < length tokens.now) }
     ensures refused { IfErr result (IsRefused (AnyOf (ABraced text.now depth)) Nothing tokens.now) }
 {
-    let (_, rest) = open(depth, tokens, TokenKind::Sign(Sign::OpenBrace))?;
-    let (body, rest) = locals_stmts(alloc, text, depth + 1, rest)?;
-    let (_, rest) = need(rest, TokenKind::Sign(Sign::CloseBrace))?;
+    let (_, rest) = read!(open(depth, tokens, TokenKind::Sign(Sign::OpenBrace)));
+    let (body, rest) = read!(locals_stmts(alloc, text, depth + 1, rest));
+    let (_, rest) = read!(need(rest, TokenKind::Sign(Sign::CloseBrace)));
     Ok((
         Body {
             locals: body.0,
@@ -134,10 +134,10 @@ pub fn answering_body<'a>(
     ensures shorter { IfOk result (λ r. length r.1.now < length tokens.now) }
     ensures refused { IfErr result (IsRefused (AnyOf (AnAnswering text.now depth)) Nothing tokens.now) }
 {
-    let (_, rest) = open(depth, tokens, TokenKind::Sign(Sign::OpenBrace))?;
-    let (body, rest) = locals_stmts(alloc, text, depth + 1, rest)?;
-    let (answer, rest) = answer(alloc, text, depth + 1, rest)?;
-    let (_, rest) = need(rest, TokenKind::Sign(Sign::CloseBrace))?;
+    let (_, rest) = read!(open(depth, tokens, TokenKind::Sign(Sign::OpenBrace)));
+    let (body, rest) = read!(locals_stmts(alloc, text, depth + 1, rest));
+    let (answer, rest) = read!(answer(alloc, text, depth + 1, rest));
+    let (_, rest) = read!(need(rest, TokenKind::Sign(Sign::CloseBrace)), answer);
     Ok((
         Body {
             locals: body.0,

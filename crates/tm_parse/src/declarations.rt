@@ -32,7 +32,7 @@ fn literal<'a>(alloc: Global, text: &[u8], tokens: &'a [Token]) -> Read<'a, Expr
     ensures refused { IfErr result (IsRefused (AnyOf (λ _. IsLiteral text.now)) Nothing tokens.now) }
 {
     if first_kind(tokens) == Some(TokenKind::Number) {
-        let (number, rest) = number(text, tokens)?;
+        let (number, rest) = read!(number(text, tokens));
         return Ok((Expr::Number(number), rest));
     }
     if let Some((at, rest)) = mark(tokens, TokenKind::Word(Word::True)) {
@@ -51,7 +51,7 @@ fn constant<'a>(alloc: Global, text: &[u8], tokens: &'a [Token]) -> Read<'a, Exp
     ensures shorter { IfOk result (λ r. length r.1.now < length tokens.now) }
     ensures refused { IfErr result (IsRefused (AnyOf (λ _. IsName text.now)) Nothing tokens.now) }
 {
-    let (name, rest) = name(alloc, text, tokens)?;
+    let (name, rest) = read!(name(alloc, text, tokens));
     let mut names = Vec::new(alloc);
     names.push(name)?;
     Ok((Expr::Path(Path { names }), rest))
@@ -68,8 +68,8 @@ fn length<'a>(text: &[u8], tokens: &'a [Token]) -> Read<'a, Option<Num>>
     let Some((_, rest)) = mark(tokens, TokenKind::Sign(Sign::OpenBracket)) else {
         return Ok((None, tokens));
     };
-    let (length, rest) = number(text, rest)?;
-    let (_, rest) = need(rest, TokenKind::Sign(Sign::CloseBracket))?;
+    let (length, rest) = read!(number(text, rest));
+    let (_, rest) = read!(need(rest, TokenKind::Sign(Sign::CloseBracket)));
     Ok((Some(length), rest))
 }
 
@@ -85,7 +85,7 @@ fn initial<'a>(alloc: Global, text: &[u8], tokens: &'a [Token]) -> Read<'a, Opti
     let Some((_, rest)) = mark(tokens, TokenKind::Sign(Sign::Assign)) else {
         return Ok((None, tokens));
     };
-    let (literal, rest) = literal(alloc, text, rest)?;
+    let (literal, rest) = read!(literal(alloc, text, rest));
     Ok((Some(literal), rest))
 }
 
@@ -95,11 +95,11 @@ pub fn variable<'a>(alloc: Global, text: &[u8], tokens: &'a [Token]) -> Read<'a,
     ensures shorter { IfOk result (λ r. length r.1.now < length tokens.now) }
     ensures refused { IfErr result (IsRefused (AnyOf (λ _. IsVar text.now)) Nothing tokens.now) }
 {
-    let (ty, rest) = type_name(alloc, text, tokens)?;
-    let (name, rest) = name(alloc, text, rest)?;
-    let (length, rest) = length(text, rest)?;
-    let (init, rest) = initial(alloc, text, rest)?;
-    let (_, rest) = need(rest, TokenKind::Sign(Sign::Semicolon))?;
+    let (ty, rest) = read!(type_name(alloc, text, tokens));
+    let (name, rest) = read!(name(alloc, text, rest));
+    let (length, rest) = read!(length(text, rest));
+    let (init, rest) = read!(initial(alloc, text, rest));
+    let (_, rest) = read!(need(rest, TokenKind::Sign(Sign::Semicolon)), init);
     Ok((
         VarDef {
             ty,
@@ -118,10 +118,10 @@ pub fn named<'a>(alloc: Global, text: &[u8], depth: u8, tokens: &'a [Token]) -> 
     ensures shorter { IfOk result (λ r. length r.1.now < length tokens.now) }
     ensures refused { IfErr result (IsRefused (AnyOf (ANamed text.now depth)) Nothing tokens.now) }
 {
-    let (name, rest) = name(alloc, text, tokens)?;
-    let (_, rest) = need(rest, TokenKind::Sign(Sign::Assign))?;
-    let (expr, rest) = expr(alloc, text, depth, rest)?;
-    let (_, rest) = need(rest, TokenKind::Sign(Sign::Semicolon))?;
+    let (name, rest) = read!(name(alloc, text, tokens));
+    let (_, rest) = read!(need(rest, TokenKind::Sign(Sign::Assign)));
+    let (expr, rest) = read!(expr(alloc, text, depth, rest));
+    let (_, rest) = read!(need(rest, TokenKind::Sign(Sign::Semicolon)), expr);
     Ok((Named { name, expr }, rest))
 }
 
@@ -143,9 +143,9 @@ fn port_names<'a>(
     if first_kind(tokens) != Some(TokenKind::Sign(Sign::OpenParenthesis)) {
         return Ok((Vec::new(alloc), tokens));
     }
-    let (_, rest) = open(depth, tokens, TokenKind::Sign(Sign::OpenParenthesis))?;
-    let (names, rest) = names(alloc, text, Sign::Comma, rest)?;
-    let (_, rest) = need(rest, TokenKind::Sign(Sign::CloseParenthesis))?;
+    let (_, rest) = read!(open(depth, tokens, TokenKind::Sign(Sign::OpenParenthesis)));
+    let (names, rest) = read!(names(alloc, text, Sign::Comma, rest));
+    let (_, rest) = read!(need(rest, TokenKind::Sign(Sign::CloseParenthesis)));
     Ok((names, rest))
 }
 
@@ -161,11 +161,11 @@ pub fn instance<'a>(
     ensures shorter { IfOk result (λ r. length r.1.now < length tokens.now) }
     ensures refused { IfErr result (IsRefused (AnyOf (AnInstance text.now depth)) Nothing tokens.now) }
 {
-    let (_, rest) = need(tokens, TokenKind::Word(Word::Instance))?;
-    let (template, rest) = name(alloc, text, rest)?;
-    let (name, rest) = name(alloc, text, rest)?;
-    let (args, rest) = port_names(alloc, text, depth, rest)?;
-    let (_, rest) = need(rest, TokenKind::Sign(Sign::Semicolon))?;
+    let (_, rest) = read!(need(tokens, TokenKind::Word(Word::Instance)));
+    let (template, rest) = read!(name(alloc, text, rest));
+    let (name, rest) = read!(name(alloc, text, rest));
+    let (args, rest) = read!(port_names(alloc, text, depth, rest));
+    let (_, rest) = read!(need(rest, TokenKind::Sign(Sign::Semicolon)));
     Ok((
         InstanceDef {
             template,
@@ -189,9 +189,9 @@ pub fn process<'a>(
     ensures refused { IfErr result (IsRefused (AnyOf (AProcess text.now depth)) Nothing tokens.now) }
 {
     let (lazy, rest) = laziness(tokens);
-    let (_, rest) = need(rest, TokenKind::Word(Word::Process))?;
-    let (name, rest) = name(alloc, text, rest)?;
-    let (body, rest) = silent_body(alloc, text, depth, rest)?;
+    let (_, rest) = read!(need(rest, TokenKind::Word(Word::Process)));
+    let (name, rest) = read!(name(alloc, text, rest));
+    let (body, rest) = read!(silent_body(alloc, text, depth, rest));
     Ok((ProcessDef { lazy, name, body }, rest))
 }
 
@@ -212,8 +212,8 @@ fn param<'a>(alloc: Global, text: &[u8], tokens: &'a [Token]) -> Read<'a, Param>
     ensures shorter { IfOk result (λ r. length r.1.now < length tokens.now) }
     ensures refused { IfErr result (IsRefused (AnyOf (λ _. IsParam text.now)) Nothing tokens.now) }
 {
-    let (ty, rest) = type_name(alloc, text, tokens)?;
-    let (name, rest) = name(alloc, text, rest)?;
+    let (ty, rest) = read!(type_name(alloc, text, tokens));
+    let (name, rest) = read!(name(alloc, text, rest));
     Ok((Param { ty, name }, rest))
 }
 
@@ -225,12 +225,12 @@ fn listed_params<'a>(alloc: Global, text: &[u8], tokens: &'a [Token]) -> Read<'a
     ensures refused { IfErr result
         (IsRefused (AnyOf (λ _. AreParted sign.Comma (IsParam text.now))) (GoesOn sign.Comma Nothing) tokens.now) }
 {
-    let (first, rest) = param(alloc, text, tokens)?;
+    let (first, rest) = read!(param(alloc, text, tokens));
     let mut params = Vec::new(alloc);
     params.push(first)?;
     let mut rest = rest;
     while let Some((_, behind)) = mark(rest, TokenKind::Sign(Sign::Comma)) {
-        let (next, behind) = param(alloc, text, behind)?;
+        let (next, behind) = read!(param(alloc, text, behind));
         params.push(next)?;
         rest = behind;
     }
@@ -244,12 +244,12 @@ fn params<'a>(alloc: Global, text: &[u8], depth: u8, tokens: &'a [Token]) -> Rea
     ensures shorter { IfOk result (λ r. length r.1.now < length tokens.now) }
     ensures refused { IfErr result (IsRefused (AnyOf (InArguments depth (λ _. IsParam text.now))) Nothing tokens.now) }
 {
-    let (_, rest) = open(depth, tokens, TokenKind::Sign(Sign::OpenParenthesis))?;
+    let (_, rest) = read!(open(depth, tokens, TokenKind::Sign(Sign::OpenParenthesis)));
     if let Some((_, rest)) = mark(rest, TokenKind::Sign(Sign::CloseParenthesis)) {
         return Ok((Vec::new(alloc), rest));
     }
-    let (params, rest) = listed_params(alloc, text, rest)?;
-    let (_, rest) = need(rest, TokenKind::Sign(Sign::CloseParenthesis))?;
+    let (params, rest) = read!(listed_params(alloc, text, rest));
+    let (_, rest) = read!(need(rest, TokenKind::Sign(Sign::CloseParenthesis)));
     Ok((params, rest))
 }
 
@@ -265,8 +265,8 @@ fn heading<'a>(
     ensures shorter { IfOk result (λ r. length r.1.now < length tokens.now) }
     ensures refused { IfErr result (IsRefused (AnyOf (IsHeading text.now depth)) Nothing tokens.now) }
 {
-    let (name, rest) = name(alloc, text, tokens)?;
-    let (params, rest) = params(alloc, text, depth, rest)?;
+    let (name, rest) = read!(name(alloc, text, tokens));
+    let (params, rest) = read!(params(alloc, text, depth, rest));
     Ok(((name, params), rest))
 }
 
@@ -276,11 +276,11 @@ fn task_kind(tokens: &[Token]) -> Read<'_, TaskKind>
     ensures shorter { IfOk result (λ r. length r.1.now < length tokens.now) }
     ensures refused { IfErr result (IsRefused (AnyOf (λ _. IsTaskKind)) Nothing tokens.now) }
 {
-    let (_, rest) = need(tokens, TokenKind::Word(Word::Task))?;
+    let (_, rest) = read!(need(tokens, TokenKind::Word(Word::Task)));
     if let Some((_, rest)) = mark(rest, TokenKind::Word(Word::Controllable)) {
         return Ok((TaskKind::Controllable, rest));
     }
-    let (_, rest) = need(rest, TokenKind::Word(Word::Uncontrollable))?;
+    let (_, rest) = read!(need(rest, TokenKind::Word(Word::Uncontrollable)));
     Ok((TaskKind::Uncontrollable, rest))
 }
 
@@ -293,7 +293,7 @@ fn result_type<'a>(alloc: Global, text: &[u8], tokens: &'a [Token]) -> Read<'a, 
     if let Some((_, rest)) = mark(tokens, TokenKind::Word(Word::Void)) {
         return Ok((None, rest));
     }
-    let (ty, rest) = type_name(alloc, text, tokens)?;
+    let (ty, rest) = read!(type_name(alloc, text, tokens));
     Ok((Some(ty), rest))
 }
 
@@ -303,8 +303,8 @@ fn procedure_kind<'a>(alloc: Global, text: &[u8], tokens: &'a [Token]) -> Read<'
     ensures shorter { IfOk result (λ r. length r.1.now < length tokens.now) }
     ensures refused { IfErr result (IsRefused (AnyOf (λ _. IsProcedureKind text.now)) Nothing tokens.now) }
 {
-    let (_, rest) = need(tokens, TokenKind::Word(Word::Procedure))?;
-    let (ty, rest) = result_type(alloc, text, rest)?;
+    let (_, rest) = read!(need(tokens, TokenKind::Word(Word::Procedure)));
+    let (ty, rest) = read!(result_type(alloc, text, rest));
     Ok((TaskKind::Procedure(ty), rest))
 }
 
@@ -315,9 +315,9 @@ pub fn task<'a>(alloc: Global, text: &[u8], depth: u8, tokens: &'a [Token]) -> R
     ensures shorter { IfOk result (λ r. length r.1.now < length tokens.now) }
     ensures refused { IfErr result (IsRefused (AnyOf (IsControlled text.now depth)) Nothing tokens.now) }
 {
-    let (kind, rest) = task_kind(tokens)?;
-    let ((name, params), rest) = heading(alloc, text, depth, rest)?;
-    let (body, rest) = silent_body(alloc, text, depth, rest)?;
+    let (kind, rest) = read!(task_kind(tokens));
+    let ((name, params), rest) = read!(heading(alloc, text, depth, rest));
+    let (body, rest) = read!(silent_body(alloc, text, depth, rest));
     Ok((
         TaskDef {
             kind,
@@ -341,9 +341,9 @@ pub fn procedure<'a>(
     ensures shorter { IfOk result (λ r. length r.1.now < length tokens.now) }
     ensures refused { IfErr result (IsRefused (AnyOf (IsProcedure text.now depth)) Nothing tokens.now) }
 {
-    let (kind, rest) = procedure_kind(alloc, text, tokens)?;
-    let ((name, params), rest) = heading(alloc, text, depth, rest)?;
-    let (body, rest) = answering_body(alloc, text, depth, rest)?;
+    let (kind, rest) = read!(procedure_kind(alloc, text, tokens));
+    let ((name, params), rest) = read!(heading(alloc, text, depth, rest));
+    let (body, rest) = read!(answering_body(alloc, text, depth, rest));
     Ok((
         TaskDef {
             kind,

@@ -3,7 +3,6 @@
 
 ghost use Rattle.std.specs.Prelude.{◌≡◌, ◌≢◌, ◌+◌, ◌<◌, ◌≤◌, min, length, Some, IfSome, IfOk, IfErr, IsNone};
 ghost use Rattle.tm_syntax.specs.declared.token.TokenKind.TheVariants as token;
-ghost use Rattle.tm_syntax.specs.Tree.{conditional};
 ghost use Rattle.tm_syntax.specs.Tree.View.{expr_tree};
 ghost use Rattle.tm_syntax.specs.Grammar.Parts.{IsMark};
 ghost use Rattle.tm_syntax.specs.Grammar.Expressions.{height, unary_sign};
@@ -15,7 +14,7 @@ use crate::leaves::{number, path, width};
 use crate::marks::{LIMIT, Read, first_kind, need, open};
 use crate::operators::{Infix, Primary, infix_of, prefix_of, primary_at, strength};
 use crate::stop::Stop;
-use std::alloc::{AllocError, Global};
+use std::alloc::Global;
 use tm_base::Place;
 use tm_syntax::token::{Sign, Token, TokenKind, Word};
 use tm_syntax::tree::{Expr, Path, UnaryOperator};
@@ -25,6 +24,13 @@ use tm_syntax::tree::{Expr, Path, UnaryOperator};
 pub struct Measured {
     pub expr: Expr,
     pub height: u8,
+}
+
+/// An expression on the heap, and its height, or the limit where it is higher.
+#[derive(Drop)]
+struct Boxed {
+    expr: Box<Expr>,
+    height: u8,
 }
 
 /// The height of an expression whose highest part has this height.
@@ -50,7 +56,7 @@ pub fn expr<'a>(alloc: Global, text: &[u8], depth: u8, tokens: &'a [Token]) -> R
     ensures shorter { IfOk result (λ r. length r.1.now < length tokens.now) }
     ensures refused { IfErr result (IsRefused (AnyOf (AnExpr text.now 0 depth)) (GoesExpr 0) tokens.now) }
 {
-    let (whole, rest) = whole(alloc, text, depth, tokens)?;
+    let (whole, rest) = read!(whole(alloc, text, depth, tokens));
     Ok((whole.expr, rest))
 }
 
@@ -64,8 +70,24 @@ fn whole<'a>(alloc: Global, text: &[u8], depth: u8, tokens: &'a [Token]) -> Read
     ensures shorter { IfOk result (λ r. length r.1.now < length tokens.now) }
     ensures refused { IfErr result (IsRefused (AnyOf (AnExpr text.now 0 depth)) (GoesExpr 0) tokens.now) }
 {
-    let (first, rest) = operand(alloc, text, depth, tokens)?;
+    let (first, rest) = read!(operand(alloc, text, depth, tokens));
     expr_from(alloc, text, depth, first, rest)
+}
+
+/// An expression, put on the heap.
+#[cycle(expression)]
+fn boxed_expr<'a>(alloc: Global, text: &[u8], depth: u8, tokens: &'a [Token]) -> Read<'a, Boxed>
+    requires { depth ≤ 128 }
+    ensures taken { IfOk result (λ r.
+        Takes (AnExpr text.now 0 depth) (GoesExpr 0) (expr_tree r.0.expr.value) tokens.now r.1.now) }
+    ensures height { IfOk result (λ r. r.0.height ≡ min (height (expr_tree r.0.expr.value)) 128) }
+    ensures shorter { IfOk result (λ r. length r.1.now < length tokens.now) }
+    ensures refused { IfErr result (IsRefused (AnyOf (AnExpr text.now 0 depth)) (GoesExpr 0) tokens.now) }
+{
+    let (whole, rest) = read!(whole(alloc, text, depth, tokens));
+    let height = whole.height;
+    let expr = Box::new(alloc, whole.expr)?;
+    Ok((Boxed { expr, height }, rest))
 }
 
 /// The expression that begins with an operand, which stands before these tokens.
@@ -86,7 +108,7 @@ pub fn expr_from<'a>(
     ensures refused { IfErr result
         (IsRefused (AnyOf (IsExprFrom text.now depth (expr_tree first.expr))) (GoesExpr 0) tokens.now) }
 {
-    let (test, rest) = joined_from(alloc, text, depth, 1, first, tokens)?;
+    let (test, rest) = read!(joined_from(alloc, text, depth, 1, first, tokens));
     choice_from(alloc, text, depth, test, rest)
 }
 
@@ -112,35 +134,16 @@ fn choice_from<'a>(
     if first_kind(tokens) != Some(TokenKind::Sign(Sign::Question)) {
         return Ok((test, tokens));
     }
-    let (at, rest) = open(depth, tokens, TokenKind::Sign(Sign::Question))?;
-    let (yes, rest) = whole(alloc, text, depth + 1, rest)?;
-    let (_, rest) = need(rest, TokenKind::Sign(Sign::Colon))?;
-    let (no, rest) = whole(alloc, text, depth + 1, rest)?;
-    Ok((conditional(alloc, at, test, yes, no)?, rest))
-}
-
-fn conditional(
-    alloc: Global,
-    at: Place,
-    test: Measured,
-    yes: Measured,
-    no: Measured,
-) -> Result<Measured, AllocError>
-    requires test { test.height ≡ min (height (expr_tree test.expr)) 128 }
-    requires yes { yes.height ≡ min (height (expr_tree yes.expr)) 128 }
-    requires no { no.height ≡ min (height (expr_tree no.expr)) 128 }
-    ensures tree { IfOk result (λ r.
-        expr_tree r.expr ≡ conditional at (expr_tree test.expr) (expr_tree yes.expr) (expr_tree no.expr)) }
-    ensures height { IfOk result (λ r. r.height ≡ min (height (expr_tree r.expr)) 128) }
-{
-    let height = above(test.height.max(yes.height).max(no.height));
-    let test = Box::new(alloc, test.expr).map_err(|_| AllocError)?;
-    let yes = Box::new(alloc, yes.expr).map_err(|_| AllocError)?;
-    let no = Box::new(alloc, no.expr).map_err(|_| AllocError)?;
-    Ok(Measured {
-        expr: Expr::Conditional(at, test, yes, no),
-        height,
-    })
+    let height = test.height;
+    let test = Box::new(alloc, test.expr)?;
+    let (at, rest) = read!(open(depth, tokens, TokenKind::Sign(Sign::Question)));
+    let (yes, rest) = read!(boxed_expr(alloc, text, depth + 1, rest));
+    let (_, rest) = read!(need(rest, TokenKind::Sign(Sign::Colon)));
+    let (no, rest) = read!(boxed_expr(alloc, text, depth + 1, rest));
+    let height = above(height.max(yes.height).max(no.height));
+    let expr = Expr::Conditional(at, test, yes.expr, no.expr);
+    let whole = Measured { expr, height };
+    Ok((whole, rest))
 }
 
 /// What an operand, which stands before these tokens, is joined to by operators that bind at least so strongly, each
@@ -171,9 +174,10 @@ fn joined_from<'a>(
     let mut most = 9;
     while let Some((operator, at, behind)) = infix_between(least, most, rest) {
         if left.height >= LIMIT {
+            drop(left);
             return Err(Stop::TooDeep(rest));
         }
-        let (joined, behind) = joined(alloc, text, depth, left, operator, at, behind)?;
+        let (joined, behind) = read!(joined(alloc, text, depth, left, operator, at, behind));
         left = joined;
         rest = behind;
         most = strength(operator);
@@ -224,21 +228,21 @@ fn joined<'a>(
         (IsRefused (AnyOf (λ free. IsJoined text.now depth free (expr_tree left.expr) at operator))
         (GoesJoined operator) tokens.now) }
 {
+    let height = left.height;
+    let left = Box::new(alloc, left.expr)?;
     match operator {
         Infix::Binary(binary) => {
-            let (first, rest) = operand(alloc, text, depth, tokens)?;
+            let (first, rest) = read!(operand(alloc, text, depth, tokens));
             let least = strength(operator) + 1;
-            let (right, rest) = joined_from(alloc, text, depth, least, first, rest)?;
-            let height = above(left.height.max(right.height));
-            let left = Box::new(alloc, left.expr)?;
+            let (right, rest) = read!(joined_from(alloc, text, depth, least, first, rest));
+            let height = above(height.max(right.height));
             let right = Box::new(alloc, right.expr)?;
             let expr = Expr::Binary(at, binary, left, right);
             Ok((Measured { expr, height }, rest))
         }
         Infix::Shift(shift) => {
-            let (by, rest) = number(text, tokens)?;
-            let height = above(left.height);
-            let left = Box::new(alloc, left.expr)?;
+            let (by, rest) = read!(number(text, tokens));
+            let height = above(height);
             let expr = Expr::Shift(at, shift, left, by);
             Ok((Measured { expr, height }, rest))
         }
@@ -283,8 +287,8 @@ fn prefixed<'a>(
     ensures shorter { IfOk result (λ r. length r.1.now < length tokens.now) }
     ensures refused { IfErr result (IsRefused (AnyOf (AnExpr text.now 10 depth)) (GoesExpr 10) tokens.now) }
 {
-    let (at, rest) = open(depth, tokens, kind)?;
-    let (operand, rest) = operand(alloc, text, depth + 1, rest)?;
+    let (at, rest) = read!(open(depth, tokens, kind));
+    let (operand, rest) = read!(operand(alloc, text, depth + 1, rest));
     let height = above(operand.height);
     let operand = Box::new(alloc, operand.expr)?;
     let expr = Expr::Unary(at, operator, operand);
@@ -311,19 +315,19 @@ fn primary<'a>(
 {
     match primary_at(tokens) {
         Some(Primary::Number) => {
-            let (number, rest) = number(text, tokens)?;
+            let (number, rest) = read!(number(text, tokens));
             Ok((low(Expr::Number(number)), rest))
         }
         Some(Primary::True) => {
-            let (at, rest) = need(tokens, TokenKind::Word(Word::True))?;
+            let (at, rest) = read!(need(tokens, TokenKind::Word(Word::True)));
             Ok((low(Expr::Truth(at, true)), rest))
         }
         Some(Primary::False) => {
-            let (at, rest) = need(tokens, TokenKind::Word(Word::False))?;
+            let (at, rest) = read!(need(tokens, TokenKind::Word(Word::False)));
             Ok((low(Expr::Truth(at, false)), rest))
         }
         Some(Primary::Place) => {
-            let (path, rest) = path(alloc, text, tokens)?;
+            let (path, rest) = read!(path(alloc, text, tokens));
             place_from(alloc, text, depth, path, rest)
         }
         Some(Primary::Group) => group(alloc, text, depth, tokens),
@@ -343,12 +347,11 @@ fn group<'a>(alloc: Global, text: &[u8], depth: u8, tokens: &'a [Token]) -> Read
     ensures shorter { IfOk result (λ r. length r.1.now < length tokens.now) }
     ensures refused { IfErr result (IsRefused (AnyOf (AnExpr text.now 10 depth)) (GoesExpr 10) tokens.now) }
 {
-    let (at, rest) = open(depth, tokens, TokenKind::Sign(Sign::OpenParenthesis))?;
-    let (inner, rest) = whole(alloc, text, depth + 1, rest)?;
-    let (_, rest) = need(rest, TokenKind::Sign(Sign::CloseParenthesis))?;
+    let (at, rest) = read!(open(depth, tokens, TokenKind::Sign(Sign::OpenParenthesis)));
+    let (inner, rest) = read!(boxed_expr(alloc, text, depth + 1, rest));
+    let (_, rest) = read!(need(rest, TokenKind::Sign(Sign::CloseParenthesis)));
     let height = above(inner.height);
-    let inner = Box::new(alloc, inner.expr)?;
-    let expr = Expr::Group(at, inner);
+    let expr = Expr::Group(at, inner.expr);
     Ok((Measured { expr, height }, rest))
 }
 
@@ -363,16 +366,16 @@ fn cast<'a>(alloc: Global, text: &[u8], depth: u8, tokens: &'a [Token]) -> Read<
     ensures shorter { IfOk result (λ r. length r.1.now < length tokens.now) }
     ensures refused { IfErr result (IsRefused (AnyOf (AnExpr text.now 10 depth)) (GoesExpr 10) tokens.now) }
 {
-    let (at, rest) = need(tokens, TokenKind::Word(Word::Uint))?;
-    let (width, rest) = width(text, rest)?;
-    let (inner, rest) = enclosed(
+    let (at, rest) = read!(need(tokens, TokenKind::Word(Word::Uint)));
+    let (width, rest) = read!(width(text, rest));
+    let (inner, rest) = read!(enclosed(
         alloc,
         text,
         depth,
         Sign::OpenParenthesis,
         Sign::CloseParenthesis,
         rest,
-    )?;
+    ));
     let height = above(inner.height);
     let inner = Box::new(alloc, inner.expr)?;
     let expr = Expr::Cast(at, width, inner);
@@ -399,14 +402,14 @@ pub fn place_from<'a>(
     if first_kind(tokens) != Some(TokenKind::Sign(Sign::OpenBracket)) {
         return Ok((low(Expr::Path(path)), tokens));
     }
-    let (index, rest) = enclosed(
+    let (index, rest) = read!(enclosed(
         alloc,
         text,
         depth,
         Sign::OpenBracket,
         Sign::CloseBracket,
         tokens,
-    )?;
+    ));
     let height = above(index.height);
     let index = Box::new(alloc, index.expr)?;
     let expr = Expr::Element(path, index);
@@ -432,8 +435,8 @@ pub fn enclosed<'a>(
     ensures refused { IfErr result
         (IsRefused (AnyOf (IsEnclosed text.now opening closing depth)) Nothing tokens.now) }
 {
-    let (_, rest) = open(depth, tokens, TokenKind::Sign(opening))?;
-    let (inner, rest) = whole(alloc, text, depth + 1, rest)?;
-    let (_, rest) = need(rest, TokenKind::Sign(closing))?;
+    let (_, rest) = read!(open(depth, tokens, TokenKind::Sign(opening)));
+    let (inner, rest) = read!(whole(alloc, text, depth + 1, rest));
+    let (_, rest) = read!(need(rest, TokenKind::Sign(closing)), inner);
     Ok((inner, rest))
 }

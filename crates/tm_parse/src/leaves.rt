@@ -108,12 +108,12 @@ pub fn names<'a>(alloc: Global, text: &[u8], by: Sign, tokens: &'a [Token]) -> R
     ensures refused { IfErr result
         (IsRefused (AnyOf (λ _. AreParted by (IsName text.now))) (GoesOn by Nothing) tokens.now) }
 {
-    let (first, rest) = name(alloc, text, tokens)?;
+    let (first, rest) = read!(name(alloc, text, tokens));
     let mut names = Vec::new(alloc);
     names.push(first)?;
     let mut rest = rest;
     while let Some((_, behind)) = mark(rest, TokenKind::Sign(by)) {
-        let (next, behind) = name(alloc, text, behind)?;
+        let (next, behind) = read!(name(alloc, text, behind));
         names.push(next)?;
         rest = behind;
     }
@@ -127,7 +127,7 @@ pub fn path<'a>(alloc: Global, text: &[u8], tokens: &'a [Token]) -> Read<'a, Pat
     ensures shorter { IfOk result (λ r. length r.1.now < length tokens.now) }
     ensures refused { IfErr result (IsRefused (AnyOf (λ _. IsPath text.now)) (GoesOn sign.Dot Nothing) tokens.now) }
 {
-    let (names, rest) = names(alloc, text, Sign::Dot, tokens)?;
+    let (names, rest) = read!(names(alloc, text, Sign::Dot, tokens));
     Ok((Path { names }, rest))
 }
 
@@ -137,9 +137,9 @@ pub fn width<'a>(text: &[u8], tokens: &'a [Token]) -> Read<'a, Num>
     ensures shorter { IfOk result (λ r. length r.1.now < length tokens.now) }
     ensures refused { IfErr result (IsRefused (AnyOf (λ _. IsWidth text.now)) Nothing tokens.now) }
 {
-    let (_, rest) = need(tokens, TokenKind::Sign(Sign::Less))?;
-    let (width, rest) = number(text, rest)?;
-    let (_, rest) = need(rest, TokenKind::Sign(Sign::Greater))?;
+    let (_, rest) = read!(need(tokens, TokenKind::Sign(Sign::Less)));
+    let (width, rest) = read!(number(text, rest));
+    let (_, rest) = read!(need(rest, TokenKind::Sign(Sign::Greater)));
     Ok((width, rest))
 }
 
@@ -153,9 +153,9 @@ pub fn type_name<'a>(alloc: Global, text: &[u8], tokens: &'a [Token]) -> Read<'a
         return Ok((TypeName::Bool(at), rest));
     }
     if let Some((at, rest)) = mark(tokens, TokenKind::Word(Word::Uint)) {
-        let (width, rest) = width(text, rest)?;
+        let (width, rest) = read!(width(text, rest));
         return Ok((TypeName::Uint(at, width), rest));
     }
-    let (name, rest) = name(alloc, text, tokens)?;
+    let (name, rest) = read!(name(alloc, text, tokens));
     Ok((TypeName::Enum(name), rest))
 }

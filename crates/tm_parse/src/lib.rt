@@ -14,6 +14,21 @@ ghost use Rattle.tm_parse.specs.Answer.{place_at, syntax_fault, depth_fault, IsF
 ghost use Rattle.tm_parse.specs.Reading.{Takes};
 ghost use Rattle.tm_parse.specs.Items.{ASpec, GoesOnAtAll};
 
+/// What a reader read; where it refuses, so does the function, and drops the trees that it holds.
+///
+/// `?` would do so, too, at twice the cost of the proof: it converts the error, and takes the trees apart in place.
+macro_rules! read {
+    ($reader:expr $(, $held:ident)*) => {
+        match $reader {
+            Ok(read) => read,
+            Err(stop) => {
+                $(drop($held);)*
+                return Err(stop);
+            }
+        }
+    };
+}
+
 mod bodies;
 mod declarations;
 mod expressions;

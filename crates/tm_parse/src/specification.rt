@@ -82,33 +82,33 @@ fn decl<'a>(
 {
     match sort {
         DeclSort::Instance => {
-            let (instance, rest) = instance(alloc, text, 0, tokens)?;
+            let (instance, rest) = read!(instance(alloc, text, 0, tokens));
             Ok((Declaration::Instance(instance), rest))
         }
         DeclSort::Variable => {
-            let (variable, rest) = variable(alloc, text, tokens)?;
+            let (variable, rest) = read!(variable(alloc, text, tokens));
             Ok((Declaration::Variable(variable), rest))
         }
         DeclSort::Goal => {
-            let (_, rest) = need(tokens, TokenKind::Word(Word::Goal))?;
-            let (goal, rest) = named(alloc, text, 0, rest)?;
+            let (_, rest) = read!(need(tokens, TokenKind::Word(Word::Goal)));
+            let (goal, rest) = read!(named(alloc, text, 0, rest));
             Ok((Declaration::Goal(goal), rest))
         }
         DeclSort::Fairness => {
-            let (_, rest) = need(tokens, TokenKind::Word(Word::Fair))?;
-            let (fairness, rest) = named(alloc, text, 0, rest)?;
+            let (_, rest) = read!(need(tokens, TokenKind::Word(Word::Fair)));
+            let (fairness, rest) = read!(named(alloc, text, 0, rest));
             Ok((Declaration::Fairness(fairness), rest))
         }
         DeclSort::Process => {
-            let (process, rest) = process(alloc, text, 0, tokens)?;
+            let (process, rest) = read!(process(alloc, text, 0, tokens));
             Ok((Declaration::Process(process), rest))
         }
         DeclSort::Task => {
-            let (task, rest) = task(alloc, text, 0, tokens)?;
+            let (task, rest) = read!(task(alloc, text, 0, tokens));
             Ok((Declaration::Task(task), rest))
         }
         DeclSort::Procedure => {
-            let (procedure, rest) = procedure(alloc, text, 0, tokens)?;
+            let (procedure, rest) = read!(procedure(alloc, text, 0, tokens));
             Ok((Declaration::Task(procedure), rest))
         }
     }
@@ -153,8 +153,8 @@ fn port<'a>(alloc: Global, text: &[u8], tokens: &'a [Token]) -> Read<'a, Port>
     ensures shorter { IfOk result (λ r. length r.1.now < length tokens.now) }
     ensures refused { IfErr result (IsRefused (AnyOf (λ _. IsPort text.now)) Nothing tokens.now) }
 {
-    let (template, rest) = name(alloc, text, tokens)?;
-    let (name, rest) = name(alloc, text, rest)?;
+    let (template, rest) = read!(name(alloc, text, tokens));
+    let (name, rest) = read!(name(alloc, text, rest));
     Ok((Port { template, name }, rest))
 }
 
@@ -166,12 +166,12 @@ fn listed_ports<'a>(alloc: Global, text: &[u8], tokens: &'a [Token]) -> Read<'a,
     ensures refused { IfErr result
         (IsRefused (AnyOf (λ _. AreParted sign.Comma (IsPort text.now))) (GoesOn sign.Comma Nothing) tokens.now) }
 {
-    let (first, rest) = port(alloc, text, tokens)?;
+    let (first, rest) = read!(port(alloc, text, tokens));
     let mut ports = Vec::new(alloc);
     ports.push(first)?;
     let mut rest = rest;
     while let Some((_, behind)) = mark(rest, TokenKind::Sign(Sign::Comma)) {
-        let (next, behind) = port(alloc, text, behind)?;
+        let (next, behind) = read!(port(alloc, text, behind));
         ports.push(next)?;
         rest = behind;
     }
@@ -191,9 +191,9 @@ fn ports<'a>(alloc: Global, text: &[u8], tokens: &'a [Token]) -> Read<'a, Vec<Po
     if first_kind(tokens) != Some(TokenKind::Sign(Sign::OpenParenthesis)) {
         return Ok((Vec::new(alloc), tokens));
     }
-    let (_, rest) = open(0, tokens, TokenKind::Sign(Sign::OpenParenthesis))?;
-    let (ports, rest) = listed_ports(alloc, text, rest)?;
-    let (_, rest) = need(rest, TokenKind::Sign(Sign::CloseParenthesis))?;
+    let (_, rest) = read!(open(0, tokens, TokenKind::Sign(Sign::OpenParenthesis)));
+    let (ports, rest) = read!(listed_ports(alloc, text, rest));
+    let (_, rest) = read!(need(rest, TokenKind::Sign(Sign::CloseParenthesis)));
     Ok((ports, rest))
 }
 
@@ -205,9 +205,9 @@ fn head<'a>(alloc: Global, text: &[u8], tokens: &'a [Token]) -> Read<'a, Templat
     ensures refused { IfErr result
         (IsRefused (AnyOf (IsHead text.now)) (GoesAt (token.Sign sign.OpenParenthesis)) tokens.now) }
 {
-    let (_, rest) = need(tokens, TokenKind::Word(Word::Template))?;
-    let (name, rest) = name(alloc, text, rest)?;
-    let (ports, rest) = ports(alloc, text, rest)?;
+    let (_, rest) = read!(need(tokens, TokenKind::Word(Word::Template)));
+    let (name, rest) = read!(name(alloc, text, rest));
+    let (ports, rest) = read!(ports(alloc, text, rest));
     Ok((
         Template {
             name,
@@ -239,7 +239,7 @@ fn extended<'a>(
     let mut template = template;
     let mut rest = tokens;
     while let Some(sort) = decl_sort(rest) {
-        let (decl, behind) = decl(alloc, text, sort, rest)?;
+        let (decl, behind) = read!(decl(alloc, text, sort, rest), template);
         push_decl(&mut template, decl)?;
         rest = behind;
     }
@@ -252,9 +252,9 @@ fn template<'a>(alloc: Global, text: &[u8], tokens: &'a [Token]) -> Read<'a, Tem
     ensures shorter { IfOk result (λ r. length r.1.now < length tokens.now) }
     ensures refused { IfErr result (IsRefused (AnyOf (ATemplate text.now)) Nothing tokens.now) }
 {
-    let (head, rest) = head(alloc, text, tokens)?;
-    let (template, rest) = extended(alloc, text, head, rest)?;
-    let (_, rest) = need(rest, TokenKind::Word(Word::EndTemplate))?;
+    let (head, rest) = read!(head(alloc, text, tokens));
+    let (template, rest) = read!(extended(alloc, text, head, rest));
+    let (_, rest) = read!(need(rest, TokenKind::Word(Word::EndTemplate)), template);
     Ok((template, rest))
 }
 
@@ -264,13 +264,13 @@ fn enum_def<'a>(alloc: Global, text: &[u8], tokens: &'a [Token]) -> Read<'a, Enu
     ensures shorter { IfOk result (λ r. length r.1.now < length tokens.now) }
     ensures refused { IfErr result (IsRefused (AnyOf (AnEnum text.now)) Nothing tokens.now) }
 {
-    let (_, rest) = need(tokens, TokenKind::Word(Word::Typedef))?;
-    let (_, rest) = need(rest, TokenKind::Word(Word::Enum))?;
-    let (_, rest) = open(0, rest, TokenKind::Sign(Sign::OpenBrace))?;
-    let (constants, rest) = names(alloc, text, Sign::Comma, rest)?;
-    let (_, rest) = need(rest, TokenKind::Sign(Sign::CloseBrace))?;
-    let (name, rest) = name(alloc, text, rest)?;
-    let (_, rest) = need(rest, TokenKind::Sign(Sign::Semicolon))?;
+    let (_, rest) = read!(need(tokens, TokenKind::Word(Word::Typedef)));
+    let (_, rest) = read!(need(rest, TokenKind::Word(Word::Enum)));
+    let (_, rest) = read!(open(0, rest, TokenKind::Sign(Sign::OpenBrace)));
+    let (constants, rest) = read!(names(alloc, text, Sign::Comma, rest));
+    let (_, rest) = read!(need(rest, TokenKind::Sign(Sign::CloseBrace)));
+    let (name, rest) = read!(name(alloc, text, rest));
+    let (_, rest) = read!(need(rest, TokenKind::Sign(Sign::Semicolon)));
     Ok((EnumDef { name, constants }, rest))
 }
 
@@ -281,10 +281,10 @@ fn item<'a>(alloc: Global, text: &[u8], tokens: &'a [Token]) -> Read<'a, ItemDef
     ensures refused { IfErr result (IsRefused (AnyOf (AnItem text.now)) Nothing tokens.now) }
 {
     if first_kind(tokens) == Some(TokenKind::Word(Word::Typedef)) {
-        let (enum_def, rest) = enum_def(alloc, text, tokens)?;
+        let (enum_def, rest) = read!(enum_def(alloc, text, tokens));
         return Ok((ItemDef::Enum(enum_def), rest));
     }
-    let (template, rest) = template(alloc, text, tokens)?;
+    let (template, rest) = read!(template(alloc, text, tokens));
     Ok((ItemDef::Template(template), rest))
 }
 
@@ -313,11 +313,11 @@ pub fn spec<'a>(alloc: Global, text: &[u8], tokens: &'a [Token]) -> Result<Spec,
         enums: Vec::new(alloc),
         templates: Vec::new(alloc),
     };
-    let (first, rest) = item(alloc, text, tokens)?;
+    let (first, rest) = read!(item(alloc, text, tokens));
     push_item(&mut spec, first)?;
     let mut rest = rest;
     while !rest.is_empty() {
-        let (next, behind) = item(alloc, text, rest)?;
+        let (next, behind) = read!(item(alloc, text, rest));
         push_item(&mut spec, next)?;
         rest = behind;
     }

@@ -48,12 +48,12 @@ fn arguments<'a>(alloc: Global, text: &[u8], depth: u8, tokens: &'a [Token]) -> 
     ensures shorter { IfOk result (λ r. length r.1.now < length tokens.now) }
     ensures refused { IfErr result (IsRefused (AnyOf (AreArgs text.now depth)) Nothing tokens.now) }
 {
-    let (_, rest) = open(depth, tokens, TokenKind::Sign(Sign::OpenParenthesis))?;
+    let (_, rest) = read!(open(depth, tokens, TokenKind::Sign(Sign::OpenParenthesis)));
     if let Some((_, rest)) = mark(rest, TokenKind::Sign(Sign::CloseParenthesis)) {
         return Ok((Vec::new(alloc), rest));
     }
-    let (arguments, rest) = exprs(alloc, text, depth + 1, rest)?;
-    let (_, rest) = need(rest, TokenKind::Sign(Sign::CloseParenthesis))?;
+    let (arguments, rest) = read!(exprs(alloc, text, depth + 1, rest));
+    let (_, rest) = read!(need(rest, TokenKind::Sign(Sign::CloseParenthesis)));
     Ok((arguments, rest))
 }
 
@@ -66,12 +66,12 @@ fn exprs<'a>(alloc: Global, text: &[u8], depth: u8, tokens: &'a [Token]) -> Read
     ensures refused { IfErr result
         (IsRefused (AnyOf (AreExprs text.now depth)) (GoesOn sign.Comma (GoesExpr 0)) tokens.now) }
 {
-    let (first, rest) = expr(alloc, text, depth, tokens)?;
+    let (first, rest) = read!(expr(alloc, text, depth, tokens));
     let mut exprs = Vec::new(alloc);
     exprs.push(first)?;
     let mut rest = rest;
     while let Some((_, behind)) = mark(rest, TokenKind::Sign(Sign::Comma)) {
-        let (next, behind) = expr(alloc, text, depth, behind)?;
+        let (next, behind) = read!(expr(alloc, text, depth, behind));
         exprs.push(next)?;
         rest = behind;
     }
@@ -89,10 +89,10 @@ pub fn value<'a>(alloc: Global, text: &[u8], depth: u8, tokens: &'a [Token]) -> 
         return Ok((Value::Star(at), rest));
     }
     if first_kind(tokens) == Some(TokenKind::Name) {
-        let (path, rest) = path(alloc, text, tokens)?;
+        let (path, rest) = read!(path(alloc, text, tokens));
         return value_from(alloc, text, depth, path, rest);
     }
-    let (expr, rest) = expr(alloc, text, depth, tokens)?;
+    let (expr, rest) = read!(expr(alloc, text, depth, tokens));
     Ok((Value::Plain(expr), rest))
 }
 
@@ -112,11 +112,11 @@ fn value_from<'a>(
         (IsRefused (AnyOf (IsValueFrom text.now depth path.names.items)) GoesValue tokens.now) }
 {
     if first_kind(tokens) == Some(TokenKind::Sign(Sign::OpenParenthesis)) {
-        let (arguments, rest) = arguments(alloc, text, depth, tokens)?;
+        let (arguments, rest) = read!(arguments(alloc, text, depth, tokens));
         return Ok((Value::Call(path, arguments), rest));
     }
-    let (first, rest) = place_from(alloc, text, depth, path, tokens)?;
-    let (whole, rest) = expr_from(alloc, text, depth, first, rest)?;
+    let (first, rest) = read!(place_from(alloc, text, depth, path, tokens));
+    let (whole, rest) = read!(expr_from(alloc, text, depth, first, rest));
     Ok((Value::Plain(whole.expr), rest))
 }
 
@@ -127,14 +127,14 @@ fn condition<'a>(alloc: Global, text: &[u8], depth: u8, tokens: &'a [Token]) -> 
     ensures shorter { IfOk result (λ r. length r.1.now < length tokens.now) }
     ensures refused { IfErr result (IsRefused (AnyOf (ACondition text.now depth)) Nothing tokens.now) }
 {
-    let (condition, rest) = enclosed(
+    let (condition, rest) = read!(enclosed(
         alloc,
         text,
         depth,
         Sign::OpenParenthesis,
         Sign::CloseParenthesis,
         tokens,
-    )?;
+    ));
     Ok((condition.expr, rest))
 }
 
@@ -152,9 +152,9 @@ fn test<'a>(
     ensures shorter { IfOk result (λ r. length r.1.now < length tokens.now) }
     ensures refused { IfErr result (IsRefused (AnyOf (IsTest text.now word depth)) Nothing tokens.now) }
 {
-    let (at, rest) = need(tokens, TokenKind::Word(word))?;
-    let (test, rest) = condition(alloc, text, depth, rest)?;
-    let (_, rest) = need(rest, TokenKind::Sign(Sign::Semicolon))?;
+    let (at, rest) = read!(need(tokens, TokenKind::Word(word)));
+    let (test, rest) = read!(condition(alloc, text, depth, rest));
+    let (_, rest) = read!(need(rest, TokenKind::Sign(Sign::Semicolon)), test);
     Ok(((at, test), rest))
 }
 
@@ -164,8 +164,8 @@ fn short(tokens: &[Token], kind: TokenKind) -> Read<'_, Place>
     ensures shorter { IfOk result (λ r. length r.1.now < length tokens.now) }
     ensures refused { IfErr result (IsRefused (AnyOf (IsShort kind)) Nothing tokens.now) }
 {
-    let (at, rest) = need(tokens, kind)?;
-    let (_, rest) = need(rest, TokenKind::Sign(Sign::Semicolon))?;
+    let (at, rest) = read!(need(tokens, kind));
+    let (_, rest) = read!(need(rest, TokenKind::Sign(Sign::Semicolon)));
     Ok((at, rest))
 }
 
@@ -177,7 +177,7 @@ fn path_stmt<'a>(alloc: Global, text: &[u8], depth: u8, tokens: &'a [Token]) -> 
     ensures shorter { IfOk result (λ r. length r.1.now < length tokens.now) }
     ensures refused { IfErr result (IsRefused (AnyOf (AStmtOf text.now depth sort.Path)) GoesStmt tokens.now) }
 {
-    let (path, rest) = path(alloc, text, tokens)?;
+    let (path, rest) = read!(path(alloc, text, tokens));
     if first_kind(rest) == Some(TokenKind::Sign(Sign::OpenParenthesis)) {
         return call_from(alloc, text, depth, path, rest);
     }
@@ -200,8 +200,8 @@ fn call_from<'a>(
     ensures refused { IfErr result
         (IsRefused (AnyOf (IsStmtFrom text.now depth path.names.items)) Nothing tokens.now) }
 {
-    let (arguments, rest) = arguments(alloc, text, depth, tokens)?;
-    let (_, rest) = need(rest, TokenKind::Sign(Sign::Semicolon))?;
+    let (arguments, rest) = read!(arguments(alloc, text, depth, tokens));
+    let (_, rest) = read!(need(rest, TokenKind::Sign(Sign::Semicolon)));
     Ok((Stmt::Call(path, arguments), rest))
 }
 
@@ -221,10 +221,10 @@ fn assignment_from<'a>(
     ensures refused { IfErr result
         (IsRefused (AnyOf (IsStmtFrom text.now depth path.names.items)) Nothing tokens.now) }
 {
-    let (index, rest) = index(alloc, text, depth, tokens)?;
-    let (_, rest) = need(rest, TokenKind::Sign(Sign::Assign))?;
-    let (value, rest) = value(alloc, text, depth, rest)?;
-    let (_, rest) = need(rest, TokenKind::Sign(Sign::Semicolon))?;
+    let (index, rest) = read!(index(alloc, text, depth, tokens));
+    let (_, rest) = read!(need(rest, TokenKind::Sign(Sign::Assign)), index);
+    let (value, rest) = read!(value(alloc, text, depth, rest), index);
+    let (_, rest) = read!(need(rest, TokenKind::Sign(Sign::Semicolon)), index, value);
     Ok((Stmt::Assign(path, index, value), rest))
 }
 
@@ -241,14 +241,14 @@ fn index<'a>(alloc: Global, text: &[u8], depth: u8, tokens: &'a [Token]) -> Read
     if first_kind(tokens) != Some(TokenKind::Sign(Sign::OpenBracket)) {
         return Ok((None, tokens));
     }
-    let (index, rest) = enclosed(
+    let (index, rest) = read!(enclosed(
         alloc,
         text,
         depth,
         Sign::OpenBracket,
         Sign::CloseBracket,
         tokens,
-    )?;
+    ));
     Ok((Some(index.expr), rest))
 }
 
@@ -284,7 +284,7 @@ pub fn stmts<'a>(alloc: Global, text: &[u8], depth: u8, tokens: &'a [Token]) -> 
     let mut stmts = Vec::new(alloc);
     let mut rest = tokens;
     while let Some(sort) = stmt_sort(rest) {
-        let (stmt, behind) = stmt(alloc, text, depth, sort, rest)?;
+        let (stmt, behind) = read!(stmt(alloc, text, depth, sort, rest));
         stmts.push(stmt)?;
         rest = behind;
     }
@@ -332,23 +332,23 @@ fn flat_stmt<'a>(
 {
     match flat {
         FlatSort::Assert => {
-            let (asserted, rest) = test(alloc, text, depth, Word::Assert, tokens)?;
+            let (asserted, rest) = read!(test(alloc, text, depth, Word::Assert, tokens));
             Ok((Stmt::Assert(asserted.0, asserted.1), rest))
         }
         FlatSort::Assume => {
-            let (assumed, rest) = test(alloc, text, depth, Word::Assume, tokens)?;
+            let (assumed, rest) = read!(test(alloc, text, depth, Word::Assume, tokens));
             Ok((Stmt::Assume(assumed.0, assumed.1), rest))
         }
         FlatSort::Wait => {
-            let (awaited, rest) = test(alloc, text, depth, Word::Wait, tokens)?;
+            let (awaited, rest) = read!(test(alloc, text, depth, Word::Wait, tokens));
             Ok((Stmt::Wait(awaited.0, awaited.1), rest))
         }
         FlatSort::Pause => {
-            let (pause, rest) = short(tokens, TokenKind::Word(Word::Pause))?;
+            let (pause, rest) = read!(short(tokens, TokenKind::Word(Word::Pause)));
             Ok((Stmt::Pause(pause), rest))
         }
         FlatSort::Magic => {
-            let (magic, rest) = short(tokens, TokenKind::Sign(Sign::Ellipsis))?;
+            let (magic, rest) = read!(short(tokens, TokenKind::Sign(Sign::Ellipsis)));
             Ok((Stmt::Magic(magic), rest))
         }
     }
@@ -363,7 +363,7 @@ fn if_stmt<'a>(alloc: Global, text: &[u8], depth: u8, tokens: &'a [Token]) -> Re
     ensures shorter { IfOk result (λ r. length r.1.now < length tokens.now) }
     ensures refused { IfErr result (IsRefused (AnyOf (AStmtOf text.now depth sort.If)) GoesStmt tokens.now) }
 {
-    let (_, rest) = need(tokens, TokenKind::Word(Word::If))?;
+    let (_, rest) = read!(need(tokens, TokenKind::Word(Word::If)));
     if_from(alloc, text, depth, rest)
 }
 
@@ -377,9 +377,9 @@ fn if_from<'a>(alloc: Global, text: &[u8], depth: u8, tokens: &'a [Token]) -> Re
     ensures refused { IfErr result
         (IsRefused (AnyOf (AnIfFrom text.now depth)) (GoesAt (token.Word word.Else)) tokens.now) }
 {
-    let (test, rest) = condition(alloc, text, depth, tokens)?;
-    let (yes, rest) = block(alloc, text, depth, rest)?;
-    let (no, rest) = else_branch(alloc, text, depth, rest)?;
+    let (test, rest) = read!(condition(alloc, text, depth, tokens));
+    let (yes, rest) = read!(block(alloc, text, depth, rest), test);
+    let (no, rest) = read!(else_branch(alloc, text, depth, rest), test);
     Ok((Stmt::If(test, yes, no), rest))
 }
 
@@ -417,8 +417,8 @@ fn else_from<'a>(alloc: Global, text: &[u8], depth: u8, tokens: &'a [Token]) -> 
     if first_kind(tokens) != Some(TokenKind::Word(Word::If)) {
         return block(alloc, text, depth, tokens);
     }
-    let (_, rest) = open(depth, tokens, TokenKind::Word(Word::If))?;
-    let (stmt, rest) = if_from(alloc, text, depth + 1, rest)?;
+    let (_, rest) = read!(open(depth, tokens, TokenKind::Word(Word::If)));
+    let (stmt, rest) = read!(if_from(alloc, text, depth + 1, rest));
     let mut branch = Vec::new(alloc);
     branch.push(stmt)?;
     Ok((branch, rest))
@@ -433,9 +433,9 @@ fn while_stmt<'a>(alloc: Global, text: &[u8], depth: u8, tokens: &'a [Token]) ->
     ensures shorter { IfOk result (λ r. length r.1.now < length tokens.now) }
     ensures refused { IfErr result (IsRefused (AnyOf (AStmtOf text.now depth sort.While)) GoesStmt tokens.now) }
 {
-    let (at, rest) = need(tokens, TokenKind::Word(Word::While))?;
-    let (test, rest) = condition(alloc, text, depth, rest)?;
-    let (body, rest) = block(alloc, text, depth, rest)?;
+    let (at, rest) = read!(need(tokens, TokenKind::Word(Word::While)));
+    let (test, rest) = read!(condition(alloc, text, depth, rest));
+    let (body, rest) = read!(block(alloc, text, depth, rest), test);
     Ok((Stmt::While(at, test, body), rest))
 }
 
@@ -448,8 +448,8 @@ fn forever_stmt<'a>(alloc: Global, text: &[u8], depth: u8, tokens: &'a [Token]) 
     ensures shorter { IfOk result (λ r. length r.1.now < length tokens.now) }
     ensures refused { IfErr result (IsRefused (AnyOf (AStmtOf text.now depth sort.Forever)) GoesStmt tokens.now) }
 {
-    let (at, rest) = need(tokens, TokenKind::Word(Word::Forever))?;
-    let (body, rest) = block(alloc, text, depth, rest)?;
+    let (at, rest) = read!(need(tokens, TokenKind::Word(Word::Forever)));
+    let (body, rest) = read!(block(alloc, text, depth, rest));
     Ok((Stmt::Forever(at, body), rest))
 }
 
@@ -462,8 +462,8 @@ fn choice_stmt<'a>(alloc: Global, text: &[u8], depth: u8, tokens: &'a [Token]) -
     ensures shorter { IfOk result (λ r. length r.1.now < length tokens.now) }
     ensures refused { IfErr result (IsRefused (AnyOf (AStmtOf text.now depth sort.Choice)) GoesStmt tokens.now) }
 {
-    let (at, rest) = need(tokens, TokenKind::Word(Word::Choice))?;
-    let (choices, rest) = alternatives(alloc, text, depth, rest)?;
+    let (at, rest) = read!(need(tokens, TokenKind::Word(Word::Choice)));
+    let (choices, rest) = read!(alternatives(alloc, text, depth, rest));
     Ok((Stmt::Choice(at, choices), rest))
 }
 
@@ -482,14 +482,14 @@ fn alternatives<'a>(
     ensures refused { IfErr result
         (IsRefused (AnyOf (IsChoice text.now depth)) (GoesAt (token.Word word.Or)) tokens.now) }
 {
-    let (first, rest) = block(alloc, text, depth, tokens)?;
-    let (second, rest) = or_block(alloc, text, depth, rest)?;
+    let (first, rest) = read!(block(alloc, text, depth, tokens));
+    let (second, rest) = read!(or_block(alloc, text, depth, rest));
     let mut rows = Vec::new(alloc);
     rows.push(first)?;
     rows.push(second)?;
     let mut rest = rest;
     'others: while first_kind(rest) == Some(TokenKind::Word(Word::Or)) {
-        let (next, behind) = or_block(alloc, text, depth, rest)?;
+        let (next, behind) = read!(or_block(alloc, text, depth, rest));
         rows.push(next)?;
         rest = behind;
     }
@@ -504,7 +504,7 @@ fn or_block<'a>(alloc: Global, text: &[u8], depth: u8, tokens: &'a [Token]) -> R
     ensures shorter { IfOk result (λ r. length r.1.now < length tokens.now) }
     ensures refused { IfErr result (IsRefused (AnyOf (IsOrBlock text.now depth)) Nothing tokens.now) }
 {
-    let (_, rest) = need(tokens, TokenKind::Word(Word::Or))?;
+    let (_, rest) = read!(need(tokens, TokenKind::Word(Word::Or)));
     block(alloc, text, depth, rest)
 }
 
@@ -517,8 +517,8 @@ fn block<'a>(alloc: Global, text: &[u8], depth: u8, tokens: &'a [Token]) -> Read
     ensures shorter { IfOk result (λ r. length r.1.now < length tokens.now) }
     ensures refused { IfErr result (IsRefused (AnyOf (ABlock text.now depth)) Nothing tokens.now) }
 {
-    let (_, rest) = open(depth, tokens, TokenKind::Sign(Sign::OpenBrace))?;
-    let (stmts, rest) = stmts(alloc, text, depth + 1, rest)?;
-    let (_, rest) = need(rest, TokenKind::Sign(Sign::CloseBrace))?;
+    let (_, rest) = read!(open(depth, tokens, TokenKind::Sign(Sign::OpenBrace)));
+    let (stmts, rest) = read!(stmts(alloc, text, depth + 1, rest));
+    let (_, rest) = read!(need(rest, TokenKind::Sign(Sign::CloseBrace)));
     Ok((stmts, rest))
 }

@@ -133,13 +133,21 @@ slot_of-body spec t (Task k) name =
     by (Some k) = sym (numbered-named (record { params = k.params.items; locals = k.body.locals.items }) name.text)
 slot_of-body spec t Outside name = refl
 
-pub slot_of-read : (spec : Spec) (t : Template) (body : BodyName) (path : List Ident) (name : Ident) (x : BodySlots)
-    (slot : Option SlotNumber) → path ≡ name ∷ [] → body_slots t body ≡ Some x → slot ≡ slot_number x name.text →
+-- the number that the tables find of a name is that of the slot which a path of this one name means
+pub slot_of-numbered : (spec : Spec) (t : Template) (body : BodyName) (path : List Ident) (name : Ident)
+    (slot : Option SlotNumber) → path ≡ name ∷ [] →
+    slot ≡ option_and_then (λ b. slot_number b name.text) (body_slots t body) →
     option_and_then (slot_at (record { spec = spec; template = t; body = body })) slot
     ≡ slot_of (record { spec = spec_tree spec; template = template_tree t; body = body_name body }) path
-slot_of-read spec t body path name x slot one there is =
-    ap (λ o. option_and_then (λ s. option_and_then (λ b. numbered_slot b s) o) slot) there
-    ∙ ap (option_and_then (numbered_slot x)) is
+slot_of-numbered spec t body path name slot one found =
+    ap (option_and_then (slot_at (record { spec = spec; template = t; body = body }))) found
+    ∙ by (body_slots t body)
     ∙ sym (ap (slot_of (record { spec = spec_tree spec; template = template_tree t; body = body_name body })) one
-    ∙ slot_of-body spec t body name
-    ∙ ap (option_and_then (λ b. option_and_then (numbered_slot b) (slot_number b name.text))) there)
+    ∙ slot_of-body spec t body name)
+  where
+    by : (o : Option BodySlots) →
+        option_and_then (λ s. option_and_then (λ b. numbered_slot b s) o)
+        (option_and_then (λ b. slot_number b name.text) o)
+        ≡ option_and_then (λ b. option_and_then (numbered_slot b) (slot_number b name.text)) o
+    by None = refl
+    by (Some b) = refl

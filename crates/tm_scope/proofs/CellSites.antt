@@ -82,7 +82,7 @@ module _ (x : CellTables) (at : SiteBody) (node : Instance) (place : BodyPlace) 
       ∙ ap (option_and_then (λ t. body_slots t at.body)) there
       ∙ sym read
 
-  slots-place : slots_in x at ≡ body_slots place.template place.body
+  pub slots-place : slots_in x at ≡ body_slots place.template place.body
   slots-place =
       slots-read place.template is.of_template (body_slots place.template at.body) refl
       ∙ ap (body_slots place.template) (sym is.of_body)

@@ -1,10 +1,11 @@
 -- The steps of loops that fill a list or a directory.
-use Rattle.std.proofs.Common.{◌≡◌, ℕ, ◌+◌, ◌<◌, Bool, true, false, cond, Option, None, Some, List, [], ◌∷◌, ◌++◌, length, take, get_or, map, refl, sym, ap, ◌∙◌}
+use Rattle.std.proofs.Common.{◌≡◌, ⊎_elim, ℕ, ◌+◌, ◌<◌, Bool, true, false, cond, Option, None, Some, List, [], ◌∷◌, ◌++◌, length, length-append, slice_get, take, get_or, map, refl, sym, ap, ◌∙◌, subst, arith}
 use Rattle.std.specs.Prelude.{◌||◌}
 use Rattle.std.proofs.lemmas.List.{take_more}
 use Rattle.std.proofs.lemmas.List.Folds.{list_any_more}
 use Rattle.std.specs.List.{list_any}
 use Rattle.std.specs.Option.{option_or}
+use Rattle.tm_scope.proofs.Entries.{at-end, at-left, below_or_not}
 
 pub map-push : {X Y : Type 0} (f : X → Y) (xs : List X) (x : X) → map f (xs ++ x ∷ []) ≡ map f xs ++ f x ∷ []
 map-push f [] x = refl
@@ -20,6 +21,21 @@ filled_more f xs i x old new y within is made pushed before =
     ∙ ap (λ z. map f (take i xs) ++ z ∷ []) (made ∙ ap f is)
     ∙ sym (map-push f (take i xs) (get_or xs i x))
     ∙ ap (map f) (sym (take_more xs i x within))
+
+-- a list that holds the numbers so far
+pub counted_more : (n : ℕ) (old new : List ℕ) → new ≡ old ++ n ∷ [] →
+    (length old ≡ n) × ((k : ℕ) → k < n → slice_get old k ≡ Some k) →
+    (length new ≡ n + 1) × ((k : ℕ) → k < n + 1 → slice_get new k ≡ Some k)
+counted_more n old new pushed so = (
+  ap length pushed ∙ length-append old (n ∷ []) ∙ ap (λ m. m + 1) so.0,
+  λ k below. ap (λ ns. slice_get ns k) pushed
+      ∙ ⊎_elim (λ before. at-left old (n ∷ []) k k (so.1 k before))
+      (λ beyond.
+      let here : n ≡ k = omega (arith, below, beyond) in
+      subst (λ m. slice_get (old ++ n ∷ []) m ≡ Some m) here
+      (subst (λ m. slice_get (old ++ n ∷ []) m ≡ Some n) so.0 (at-end old n)))
+      (below_or_not k n),
+)
 
 -- a list that holds the elements so far
 pub gathered_more : {X : Type 0} (xs : List X) (i : ℕ) (x : X) (old new : List X) (y : X) →

@@ -1,5 +1,5 @@
 -- The numbers of variables and tasks lead to what their paths mean.
-use Rattle.std.proofs.Common.{◌≡◌, ℕ, Bool, Option, None, Some, List, map, slice_get, position, find, refl, sym, ap, ◌∙◌}
+use Rattle.std.proofs.Common.{◌≡◌, ℕ, Bool, Option, None, Some, List, slice_get, position, find, refl, sym, ap, ◌∙◌}
 use Rattle.std.proofs.lemmas.Option.{slice_get-map}
 use Rattle.std.specs.Option.{option_map, option_and_then}
 use Rattle.tm_syntax.specs.declared.tree.Ident.{Ident}
@@ -14,7 +14,6 @@ use Rattle.tm_syntax.specs.declared.member.Member.{Member}
 use Rattle.tm_scope.specs.Context.{template_at}
 use Rattle.tm_scope.specs.Members.{task_at, var_at, var_number}
 use Rattle.tm_syntax.specs.Scopes.Calls.{number_along, task_number}
-use Rattle.tm_scope.proofs.FirstNames.{find-map}
 use Rattle.tm_scope.proofs.Numbers.{template_at_number_along}
 use Rattle.tm_scope.proofs.PathSteps.{template_read}
 use Rattle.tm_scope.proofs.Positions.{find-position}
@@ -84,41 +83,28 @@ task_at_number spec path from =
     (λ t. option_map (λ k. (t, k)) (find (λ (k : TaskTree). is_spelled (last_name path) k.name) t.tasks))
     (slice_get spec.templates from)
 
--- the template in which a path ends, from one that is there
-module _ (s : Spec) (from : ℕ) (t : Template) (at : slice_get s.templates.items from ≡ Some t) (path : List Ident)
+-- the variable that a path means is that of its number
+pub variable_of-numbered : (s : Spec) (from : ℕ) (t : Template) → slice_get s.templates.items from ≡ Some t →
+    (path : List Ident) (body : BodyName) →
+    variable_of (record { spec = spec_tree s; template = template_tree t; body = body }) path
+    ≡ option_and_then (var_at (spec_tree s)) (var_number (spec_tree s) from path)
+variable_of-numbered s from t at path body =
+    sym (var_at_number (spec_tree s) path from body
+    ∙ ap (option_and_then (λ u. variable_of (record { spec = spec_tree s; template = u; body = body }) path))
+    (template_read s from t at))
+
+-- the variable of a number in the text
+pub var_at-read : (s : Spec) (m : Member) →
+    option_map var_tree (option_and_then (λ (t : Template). slice_get t.vars.items m.index)
+    (slice_get s.templates.items m.template))
+    ≡ var_at (spec_tree s) m
+var_at-read s m =
+    by (slice_get s.templates.items m.template)
+    ∙ sym (ap (option_and_then (λ t. slice_get t.vars m.index))
+    (slice_get-map template_tree s.templates.items m.template))
   where
-    template_along-tables : template_along (spec_tree s) (template_tree t) path
-        ≡ option_map template_tree
-        (option_and_then (slice_get s.templates.items) (number_along (spec_tree s) from path))
-    template_along-tables =
-        sym (template_at_number_along (spec_tree s) path from
-        ∙ ap (option_and_then (λ u. template_along (spec_tree s) u path)) (template_read s from t at))
-        ∙ by (number_along (spec_tree s) from path)
-      where
-        by : (number : Option ℕ) → template_at (spec_tree s) number
-            ≡ option_map template_tree (option_and_then (slice_get s.templates.items) number)
-        by None = refl
-        by (Some n) = slice_get-map template_tree s.templates.items n
-
-    -- the variable that a path means stands in the template that the tables find
-    pub variable_of-tables : (body : BodyName) →
-        variable_of (record { spec = spec_tree s; template = template_tree t; body = body }) path
-        ≡ option_and_then (λ (u : Template). option_map var_tree
-        (find (λ v. is_spelled (last_name path) v.name) u.vars.items))
-        (option_and_then (slice_get s.templates.items) (number_along (spec_tree s) from path))
-    variable_of-tables body =
-        ap (option_and_then (λ u. find (λ (v : VarTree). is_spelled (last_name path) v.name) u.vars))
-        template_along-tables
-        ∙ and_then-map template_tree (λ u. find (λ (v : VarTree). is_spelled (last_name path) v.name) u.vars) found
-        ∙ by found
-      where
-        found : Option Template
-        found = option_and_then (slice_get s.templates.items) (number_along (spec_tree s) from path)
-
-        by : (o : Option Template) →
-            option_and_then (λ (u : Template). find (λ (v : VarTree). is_spelled (last_name path) v.name)
-            (map var_tree u.vars.items)) o
-            ≡ option_and_then (λ (u : Template). option_map var_tree
-            (find (λ v. is_spelled (last_name path) v.name) u.vars.items)) o
-        by None = refl
-        by (Some u) = find-map (λ (v : VarTree). is_spelled (last_name path) v.name) var_tree u.vars.items
+    by : (o : Option Template) →
+        option_map var_tree (option_and_then (λ (t : Template). slice_get t.vars.items m.index) o)
+        ≡ option_and_then (λ t. slice_get t.vars m.index) (option_map template_tree o)
+    by None = refl
+    by (Some t) = sym (slice_get-map var_tree t.vars.items m.index)

@@ -79,6 +79,21 @@ module _ (x : InstanceTables) (n : ℕ) where
         ∙ option_map-option_map template_tree (made_site n (instance_node i))
         (slice_get x.spec.templates.items i.template)
 
+    pub neighbor-in_template : (name : List ℕ) →
+        option_and_then (λ (s : Site). neighbor s.node s.template name) (site (bare_design x) n)
+        ≡ option_and_then (λ (t : Template). neighbor (instance_node i) (template_tree t) name)
+        (slice_get x.spec.templates.items i.template)
+    neighbor-in_template name =
+        ap (option_and_then (λ (s : Site). neighbor s.node s.template name)) in_template
+        ∙ by (slice_get x.spec.templates.items i.template)
+      where
+        by : (o : Option Template) →
+            option_and_then (λ (s : Site). neighbor s.node s.template name)
+            (option_map (λ (t : Template). made_site n (instance_node i) (template_tree t)) o)
+            ≡ option_and_then (λ (t : Template). neighbor (instance_node i) (template_tree t) name) o
+        by None = refl
+        by (Some t) = refl
+
     pub no_template : slice_get x.spec.templates.items i.template ≡ None → site (bare_design x) n ≡ None
     no_template absent =
         in_template ∙ ap (option_map (λ (t : Template). made_site n (instance_node i) (template_tree t))) absent

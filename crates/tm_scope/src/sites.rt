@@ -58,8 +58,7 @@ impl<'s> Sites<'s> {
             ≡ option_and_then (λ at. neighbor at.node at.template name.now) (site (bare_design self.now) from) }
     {
         let node = self.instance(from)?;
-        let template = self.scopes.template(node.template as usize)?;
-        template.neighbor(node, name)
+        self.scopes.neighbor_at(node, name)
     }
 
     /// The number of the instance in which a path ends, from the instance of a number: every name but the last leads to
@@ -82,8 +81,8 @@ impl<'s> Sites<'s> {
     {
         let instance = self.number_along(from, path)?;
         let node = self.instance(instance)?;
-        let template = self.scopes.template(node.template as usize)?;
-        let index = template.task_index(last_name(path))?;
+        let number = node.template as usize;
+        let index = self.scopes.task_index_at(number, last_name(path))?;
         Some(SiteTask { instance, index })
     }
 }

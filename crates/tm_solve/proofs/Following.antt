@@ -11,6 +11,7 @@ pub extends_then : {a b c : Ids} → Extends a b → Extends b c → Extends a c
 extends_then d e = record {
   known = λ id known. e.known id (d.known id known);
   same = λ id known. e.same id (d.known id known) ∙ d.same id known;
+  of = λ design is. e.of design (d.of design is);
 }
 
 pub follows_then : {g h k : Game} {a b c : Ids} → Follows g a h b → Follows h b k c → Follows g a k c

@@ -6,52 +6,26 @@ ghost use Rattle.tm_cir.specs.View.{trees_of};
 ghost use Rattle.tm_cir.specs.Fit.{FitBlocks};
 ghost use Rattle.tm_commands.specs.Words.{run as run_words};
 ghost use Rattle.tm_commands.specs.World.{files_data, sink_data};
-ghost use Rattle.tm_commands.specs.Played.{Ends, IsPart};
-ghost use Rattle.tm_commands.specs.Inner.Advance.{IsPlayable};
+ghost use Rattle.tm_commands.specs.declared.ending.Ending.TheVariants.{Play};
+ghost use Rattle.tm_play.specs.declared.ending.PlayEnd.{PlayEnd};
+ghost use Rattle.tm_play.specs.Played.{Ends, IsPart};
+ghost use Rattle.tm_play.specs.Playable.{IsPlayable};
 ghost use Rattle.tm_commands.specs.Inner.Obeying.{Obeys};
 ghost use Rattle.tm_commands.specs.Inner.Stopping.{IsSinkFailure};
 
 use crate::ending::{Ending, Failure};
 use crate::input::load::{Inputs, load};
-use crate::input::script::Script;
-use crate::play::turns::play;
+use crate::report::put::failure_of;
 use std::alloc::Global;
-use tm_base::{Files, Sink};
-use tm_cir::Blocks;
-use tm_machine::{Machine, Tables};
-
-/// Plays choices against blocks by the tables of a design.
-fn play_by_tables<O: Sink>(
-    alloc: Global,
-    tables: &Tables,
-    blocks: &Blocks,
-    script: &Script,
-    out: &mut O,
-) -> Result<Ending, Failure>
-    requires playable { IsPlayable (design_tree tables.now) }
-    requires blocks { FitBlocks (design_tree tables.now) (trees_of blocks.now) }
-    ensures ended { IfOk result (λ ending. (text : List ℕ)
-        × Ends (design_tree tables.now) (trees_of blocks.now) script.now text ending
-        × (IsTrue O.tells → O.written out.new ≡ O.written out.old ++ text)) }
-    ensures cut { OnErr result ((text : List ℕ)
-        × IsPart (design_tree tables.now) (trees_of blocks.now) script.now text
-        × (IsTrue O.tells → AppendsPrefix text (O.written out.old) (O.written out.new))) }
-    ensures failure { IfErr result (IsSinkFailure
-        (sink_data ⟦<O as Sink>⟧ out.old) (sink_data ⟦<O as Sink>⟧ out.new)) }
-    ensures no_fewer_faults { O.faults out.old ≤ O.faults out.new }
-{
-    let Ok(machine) = Machine::new(alloc, tables) else {
-        return Err(Failure::Memory);
-    };
-    play(alloc, &machine, blocks, script, out)
-}
+use tm_base::{Files, Sink, SinkError};
+use tm_play::{PlayError, play_script};
 
 /// Plays what was read.
 fn play_inputs<O: Sink>(alloc: Global, inputs: &Inputs, out: &mut O) -> Result<Ending, Failure>
     requires playable { IsPlayable (design_tree inputs.now.design) }
     requires blocks { FitBlocks (design_tree inputs.now.design) (trees_of inputs.now.blocks) }
-    ensures ended { IfOk result (λ ending. (text : List ℕ)
-        × Ends (design_tree inputs.now.design) (trees_of inputs.now.blocks) inputs.now.script text ending
+    ensures ended { IfOk result (λ ending. (end : PlayEnd) × (text : List ℕ) × (ending ≡ Play end)
+        × Ends (design_tree inputs.now.design) (trees_of inputs.now.blocks) inputs.now.script text end
         × (IsTrue O.tells → O.written out.new ≡ O.written out.old ++ text)) }
     ensures cut { OnErr result ((text : List ℕ)
         × IsPart (design_tree inputs.now.design) (trees_of inputs.now.blocks) inputs.now.script text
@@ -60,10 +34,11 @@ fn play_inputs<O: Sink>(alloc: Global, inputs: &Inputs, out: &mut O) -> Result<E
         (sink_data ⟦<O as Sink>⟧ out.old) (sink_data ⟦<O as Sink>⟧ out.new)) }
     ensures no_fewer_faults { O.faults out.old ≤ O.faults out.new }
 {
-    let Ok(tables) = Tables::new(alloc, &inputs.design) else {
-        return Err(Failure::Memory);
-    };
-    play_by_tables(alloc, &tables, &inputs.blocks, &inputs.script, out)
+    match play_script(alloc, &inputs.design, &inputs.blocks, &inputs.script, out) {
+        Ok(end) => Ok(Ending::Play(end)),
+        Err(PlayError::Failed) => Err(failure_of(alloc, SinkError::Failed)),
+        Err(PlayError::Memory) => Err(Failure::Memory),
+    }
 }
 
 /// Plays the choices against the driver's blocks over the design, and puts the line of each state. The lines that tell

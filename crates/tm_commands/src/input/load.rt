@@ -7,18 +7,17 @@ ghost use Rattle.tm_commands.specs.World.{files_data, OnlyReads};
 ghost use Rattle.tm_commands.specs.Inputs.{TellsDesign, TellsBlocks, TellsScript, NoDesign, NoBlocks, NoScript};
 ghost use Rattle.tm_commands.specs.Inputs.{RefusesOne};
 ghost use Rattle.tm_commands.specs.Run.{Loads, Refused};
-ghost use Rattle.tm_commands.specs.Inner.Advance.{IsPlayable};
+ghost use Rattle.tm_play.specs.Playable.{IsPlayable};
 ghost use Rattle.tm_commands.specs.Inner.Stopping.{StopsBy, IsReadFailure, IsRefusal};
 
 use crate::ending::{Bad, Failure, Stop};
-use crate::input::choices::{ScriptError, read_script};
 use crate::input::file::{TEXT_BYTES, bad_text, read_file, unbuilt};
-use crate::input::script::Script;
 use crate::input::specification::load_specification;
 use std::alloc::Global;
 use tm_base::Files;
 use tm_cir::Blocks;
 use tm_cparse::{ReadDriverError, read_driver};
+use tm_play::{Script, ScriptError, read_script};
 use tm_syntax::design::Design;
 
 /// What `run` plays: a design, blocks that fit it, and choices.

@@ -3,9 +3,9 @@ ghost use Rattle.std.specs.Prelude.{◌≡◌, ◌++◌, OnOk, IfOk};
 ghost use Rattle.tm_commands.specs.Report.{kind_text as text_of_kind, at_text, quantity_text as text_of_quantity};
 ghost use Rattle.tm_commands.specs.Report.{detail_text, fault_line as line_of_fault};
 
-use crate::report::line_text::{push, push_number};
 use std::alloc::{AllocError, Global};
 use tm_base::Place;
+use tm_play::{push, push_number};
 use tm_syntax::fault::{Detail, FaultKind, Faulty, Quantity};
 
 fn kind_text(kind: FaultKind) -> &'static [u8]
@@ -47,7 +47,7 @@ fn quantity_text(quantity: Quantity) -> &'static [u8]
     }
 }
 
-#[tactic(auto, using(crate::proofs::Appending::append_assoc))]
+#[tactic(auto, using(tm_play::proofs::Appending::append_assoc))]
 fn push_place(line: &mut Vec<u8>, place: Place) -> Result<(), AllocError>
     ensures { OnOk result (line.new.items ≡ line.old.items ++ at_text place) }
 {
@@ -57,7 +57,7 @@ fn push_place(line: &mut Vec<u8>, place: Place) -> Result<(), AllocError>
     Ok(())
 }
 
-#[tactic(auto, using(crate::proofs::Appending::append_assoc))]
+#[tactic(auto, using(tm_play::proofs::Appending::append_assoc))]
 fn push_detail(line: &mut Vec<u8>, detail: &Detail) -> Result<(), AllocError>
     ensures { OnOk result (line.new.items ≡ line.old.items ++ detail_text detail.now) }
 {
@@ -81,7 +81,7 @@ fn push_detail(line: &mut Vec<u8>, detail: &Detail) -> Result<(), AllocError>
 }
 
 /// The line that tells a fault: its kind, its place, and what it says beside these.
-#[tactic(auto, using(crate::proofs::Appending::append_assoc))]
+#[tactic(auto, using(tm_play::proofs::Appending::append_assoc))]
 pub fn fault_line(alloc: Global, fault: &Faulty) -> Result<Vec<u8>, AllocError>
     ensures { IfOk result (λ line. line.items ≡ line_of_fault fault.now) }
 {

@@ -3,19 +3,19 @@ ghost use Rattle.std.specs.Prelude.{◌≡◌, ◌≤◌, ◌++◌, ℕ, codes, 
 ghost use Rattle.std.specs.Fmt.{decimal};
 ghost use Rattle.std.specs.List.{flat_map};
 ghost use Rattle.tm_base.specs.Sink.{AppendsPrefix};
-ghost use Rattle.tm_commands.specs.Report.{bad_cert_text, bad_driver_text, bad_text, why_text, usage_text};
+ghost use Rattle.tm_commands.specs.Report.{bad_cert_text, bad_driver_text, bad_text, usage_text};
 ghost use Rattle.tm_commands.specs.Report.{ending_text, failure_text, outcome_text};
 ghost use Rattle.tm_commands.specs.World.{sink_data};
 ghost use Rattle.tm_commands.specs.Inner.Stopping.{IsSinkFailure};
 
-use crate::ending::{Bad, Ending, Failure, StopWhy};
+use crate::ending::{Bad, Ending, Failure};
 use crate::report::fault_text::fault_line;
-use crate::report::line_text::{push, push_number};
 use crate::report::put::put_line;
 use std::alloc::{AllocError, Global};
 use tm_base::{Name, Sink};
 use tm_cert::BadCert;
 use tm_cparse::BadDriver;
+use tm_play::{end_line, push, push_number};
 
 /// The usage text, line by line.
 const USAGE: [&str; 6] = [
@@ -28,7 +28,7 @@ const USAGE: [&str; 6] = [
 ];
 
 /// A line of a word and a number.
-#[tactic(auto, using(crate::proofs::Appending::append_assoc))]
+#[tactic(auto, using(tm_play::proofs::Appending::append_assoc))]
 fn counted_line(alloc: Global, word: &[u8], n: u64) -> Result<Vec<u8>, AllocError>
     ensures { IfOk result (λ line. line.items ≡ word.now ++ decimal n ++ codes "\n") }
 {
@@ -39,7 +39,7 @@ fn counted_line(alloc: Global, word: &[u8], n: u64) -> Result<Vec<u8>, AllocErro
 }
 
 /// A line of a word and a file's name.
-#[tactic(auto, using(crate::proofs::Appending::append_assoc))]
+#[tactic(auto, using(tm_play::proofs::Appending::append_assoc))]
 fn named_line(alloc: Global, word: &[u8], name: &Name) -> Result<Vec<u8>, AllocError>
     ensures { IfOk result (λ line. line.items ≡ word.now ++ name.now ++ codes "\n") }
 {
@@ -49,7 +49,7 @@ fn named_line(alloc: Global, word: &[u8], name: &Name) -> Result<Vec<u8>, AllocE
     Ok(line)
 }
 
-#[tactic(auto, using(crate::proofs::Appending::append_assoc))]
+#[tactic(auto, using(tm_play::proofs::Appending::append_assoc))]
 fn push_counted(line: &mut Vec<u8>, word: &[u8], n: u64) -> Result<(), AllocError>
     ensures { OnOk result (line.new.items ≡ line.old.items ++ (word.now ++ decimal n)) }
 {
@@ -69,7 +69,7 @@ fn push_bad_driver(line: &mut Vec<u8>, bad: BadDriver) -> Result<(), AllocError>
     }
 }
 
-#[tactic(auto, using(crate::proofs::Appending::append_assoc))]
+#[tactic(auto, using(tm_play::proofs::Appending::append_assoc))]
 fn push_path(line: &mut Vec<u8>, word: &[u8], path: &Name) -> Result<(), AllocError>
     ensures { OnOk result (line.new.items ≡ line.old.items ++ (word.now ++ path.now)) }
 {
@@ -100,7 +100,7 @@ fn push_bad(line: &mut Vec<u8>, why: &Bad) -> Result<(), AllocError>
     }
 }
 
-#[tactic(auto, using(crate::proofs::Appending::append_assoc))]
+#[tactic(auto, using(tm_play::proofs::Appending::append_assoc))]
 fn bad_line(alloc: Global, file: &Name, why: &Bad) -> Result<Vec<u8>, AllocError>
     ensures { IfOk result (λ line.
         line.items ≡ codes "bad " ++ file.now ++ codes " " ++ bad_text why.now ++ codes "\n") }
@@ -109,29 +109,6 @@ fn bad_line(alloc: Global, file: &Name, why: &Bad) -> Result<Vec<u8>, AllocError
     push(&mut line, file.as_bytes())?;
     push(&mut line, b" ")?;
     push_bad(&mut line, why)?;
-    push(&mut line, b"\n")?;
-    Ok(line)
-}
-
-fn push_why(line: &mut Vec<u8>, why: StopWhy) -> Result<(), AllocError>
-    ensures { OnOk result (line.new.items ≡ line.old.items ++ why_text why) }
-{
-    match why {
-        StopWhy::Error => push(line, b"error"),
-        StopWhy::Forbidden => push(line, b"forbidden"),
-        StopWhy::Illegal => push(line, b"illegal"),
-    }
-}
-
-#[tactic(auto, using(crate::proofs::Appending::append_assoc))]
-fn stopped_line(alloc: Global, step: u64, why: StopWhy) -> Result<Vec<u8>, AllocError>
-    ensures { IfOk result (λ line.
-        line.items ≡ codes "stopped " ++ decimal step ++ codes " " ++ why_text why ++ codes "\n") }
-{
-    let mut line = Vec::from_slice(alloc, b"stopped ")?;
-    push_number(&mut line, step)?;
-    push(&mut line, b" ")?;
-    push_why(&mut line, why)?;
     push(&mut line, b"\n")?;
     Ok(line)
 }
@@ -180,12 +157,8 @@ fn put_ending<O: Sink>(alloc: Global, ending: &Ending, out: &mut O) -> Result<()
 {
     match ending {
         Ending::Usage => put_usage(alloc, out),
-        Ending::Played(steps) => {
-            let line = counted_line(alloc, b"played ", *steps)?;
-            put_line(alloc, out, &line)
-        }
-        Ending::Stopped { step, why } => {
-            let line = stopped_line(alloc, *step, *why)?;
+        Ending::Play(end) => {
+            let line = end_line(alloc, *end)?;
             put_line(alloc, out, &line)
         }
         Ending::Generated(registers) => {

@@ -9,7 +9,7 @@ use std::alloc::Global;
 use tm_base::{Name, Sink, SinkError};
 
 /// The failure of a refused `put`: the name of a failed output is empty.
-fn failure_of(alloc: Global, error: SinkError) -> Failure
+pub fn failure_of(alloc: Global, error: SinkError) -> Failure
     ensures { IsFailureOf error result }
 {
     match error {

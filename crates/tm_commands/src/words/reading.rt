@@ -5,10 +5,10 @@ ghost use Rattle.std.specs.String.{string_bytes};
 ghost use Rattle.tm_commands.specs.Words.{command_of, command_view, command_with as command_behind, generate_of};
 ghost use Rattle.tm_commands.specs.Words.{migrate_of, registers_of, run_of};
 
-use crate::input::number::read_digits;
 use crate::words::command::Command;
 use crate::words::splitting::split;
 use std::alloc::{AllocError, Global};
+use tm_play::read_digits;
 
 /// The most registers of a generated specification.
 const MOST_REGISTERS: u64 = 12;

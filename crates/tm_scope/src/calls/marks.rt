@@ -11,13 +11,13 @@ use tm_syntax::tree::Ident;
 ///
 /// Contracts see the specification, the number of the template and the tasks.
 #[derive(Drop)]
-pub struct CallMarks<'m, 's, 'a> {
+pub struct CallMarks<'s, 'a> {
     scopes: &'s Scopes<'a>,
     from: usize,
-    tasks: &'m TaskSet,
+    tasks: &'s TaskSet,
 }
 
-impl<'m, 's, 'a> Model for CallMarks<'m, 's, 'a> {
+impl<'s, 'a> Model for CallMarks<'s, 'a> {
     ghost use Rattle.std.specs.Prelude.{◌<◌, length};
     ghost use Rattle.std.specs.Coded.{codes};
     ghost use Rattle.tm_syntax.specs.contracts.tree.Spec as spec_contract;
@@ -32,9 +32,9 @@ impl<'m, 's, 'a> Model for CallMarks<'m, 's, 'a> {
     ghost coded = { Prim.hlevel (codes, spec_contract.the_row.coded) };
 }
 
-impl<'m, 's, 'a> CallMarks<'m, 's, 'a> {
+impl<'s, 'a> CallMarks<'s, 'a> {
     /// These tasks, and the template of a number, from which paths lead.
-    pub fn new(scopes: &'s Scopes<'a>, from: usize, tasks: &'m TaskSet) -> CallMarks<'m, 's, 'a>
+    pub fn new(scopes: &'s Scopes<'a>, from: usize, tasks: &'s TaskSet) -> CallMarks<'s, 'a>
         requires { from < length scopes.now.templates.items }
         ensures { result ≡ record { spec = scopes.now; from = from; tasks = tasks.now } }
     {

@@ -109,9 +109,17 @@ fn walk_calls(alloc: Global, scopes: &Scopes) -> Result<CallWalk, AllocError>
     ensures { IfOk result (λ w. IsCallWalk scopes.now w.tasks w.order.items) }
 {
     let tasks = all_tasks(alloc, scopes.spec())?;
-    let edges = callee_rows(alloc, scopes, &tasks, tasks.as_slice())?;
-    let order = walk_graph(alloc, edges.as_slice())?;
+    let order = walk_tasks(alloc, scopes, &tasks)?;
     Ok(CallWalk { tasks, order })
+}
+
+// Walks over these tasks, which are all of a text, along their calls.
+fn walk_tasks(alloc: Global, scopes: &Scopes, tasks: &TaskSet) -> Result<Vec<Walked>, AllocError>
+    requires { AreAllTasks (spec_tree scopes.now) tasks.now }
+    ensures { IfOk result (λ order. IsCallWalk scopes.now tasks.now order.items) }
+{
+    let edges = callee_rows(alloc, scopes, tasks, tasks.as_slice())?;
+    walk_graph(alloc, edges.as_slice())
 }
 
 // All tasks and procedures of a text.

@@ -71,8 +71,7 @@ impl<'s> CellScope<'s> {
     fn slot_named(&self, name: &[u8]) -> Option<SlotNumber>
         ensures { result ≡ option_and_then (λ body. slot_number body name.now) (slots_in self.now.tables self.now.at) }
     {
-        let template = self.cells.scopes().template(self.node.template as usize)?;
-        template.body(self.at.body)?.slot(name)
+        self.names.slot_named(name)
     }
 
     /// Whether the parameters and locals of the body are kept in the state. Outside of all bodies none are.

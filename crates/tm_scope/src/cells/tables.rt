@@ -92,13 +92,15 @@ impl<'s> Cells<'s> {
         let node = self.instances.get(at.instance as usize)?;
         let number = node.template as usize;
         let template = self.spec.templates.get(number)?;
+        let name = text_of_name(template, at.body);
+        let kept = body_is_kept(self.scopes, self.pausing, number, template, at.body);
         Some(CellScope {
             cells: self,
             at,
             node,
             names: self.scopes.body_scope(number, at.body),
-            name: text_of_name(template, at.body),
-            kept: body_is_kept(self.scopes, self.pausing, number, template, at.body),
+            name,
+            kept,
         })
     }
 

@@ -88,8 +88,6 @@ impl<'s> CellScope<'s> {
         ensures { option_map ty_of result
             ≡ option_map (λ s. s.ty) (slot_in self.now.tables self.now.at slot) }
     {
-        let template = self.cells.scopes().template(self.node.template as usize)?;
-        let body = template.body(self.at.body)?;
-        Some(ExprType::of(body.written_type(slot)?))
+        self.names.numbered_type(slot)
     }
 }

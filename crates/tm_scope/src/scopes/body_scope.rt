@@ -5,13 +5,13 @@ ghost use Rattle.tm_syntax.specs.Tree.View.{expr_tree, spec_tree, var_tree};
 ghost use Rattle.tm_syntax.specs.Scopes.Context.{slot_of, variable_of};
 ghost use Rattle.tm_syntax.specs.Scopes.Types.{array_length, constant_type, either_type, named_type, own_type};
 ghost use Rattle.tm_scope.specs.Context.{context_of};
-ghost use Rattle.tm_scope.specs.Members.{slot_at};
+ghost use Rattle.tm_scope.specs.Inner.Slots.{slot_number};
+ghost use Rattle.tm_scope.specs.Members.{body_slots, slot_at};
 ghost use Rattle.tm_scope.specs.Types.{ty_of};
 
 use crate::context::BodyName;
 use crate::members::SlotNumber;
 use crate::scopes::body_names::BodyNames;
-use crate::scopes::paths::last_name;
 use crate::scopes::scope::Scopes;
 use crate::scopes::template_scope::TemplateScope;
 use crate::types::{ExprType, either_type, joins_numbers};
@@ -73,16 +73,23 @@ impl<'s> BodyScope<'s> {
         let [name] = path else {
             return None;
         };
-        self.names?.slot(name.text.as_bytes())
+        self.slot_named(name.text.as_bytes())
+    }
+
+    // The parameter or local of a name.
+    pub(crate) fn slot_named(&self, name: &[u8]) -> Option<SlotNumber>
+        ensures { result
+            ≡ option_and_then (λ body. slot_number body name.now) (body_slots self.now.template self.now.body) }
+    {
+        self.names?.slot(name)
     }
 
     /// The variable or array that a path means, of the template in which it ends.
     pub fn variable_of(&self, path: &[Ident]) -> Option<&'s VarDef>
         ensures { option_map var_tree (option_copied result) ≡ variable_of (context_of self.now) path.now }
     {
-        self.scopes
-            .scope_along(self.number, path)?
-            .var(last_name(path))
+        let number = self.scopes.var_number(self.number, path)?;
+        self.scopes.var(number)
     }
 
     // The type of a parameter or local that a path of one name means.
@@ -90,7 +97,13 @@ impl<'s> BodyScope<'s> {
         ensures { option_map ty_of result
             ≡ option_map (λ s. s.ty) (slot_of (context_of self.now) path.now) }
     {
-        let slot = self.slot_of(path)?;
+        self.numbered_type(self.slot_of(path)?)
+    }
+
+    // The type of the parameter or local of a number.
+    pub(crate) fn numbered_type(&self, slot: SlotNumber) -> Option<ExprType<'s>>
+        ensures { option_map ty_of result ≡ option_map (λ s. s.ty) (slot_at self.now slot) }
+    {
         Some(ExprType::of(self.names?.written_type(slot)?))
     }
 

@@ -41,8 +41,8 @@ impl<'a> Constants<'a> {
     pub(crate) fn new(alloc: Global, spec: &'a Spec) -> Result<Constants<'a>, AllocError>
         ensures { IfOk result (λ s. s ≡ spec.now) }
     {
-        let enums = enums_of_constants(alloc, spec.enums.as_slice())?;
         let values = all_enum_names(alloc, spec.enums.as_slice())?;
+        let enums = enums_of_constants(alloc, spec.enums.as_slice())?;
         Ok(Constants {
             spec,
             enums,

@@ -1,13 +1,12 @@
 //! The variables and tasks of a template by their names.
-ghost use Rattle.std.specs.Prelude.{◌≡◌, IfOk, find, position, slice_get};
-ghost use Rattle.std.specs.Option.{option_copied};
+ghost use Rattle.std.specs.Prelude.{◌≡◌, IfOk, position};
 ghost use Rattle.tm_syntax.specs.Scopes.Names.{is_spelled};
 ghost use Rattle.tm_syntax.specs.Tree.View.{template_tree};
 
 use crate::names::Directory;
 use std::alloc::{AllocError, Global};
 use std::marker::Model;
-use tm_syntax::tree::{TaskDef, Template, VarDef};
+use tm_syntax::tree::Template;
 
 /// A template, whose variables and tasks are found by their names. Contracts see the template.
 #[derive(Drop)]
@@ -51,21 +50,6 @@ impl<'a> Members<'a> {
         ensures { result ≡ position (λ v. is_spelled name.now v.name) (template_tree self.now).vars }
     {
         self.vars.find(name)
-    }
-
-    /// The variable or array of a name.
-    pub(crate) fn var(&self, name: &[u8]) -> Option<&'a VarDef>
-        ensures { option_copied result ≡ find (λ v. is_spelled name.now v.name) self.now.vars.items }
-    {
-        let index = self.vars.find(name)?;
-        Some(&self.template.vars[index])
-    }
-
-    /// The task or procedure of an index.
-    pub(crate) fn task(&self, index: usize) -> Option<&'a TaskDef>
-        ensures { option_copied result ≡ slice_get self.now.tasks.items index }
-    {
-        self.template.tasks.get(index)
     }
 
     /// The index of the task or procedure of a name.

@@ -13,9 +13,8 @@ ghost use Rattle.tm_scope.specs.Members.{task_at, var_at, var_number};
 ghost use Rattle.tm_syntax.specs.Scopes.Calls.{neighbor_number, number_along, task_number};
 
 use crate::scopes::scope::Scopes;
-use crate::scopes::template_scope::TemplateScope;
 use tm_syntax::member::Member;
-use tm_syntax::tree::{Ident, TaskDef};
+use tm_syntax::tree::{Ident, TaskDef, VarDef};
 
 impl<'a> Scopes<'a> {
     /// The number of the template of the instance or port of a name, from the template of a number.
@@ -42,16 +41,6 @@ impl<'a> Scopes<'a> {
         Some(at)
     }
 
-    // The template in which a path from the template of a number ends, with its tables.
-    pub(crate) fn scope_along(&self, from: usize, path: &[Ident]) -> Option<&TemplateScope<'a>>
-        requires { from < length self.now.templates.items }
-        ensures { option_copied result
-            ≡ option_and_then (slice_get self.now.templates.items) (number_along (spec_tree self.now) from path.now) }
-    {
-        let number = self.number_along(from, path)?;
-        Some(&self.templates[number])
-    }
-
     /// The variable or array that a path means, from the template of a number.
     pub fn var_number(&self, from: usize, path: &[Ident]) -> Option<Member>
         requires { from < length self.now.templates.items }
@@ -62,6 +51,16 @@ impl<'a> Scopes<'a> {
         Some(Member { template, index })
     }
 
+    // The variable or array of a number.
+    pub(crate) fn var(&self, var: Member) -> Option<&'a VarDef>
+        ensures { option_copied result
+            ≡ option_and_then (λ t. slice_get t.vars.items var.index)
+            (slice_get self.now.templates.items var.template) }
+    {
+        let template = self.spec().templates.get(var.template)?;
+        template.vars.get(var.index)
+    }
+
     /// The task or procedure of a number.
     pub fn task(&self, task: Member) -> Option<&'a TaskDef>
         ensures def { option_copied result
@@ -69,7 +68,8 @@ impl<'a> Scopes<'a> {
             (slice_get self.now.templates.items task.template) }
         ensures within { IfSome result (λ _. task.template < length self.now.templates.items) }
     {
-        self.template(task.template)?.task(task.index)
+        let template = self.spec().templates.get(task.template)?;
+        template.tasks.get(task.index)
     }
 
     /// The task or procedure that a path leads to, from the template of a number.

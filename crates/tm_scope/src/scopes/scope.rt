@@ -1,14 +1,16 @@
 //! A specification with all its tables.
 ghost use Rattle.std.specs.Prelude.{◌≡◌, ◌<◌, IfOk, IfSome, find, length, position, slice_get};
 ghost use Rattle.std.specs.List.{list_any};
-ghost use Rattle.std.specs.Option.{option_copied};
-ghost use Rattle.tm_syntax.specs.Tree.View.{spec_tree};
+ghost use Rattle.std.specs.Option.{option_and_then, option_copied};
+ghost use Rattle.tm_syntax.specs.Design.{instance_node, neighbor};
+ghost use Rattle.tm_syntax.specs.Tree.View.{spec_tree, template_tree};
 ghost use Rattle.tm_syntax.specs.Scopes.Names.{is_spelled, template_number, constant_value};
 
 use crate::scopes::template_scope::TemplateScope;
 use crate::scopes::{Constants, SpecNames};
 use std::alloc::{AllocError, Global};
 use std::marker::Model;
+use tm_syntax::design::Instance;
 use tm_syntax::tree::{EnumDef, Spec, Template};
 
 /// Tables over a specification, made once, by which each name in it is found in constant time for each of its bytes.
@@ -42,9 +44,9 @@ impl<'a> Scopes<'a> {
     pub fn new(alloc: Global, spec: &'a Spec) -> Result<Scopes<'a>, AllocError>
         ensures { IfOk result (λ s. s ≡ spec.now) }
     {
-        let names = SpecNames::new(alloc, spec)?;
-        let constants = Constants::new(alloc, spec)?;
         let templates = all_templates(alloc, spec.templates.as_slice())?;
+        let constants = Constants::new(alloc, spec)?;
+        let names = SpecNames::new(alloc, spec)?;
         Ok(Scopes {
             names,
             constants,
@@ -59,11 +61,30 @@ impl<'a> Scopes<'a> {
         self.names.spec()
     }
 
-    // The template of a number, with its tables.
-    pub(crate) fn template(&self, number: usize) -> Option<&TemplateScope<'a>>
-        ensures { option_copied result ≡ slice_get self.now.templates.items number }
+    // What a name stands for in an instance whose template is there: one that the instance holds, or a port.
+    pub(crate) fn neighbor_at(&self, node: &Instance, name: &[u8]) -> Option<u32>
+        ensures { result ≡ option_and_then (λ t. neighbor (instance_node node.now) (template_tree t) name.now)
+            (slice_get self.now.templates.items node.now.template) }
     {
-        self.templates.get(number)
+        let number = node.template as usize;
+        if number < self.templates.len() {
+            self.templates[number].neighbor(node, name)
+        } else {
+            None
+        }
+    }
+
+    // The index of the task or procedure of a name, in the template of a number.
+    pub(crate) fn task_index_at(&self, number: usize, name: &[u8]) -> Option<usize>
+        ensures { result
+            ≡ option_and_then (λ t. position (λ task. is_spelled name.now task.name) (template_tree t).tasks)
+            (slice_get self.now.templates.items number) }
+    {
+        if number < self.templates.len() {
+            self.templates[number].task_index(name)
+        } else {
+            None
+        }
     }
 
     /// The number of the template of a name.

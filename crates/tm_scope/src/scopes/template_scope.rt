@@ -1,5 +1,5 @@
 //! A template with all its tables.
-ghost use Rattle.std.specs.Prelude.{◌≡◌, IfOk, find, position, slice_get};
+ghost use Rattle.std.specs.Prelude.{◌≡◌, IfOk, position};
 ghost use Rattle.std.specs.Option.{option_copied};
 ghost use Rattle.tm_syntax.specs.Design.{instance_node, neighbor};
 ghost use Rattle.tm_syntax.specs.Scopes.Names.{is_spelled};
@@ -13,7 +13,7 @@ use crate::scopes::{Bodies, Members, Neighbors};
 use std::alloc::{AllocError, Global};
 use std::marker::Model;
 use tm_syntax::design::Instance;
-use tm_syntax::tree::{Ident, TaskDef, Template, VarDef};
+use tm_syntax::tree::{Ident, Template};
 
 /// A template, all of whose names are found by tables. Contracts see the template.
 #[derive(Drop)]
@@ -46,9 +46,9 @@ impl<'a> TemplateScope<'a> {
     ) -> Result<TemplateScope<'a>, AllocError>
         ensures { IfOk result (λ t. t ≡ template.now) }
     {
-        let neighbors = Neighbors::new(alloc, template)?;
-        let members = Members::new(alloc, template)?;
         let bodies = Bodies::new(alloc, template)?;
+        let members = Members::new(alloc, template)?;
+        let neighbors = Neighbors::new(alloc, template)?;
         Ok(TemplateScope {
             neighbors,
             members,
@@ -77,25 +77,11 @@ impl<'a> TemplateScope<'a> {
         self.members.var_index(name)
     }
 
-    /// The variable or array of a name.
-    pub(crate) fn var(&self, name: &[u8]) -> Option<&'a VarDef>
-        ensures { option_copied result ≡ find (λ v. is_spelled name.now v.name) self.now.vars.items }
-    {
-        self.members.var(name)
-    }
-
     /// The tables of a body.
     pub(crate) fn body(&self, body: BodyName) -> Option<&BodyNames<'a>>
         ensures { option_copied result ≡ body_slots self.now body }
     {
         self.bodies.body(body)
-    }
-
-    /// The task or procedure of an index.
-    pub(crate) fn task(&self, index: usize) -> Option<&'a TaskDef>
-        ensures { option_copied result ≡ slice_get self.now.tasks.items index }
-    {
-        self.members.task(index)
     }
 
     /// The index of the task or procedure of a name.

@@ -20,25 +20,23 @@ pub declarations-preserved : goal.declarations-preserved
 declarations-preserved c =
     record {
       so_far = subst (λ (ds : List LocalTree).
-          LocalsSoFar c.args.text.now c.args.depth ds c.args.tokens.now c.in_ok-local.behind.now)
+          LocalsSoFar c.args.text.now c.args.depth ds c.args.tokens.now c.in-Ok.read.1.now)
           (sym (ap (map local_tree) c.in_ok-push.ensures.items
-          ∙ map_push local_tree c.declarations.locals.items c.in_ok-local.local))
-          (locals_more c.declarations.invariant.so_far c.in_ok-local.ensures.taken);
-      shorter = omega (arith, c.in_ok-local.ensures.shorter);
+          ∙ map_push local_tree c.declarations.locals.items c.in-Ok.read.0))
+          (locals_more c.declarations.invariant.so_far c.in-Ok.ensures.taken);
+      shorter = omega (arith, c.in-Ok.ensures.shorter);
     }
 
-pub returns-in_err-local-clause-refused : goal.returns-in_err-local-clause-refused
-returns-in_err-local-clause-refused c =
-    let h = refused_so (λ deep here. no_body_local (search rules) c.declarations.invariant.so_far) _
-    c.in_err-local.ensures.refused in
-    search rules
+pub returns-in-Err-clause-refused : goal.returns-in-Err-clause-refused
+returns-in-Err-clause-refused c =
+    refused_so (λ deep here. no_body_local (search rules) c.declarations.invariant.so_far) _
+    c.in-Err.ensures.refused
 
-pub returns-in_err-stmts-clause-refused : goal.returns-in_err-stmts-clause-refused
-returns-in_err-stmts-clause-refused c =
-    let h = refused_so (λ deep here. no_body_stmts (search rules) c.declarations.invariant.so_far) _
-    c.in_err-stmts.ensures.refused in
-    search rules
+pub returns-in-Err-stmts-clause-refused : goal.returns-in-Err-stmts-clause-refused
+returns-in-Err-stmts-clause-refused c =
+    refused_so (λ deep here. no_body_stmts (search rules) c.declarations.invariant.so_far) _
+    c.in-Err-stmts.ensures.refused
 
 pub returns-clause-taken : goal.returns-clause-taken
 returns-clause-taken c =
-    taken_body (search rules) c.in_ok-stmts.ensures.ended c.declarations.invariant.so_far c.in_ok-stmts.ensures.taken
+    taken_body (search rules) c.in-Ok-stmts.ensures.ended c.declarations.invariant.so_far c.in-Ok-stmts.ensures.taken

@@ -6,18 +6,16 @@ pub returns-in_default-clause-taken : goal.returns-in_default-clause-taken
 returns-in_default-clause-taken c =
     taken_no_length c.args.text.now c.args.tokens.now (c.mark.ensures.none (ap is_some c.in_default.is))
 
-pub returns-in_err-length-clause-refused : goal.returns-in_err-length-clause-refused
-returns-in_err-length-clause-refused c =
-    let h = no_length_number c.args.text.now c.in-Some.ensures.some c.in-Some.ensures.taken _
-    c.in_err-length.ensures.refused in
-    search rules
+pub returns-in-Err-clause-refused : goal.returns-in-Err-clause-refused
+returns-in-Err-clause-refused c =
+    no_length_number c.args.text.now c.in-Some.ensures.some c.in-Some.ensures.taken _
+    c.in-Err.ensures.refused
 
-pub returns-in_err-rest-clause-refused : goal.returns-in_err-rest-clause-refused
-returns-in_err-rest-clause-refused c =
-    let h = no_length_closing c.in-Some.ensures.some c.in-Some.ensures.taken c.in_ok-length.ensures.taken _
-    c.in_err-rest.ensures.refused in
-    search rules
+pub returns-in-Err-need-clause-refused : goal.returns-in-Err-need-clause-refused
+returns-in-Err-need-clause-refused c =
+    no_length_closing c.in-Some.ensures.some c.in-Some.ensures.taken c.in-Ok.ensures.taken _
+    c.in-Err-need.ensures.refused
 
 pub returns-clause-taken : goal.returns-clause-taken
 returns-clause-taken c =
-    taken_length c.in-Some.ensures.some c.in-Some.ensures.taken c.in_ok-length.ensures.taken c.in_ok-rest.ensures.taken
+    taken_length c.in-Some.ensures.some c.in-Some.ensures.taken c.in-Ok.ensures.taken c.in-Ok-need.ensures.taken

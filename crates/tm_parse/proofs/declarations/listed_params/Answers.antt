@@ -8,34 +8,32 @@ use Rattle.tm_parse.proofs.Terminals.{without_place}
 use Rattle.tm_parse.proofs.Taking.{refused_so}
 use Rattle.tm_parse.proofs.declarations.listed_params.Goals as goal
 
-pub returns-in_err-first-clause-refused : goal.returns-in_err-first-clause-refused
-returns-in_err-first-clause-refused c =
-    let h = refused_so (λ deep here. list_blocked sign.Comma (λ goes. goes)) _ c.in_err-first.ensures.refused in
-    search rules
+pub returns-in-Err-clause-refused : goal.returns-in-Err-clause-refused
+returns-in-Err-clause-refused c =
+    refused_so (λ deep here. list_blocked sign.Comma (λ goes. goes)) _ c.in-Err.ensures.refused
 
 pub loop-behind-init : goal.loop-behind-init
 loop-behind-init c = record {
   so_far = subst (λ (ns : List Param).
-      SoFar sign.Comma (λ _. IsParam c.args.text.now) Nothing ns c.args.tokens.now c.in_ok-first.rest.now)
-      (sym (c.in_ok-push.ensures.items ∙ ap (λ ns. ns ++ c.in_ok-first.first ∷ []) c.new-params.ensures.items))
-      (so_far_one (λ goes. goes) c.in_ok-first.ensures.taken);
-  shorter = omega (arith, c.in_ok-first.ensures.shorter);
+      SoFar sign.Comma (λ _. IsParam c.args.text.now) Nothing ns c.args.tokens.now c.in-Ok.read.1.now)
+      (sym (c.in_ok-push.ensures.items ∙ ap (λ ns. ns ++ c.in-Ok.read.0 ∷ []) c.new-params.ensures.items))
+      (so_far_one (λ goes. goes) c.in-Ok.ensures.taken);
+  shorter = omega (arith, c.in-Ok.ensures.shorter);
 }
 
-pub returns-in_err-next-clause-refused : goal.returns-in_err-next-clause-refused
-returns-in_err-next-clause-refused c =
-    let h = refused_so (λ deep here. more_blocked (λ goes. goes) c.loop-behind.invariant.so_far
-    (without_place c.in-Some.ensures.taken)) _ c.in_err-next.ensures.refused in
-    search rules
+pub returns-in-Err-param-clause-refused : goal.returns-in-Err-param-clause-refused
+returns-in-Err-param-clause-refused c =
+    refused_so (λ deep here. more_blocked (λ goes. goes) c.loop-behind.invariant.so_far
+    (without_place c.in-Some.ensures.taken)) _ c.in-Err-param.ensures.refused
 
 pub loop-behind-preserved : goal.loop-behind-preserved
 loop-behind-preserved c = record {
   so_far = subst (λ (ns : List Param).
-      SoFar sign.Comma (λ _. IsParam c.args.text.now) Nothing ns c.args.tokens.now c.in_ok-next.behind.now)
+      SoFar sign.Comma (λ _. IsParam c.args.text.now) Nothing ns c.args.tokens.now c.in-Ok-param.read.1.now)
       (sym c.in_ok-push-2.ensures.items)
       (so_far_more (λ goes. goes) c.loop-behind.invariant.so_far (without_place c.in-Some.ensures.taken)
-      c.in_ok-next.ensures.taken);
-  shorter = omega (arith, c.in_ok-next.ensures.shorter, c.in-Some.ensures.shorter);
+      c.in-Ok-param.ensures.taken);
+  shorter = omega (arith, c.in-Ok-param.ensures.shorter, c.in-Some.ensures.shorter);
 }
 
 pub returns-clause-taken : goal.returns-clause-taken

@@ -3,13 +3,12 @@ use Rattle.tm_parse.proofs.Literals.{IsNoLiteral, taken_literal_number, no_liter
 use Rattle.tm_parse.proofs.Taking.{ok_map, err_map}
 use Rattle.tm_parse.proofs.declarations.literal.Goals as goal
 
-pub returns-in_err-number-clause-refused : goal.returns-in_err-number-clause-refused
-returns-in_err-number-clause-refused c =
-    let h = no_literal_number c.args.text.now c.args.tokens.now (search rules) _ c.in_err-number.ensures.refused in
-    search rules
+pub returns-in-Err-clause-refused : goal.returns-in-Err-clause-refused
+returns-in-Err-clause-refused c =
+    no_literal_number c.args.text.now c.args.tokens.now (search rules) _ c.in-Err.ensures.refused
 
 pub returns-then-eq-clause-taken : goal.returns-then-eq-clause-taken
-returns-then-eq-clause-taken c = taken_literal_number (search rules) c.in_ok-number.ensures.taken
+returns-then-eq-clause-taken c = taken_literal_number (search rules) c.in-Ok.ensures.taken
 
 pub returns-in-Some-clause-taken : goal.returns-in-Some-clause-taken
 returns-in-Some-clause-taken c = taken_literal_true c.in-Some.ensures.some c.in-Some.ensures.taken

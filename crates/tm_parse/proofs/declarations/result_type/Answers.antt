@@ -5,12 +5,11 @@ use Rattle.tm_parse.proofs.declarations.result_type.Goals as goal
 pub returns-in-Some-clause-taken : goal.returns-in-Some-clause-taken
 returns-in-Some-clause-taken c = taken_void c.in-Some.ensures.some c.in-Some.ensures.taken
 
-pub returns-in_err-ty-clause-refused : goal.returns-in_err-ty-clause-refused
-returns-in_err-ty-clause-refused c =
-    let h = no_result c.args.text.now c.args.tokens.now (c.mark.ensures.none (ap is_some c.in_default.is)) _
-    c.in_err-ty.ensures.refused in
-    search rules
+pub returns-in-Err-clause-refused : goal.returns-in-Err-clause-refused
+returns-in-Err-clause-refused c =
+    no_result c.args.text.now c.args.tokens.now (c.mark.ensures.none (ap is_some c.in_default.is)) _
+    c.in-Err.ensures.refused
 
 pub returns-clause-taken : goal.returns-clause-taken
 returns-clause-taken c =
-    taken_result c.args.tokens.now (c.mark.ensures.none (ap is_some c.in_default.is)) c.in_ok-ty.ensures.taken
+    taken_result c.args.tokens.now (c.mark.ensures.none (ap is_some c.in_default.is)) c.in-Ok.ensures.taken

@@ -8,6 +8,9 @@ use Rattle.tm_parse.proofs.expressions.+expression.Given as goal
 abbrev pub decreases-whole : goal.decreases-whole
 decreases-whole l = (128 - l.depth) * 32 + 31
 
+abbrev pub decreases-boxed_expr : goal.decreases-boxed_expr
+decreases-boxed_expr l = (128 - l.depth) * 32 + 32
+
 abbrev pub decreases-expr_from : goal.decreases-expr_from
 decreases-expr_from l = (128 - l.depth) * 32 + 30
 

@@ -4,21 +4,18 @@ use Rattle.tm_parse.proofs.leaves.width.Goals as goal
 
 pub returns-clause-taken : goal.returns-clause-taken
 returns-clause-taken c =
-    taken_width c.in_ok-rest.ensures.taken c.in_ok-width.ensures.taken
-    c.in_ok-rest-2.ensures.taken
+    taken_width c.in-Ok.ensures.taken c.in-Ok-number.ensures.taken
+    c.in-Ok-need.ensures.taken
 
-pub returns-in_err-rest-clause-refused : goal.returns-in_err-rest-clause-refused
-returns-in_err-rest-clause-refused c =
-    let h = no_width_less c.args.text.now c.args.tokens.now _ c.in_err-rest.ensures.refused in
-    search rules
+pub returns-in-Err-clause-refused : goal.returns-in-Err-clause-refused
+returns-in-Err-clause-refused c =
+    no_width_less c.args.text.now c.args.tokens.now _ c.in-Err.ensures.refused
 
-pub returns-in_err-width-clause-refused : goal.returns-in_err-width-clause-refused
-returns-in_err-width-clause-refused c =
-    let h = no_width_number c.args.text.now c.in_ok-rest.ensures.taken _ c.in_err-width.ensures.refused in
-    search rules
+pub returns-in-Err-number-clause-refused : goal.returns-in-Err-number-clause-refused
+returns-in-Err-number-clause-refused c =
+    no_width_number c.args.text.now c.in-Ok.ensures.taken _ c.in-Err-number.ensures.refused
 
-pub returns-in_err-rest-2-clause-refused : goal.returns-in_err-rest-2-clause-refused
-returns-in_err-rest-2-clause-refused c =
-    let h = no_width_greater c.in_ok-rest.ensures.taken c.in_ok-width.ensures.taken _
-    c.in_err-rest-2.ensures.refused in
-    search rules
+pub returns-in-Err-need-clause-refused : goal.returns-in-Err-need-clause-refused
+returns-in-Err-need-clause-refused c =
+    no_width_greater c.in-Ok.ensures.taken c.in-Ok-number.ensures.taken _
+    c.in-Err-need.ensures.refused

@@ -3,32 +3,28 @@ use Rattle.tm_syntax.proofs.Views.{view-Assign}
 use Rattle.tm_parse.proofs.Commands.{taken_place_stmt, no_place_index, no_place_assign, no_place_value, no_place_end}
 use Rattle.tm_parse.proofs.statements.assignment_from.Goals as goal
 
-pub returns-in_err-index-clause-refused : goal.returns-in_err-index-clause-refused
-returns-in_err-index-clause-refused c =
-    let h = no_place_index c.args.text.now c.args.depth c.args.path.names.items c.args.tokens.now c.requires.opens _
-    c.in_err-index.ensures.refused in
-    search rules
+pub returns-in-Err-clause-refused : goal.returns-in-Err-clause-refused
+returns-in-Err-clause-refused c =
+    no_place_index c.args.text.now c.args.depth c.args.path.names.items c.args.tokens.now c.requires.opens _
+    c.in-Err.ensures.refused
 
-pub returns-in_err-rest-clause-refused : goal.returns-in_err-rest-clause-refused
-returns-in_err-rest-clause-refused c =
-    let h = no_place_assign c.args.text.now c.args.depth c.args.path.names.items c.args.tokens.now c.requires.opens
-    c.in_ok-index.ensures.taken _ c.in_err-rest.ensures.refused in
-    search rules
+pub returns-in-Err-need-clause-refused : goal.returns-in-Err-need-clause-refused
+returns-in-Err-need-clause-refused c =
+    no_place_assign c.args.text.now c.args.depth c.args.path.names.items c.args.tokens.now c.requires.opens
+    c.in-Ok.ensures.taken _ c.in-Err-need.ensures.refused
 
-pub returns-in_err-value-clause-refused : goal.returns-in_err-value-clause-refused
-returns-in_err-value-clause-refused c =
-    let h = no_place_value c.args.path.names.items c.args.tokens.now c.requires.opens c.in_ok-index.ensures.taken
-    c.in_ok-rest.ensures.taken _ c.in_err-value.ensures.refused in
-    search rules
+pub returns-in-Err-value-clause-refused : goal.returns-in-Err-value-clause-refused
+returns-in-Err-value-clause-refused c =
+    no_place_value c.args.path.names.items c.args.tokens.now c.requires.opens c.in-Ok.ensures.taken
+    c.in-Ok-need.ensures.taken _ c.in-Err-value.ensures.refused
 
-pub returns-in_err-rest-2-clause-refused : goal.returns-in_err-rest-2-clause-refused
-returns-in_err-rest-2-clause-refused c =
-    let h = no_place_end c.args.path.names.items c.args.tokens.now c.requires.opens c.in_ok-index.ensures.taken
-    c.in_ok-rest.ensures.taken c.in_ok-value.ensures.taken _ c.in_err-rest-2.ensures.refused in
-    search rules
+pub returns-in-Err-need-2-clause-refused : goal.returns-in-Err-need-2-clause-refused
+returns-in-Err-need-2-clause-refused c =
+    no_place_end c.args.path.names.items c.args.tokens.now c.requires.opens c.in-Ok.ensures.taken
+    c.in-Ok-need.ensures.taken c.in-Ok-value.ensures.taken _ c.in-Err-need-2.ensures.refused
 
 pub returns-clause-taken : goal.returns-clause-taken
 returns-clause-taken c =
-    rw (view-Assign c.args.path c.in_ok-index.index c.in_ok-value.value)
-    (taken_place_stmt c.args.path.names.items c.args.tokens.now c.requires.opens c.in_ok-index.ensures.taken
-    c.in_ok-rest.ensures.taken c.in_ok-value.ensures.taken c.in_ok-rest-2.ensures.taken)
+    rw (view-Assign c.args.path c.in-Ok.read.0 c.in-Ok-value.read.0)
+    (taken_place_stmt c.args.path.names.items c.args.tokens.now c.requires.opens c.in-Ok.ensures.taken
+    c.in-Ok-need.ensures.taken c.in-Ok-value.ensures.taken c.in-Ok-need-2.ensures.taken)

@@ -10,38 +10,36 @@ use Rattle.tm_parse.proofs.Terminals.{without_place}
 use Rattle.tm_parse.proofs.Values.{listed_exprs}
 use Rattle.tm_parse.proofs.statements.exprs.Goals as goal
 
-pub returns-in_err-first-clause-refused : goal.returns-in_err-first-clause-refused
-returns-in_err-first-clause-refused c =
-    let h = refused_so (λ deep here. list_blocked sign.Comma (listed_exprs c.args.text.now c.args.depth).comma) _
-    c.in_err-first.ensures.refused in
-    search rules
+pub returns-in-Err-clause-refused : goal.returns-in-Err-clause-refused
+returns-in-Err-clause-refused c =
+    refused_so (λ deep here. list_blocked sign.Comma (listed_exprs c.args.text.now c.args.depth).comma) _
+    c.in-Err.ensures.refused
 
 pub loop-behind-init : goal.loop-behind-init
 loop-behind-init c = record {
   so_far = subst (λ (es : List ExprTree).
-      SoFar sign.Comma (AnExpr c.args.text.now 0 c.args.depth) (GoesExpr 0) es c.args.tokens.now c.in_ok-first.rest.now)
+      SoFar sign.Comma (AnExpr c.args.text.now 0 c.args.depth) (GoesExpr 0) es c.args.tokens.now c.in-Ok.read.1.now)
       (sym (ap expr_trees (c.in_ok-push.ensures.items
-      ∙ ap (λ es. es ++ c.in_ok-first.first ∷ []) c.new-exprs.ensures.items)))
-      (so_far_one (listed_exprs c.args.text.now c.args.depth).comma c.in_ok-first.ensures.taken);
-  shorter = omega (arith, c.in_ok-first.ensures.shorter);
+      ∙ ap (λ es. es ++ c.in-Ok.read.0 ∷ []) c.new-exprs.ensures.items)))
+      (so_far_one (listed_exprs c.args.text.now c.args.depth).comma c.in-Ok.ensures.taken);
+  shorter = omega (arith, c.in-Ok.ensures.shorter);
 }
 
-pub returns-in_err-next-clause-refused : goal.returns-in_err-next-clause-refused
-returns-in_err-next-clause-refused c =
-    let h = refused_so (λ deep here. more_blocked (listed_exprs c.args.text.now c.args.depth).comma
-    c.loop-behind.invariant.so_far (without_place c.in-Some.ensures.taken)) _ c.in_err-next.ensures.refused in
-    search rules
+pub returns-in-Err-expr-clause-refused : goal.returns-in-Err-expr-clause-refused
+returns-in-Err-expr-clause-refused c =
+    refused_so (λ deep here. more_blocked (listed_exprs c.args.text.now c.args.depth).comma
+    c.loop-behind.invariant.so_far (without_place c.in-Some.ensures.taken)) _ c.in-Err-expr.ensures.refused
 
 pub loop-behind-preserved : goal.loop-behind-preserved
 loop-behind-preserved c = record {
   so_far = subst (λ (es : List ExprTree).
       SoFar sign.Comma (AnExpr c.args.text.now 0 c.args.depth) (GoesExpr 0) es c.args.tokens.now
-      c.in_ok-next.behind.now)
+      c.in-Ok-expr.read.1.now)
       (sym (ap expr_trees c.in_ok-push-2.ensures.items ∙ map_push expr_tree c.loop-behind.exprs.items
-      c.in_ok-next.next))
+      c.in-Ok-expr.read.0))
       (so_far_more (listed_exprs c.args.text.now c.args.depth).comma c.loop-behind.invariant.so_far
-      (without_place c.in-Some.ensures.taken) c.in_ok-next.ensures.taken);
-  shorter = omega (arith, c.in_ok-next.ensures.shorter, c.in-Some.ensures.shorter);
+      (without_place c.in-Some.ensures.taken) c.in-Ok-expr.ensures.taken);
+  shorter = omega (arith, c.in-Ok-expr.ensures.shorter, c.in-Some.ensures.shorter);
 }
 
 pub returns-clause-taken : goal.returns-clause-taken

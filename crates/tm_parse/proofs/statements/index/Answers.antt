@@ -9,10 +9,9 @@ enclosed-requires-clause-closes c = no_goes_bracket 0
 pub returns-then-ne-clause-taken : goal.returns-then-ne-clause-taken
 returns-then-ne-clause-taken c = taken_no_index c.args.text.now c.args.depth c.args.tokens.now (search rules)
 
-pub returns-in_err-index-clause-refused : goal.returns-in_err-index-clause-refused
-returns-in_err-index-clause-refused c =
-    let h = no_index c.args.text.now c.args.depth c.args.tokens.now (search rules) _ c.in_err-index.ensures.refused in
-    search rules
+pub returns-in-Err-clause-refused : goal.returns-in-Err-clause-refused
+returns-in-Err-clause-refused c =
+    no_index c.args.text.now c.args.depth c.args.tokens.now (search rules) _ c.in-Err.ensures.refused
 
 pub returns-clause-taken : goal.returns-clause-taken
-returns-clause-taken c = taken_index c.args.tokens.now (search rules) c.in_ok-index.ensures.taken
+returns-clause-taken c = taken_index c.args.tokens.now (search rules) c.in-Ok.ensures.taken

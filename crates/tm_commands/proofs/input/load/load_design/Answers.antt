@@ -4,7 +4,8 @@ use Rattle.tm_commands.specs.declared.ending.Ending.TheVariants.{Unbuilt}
 use Rattle.tm_commands.specs.Inputs.{no_specification}
 use Rattle.tm_commands.specs.World.{files_data}
 use Rattle.tm_commands.proofs.Loading.{reads_none, refused_by, stops_later}
-use Rattle.tm_commands.proofs.Specifying.{assume_refuses, faulty_refuses, playable_text}
+use Rattle.tm_play.proofs.Playable.{playable_text}
+use Rattle.tm_commands.proofs.Specifying.{assume_refuses, faulty_refuses}
 use Rattle.tm_commands.proofs.input.load.load_design.Goals as goal
 
 pub returns-in-Err-clause-stopped : goal.returns-in-Err-clause-stopped
@@ -38,4 +39,5 @@ pub returns-clause-playable : goal.returns-clause-playable
 returns-clause-playable g c =
     let assumes : c.in-Ok.read.assumes ≡ false = search rules in
     let read = c.in-Ok.ensures.read in
-    playable_text read.text read.tokens (design_tree c.in-Ok.read.design) read.is (sym read.word ∙ assumes)
+    playable_text read.text read.tokens (design_tree c.in-Ok.read.design) read.is.are_tokens read.is.is_tree
+    read.is.sound (sym read.word ∙ assumes)

@@ -2,7 +2,7 @@ use Rattle.std.proofs.Common.{◌≡◌, Err, [], ◌∷◌, rules, refl, arith}
 use Rattle.tm_syntax.specs.Design.View.{design_tree}
 use Rattle.tm_commands.specs.declared.ending.Bad.TheVariants.{TooLong, Choices}
 use Rattle.tm_commands.specs.declared.ending.Ending.TheVariants.{BadText}
-use Rattle.tm_commands.specs.Choices.{reading_of}
+use Rattle.tm_play.specs.Choices.{reading_of}
 use Rattle.tm_commands.specs.Inputs.{NoScript, long_choices, bad_choices, bad_one, RefusesOne}
 use Rattle.tm_commands.specs.World.{files_data}
 use Rattle.tm_commands.specs.Inner.Stopping.{IsRefusal}

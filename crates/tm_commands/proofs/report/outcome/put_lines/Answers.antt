@@ -1,6 +1,7 @@
 use Rattle.std.proofs.Common.{List, ℕ, arith}
 use Rattle.std.specs.Borrow.{Bor}
-use Rattle.tm_commands.proofs.Playing.{on_err, cut_within}
+use Rattle.tm_play.proofs.Putting.{on_err}
+use Rattle.tm_commands.proofs.PutLines.{cut_within}
 use Rattle.tm_commands.proofs.report.outcome.put_lines.Goals as goal
 
 pub returns-in_err-put_line-clause-err : goal.returns-in_err-put_line-clause-err

@@ -33,5 +33,11 @@ returns-clause-order c =
     ∙ ap (range_with_len 0)
     (c.state_bits-count.ensures ∙ ap (λ (ws : List ℕ). sum (take (length ws - 128) ws)) c.deref.ensures.value)
 
+pub returns-clause-goals : goal.returns-clause-goals
+returns-clause-goals c = c.in_ok-game.ensures.goals
+
+pub returns-clause-fairs : goal.returns-clause-fairs
+returns-clause-fairs c = c.in_ok-game.ensures.fairs
+
 pub returns-clause-of : goal.returns-clause-of
 returns-clause-of c = c.in_ok-game.ensures.of

@@ -60,6 +60,12 @@ game-requires-clause-ready c =
       ap length c.deref-2.ensures.value,
     )))
 
+pub returns-clause-goals : goal.returns-clause-goals
+returns-clause-goals c = c.in_ok-kept.ensures.kept.goals_are.long
+
+pub returns-clause-fairs : goal.returns-clause-fairs
+returns-clause-fairs c = c.in_ok-kept.ensures.kept.fairs_are.long
+
 pub returns-clause-of : goal.returns-clause-of
 returns-clause-of c = λ d can. record {
   flat = flat_kept c.args.terms c.in_ok-start.start.encoding.terms c.in_ok-start.ensures.earlier d

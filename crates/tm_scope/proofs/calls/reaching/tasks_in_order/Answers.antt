@@ -31,3 +31,11 @@ loop-walked-preserved c =
           c.if-walked.false (sym c.task.ensures ∙ v.in-Some.is))
       | in_default v ↦ absurd (none-some there.0 (sym v.in_default.is ∙ c.task.ensures ∙ there.1))
     ]
+
+pub returns-then-walked : goal.returns-then-walked
+returns-then-walked c =
+    let nodes = c.args.nodes.now in
+    let i = c.loop-walked.walked-index in
+    let w : Walked = get_or nodes i (record { node = 0; loops = false }) in
+    let within : i < length nodes = c.loop-walked-test.true in
+    (i, w, slice_get-get_or nodes i (record { node = 0; loops = false }) within, c.if-walked.true)

@@ -1,5 +1,0 @@
-//! Counts of the atoms of texts.
-#![tactic(auto)]
-
-#[cfg(test)]
-mod tests;

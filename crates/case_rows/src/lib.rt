@@ -1,0 +1,14 @@
+//! Tables of cases: texts, the rows that ask of each, and how many rows get the answer that is wanted.
+//!
+//! A line of a table that begins with `|` is a line of a text, told behind the next blank; a text ends at its first
+//! row. Behind it stand its rows, a line each: what is asked, ` => ` and the answer that is wanted. Empty lines and
+//! lines that begin with `#` are remarks. A line without ` => ` is a row for which no answer is right.
+#![tactic(auto)]
+
+mod table;
+mod tally;
+mod words;
+
+pub use table::{Case, Row, read_cases, read_table};
+pub use tally::Tally;
+pub use words::{number, numbers, split_word};

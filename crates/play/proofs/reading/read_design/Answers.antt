@@ -1,0 +1,11 @@
+use Rattle.std.proofs.Common.{◌≡◌, false, rules, sym, ◌∙◌}
+use Rattle.tm_syntax.specs.Design.View.{design_tree}
+use Rattle.tm_play.proofs.Playable.{playable_text}
+use Rattle.play.proofs.reading.read_design.Goals as goal
+
+pub returns : goal.returns
+returns g c =
+    let assumes : c.in-Ok.read.assumes ≡ false = search rules in
+    let read = c.in-Ok.ensures.read in
+    playable_text _ read.0 (design_tree c.in-Ok.read.design) read.1.are_tokens read.1.is_tree read.1.sound
+    (sym read.2 ∙ assumes)

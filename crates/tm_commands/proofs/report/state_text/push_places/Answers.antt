@@ -1,9 +1,0 @@
-use Rattle.std.proofs.lemmas.Slice.Zip.{either_empty_from_Zip}
-use Rattle.tm_commands.specs.Report.{place_text}
-use Rattle.tm_commands.proofs.Appending.{zip_ended}
-use Rattle.tm_commands.proofs.report.state_text.push_places.Goals as goal
-
-pub returns : goal.returns
-returns c = zip_ended place_text _ _ _ _
-    (either_empty_from_Zip c.loop-process.process-iterator c.next.new.self c.next.result c.in-None.is
-    c.next.ensures.steps) c.loop-process.invariant

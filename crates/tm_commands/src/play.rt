@@ -1,4 +1,0 @@
-//! The play that a text of choices tells.
-
-pub mod turn;
-pub mod turns;

@@ -1,0 +1,10 @@
+pub mod Answering
+pub mod Coded
+pub mod Exactness
+pub mod Following
+pub mod Growing
+pub mod Parted
+pub mod Staying
+pub mod Telling
+pub mod Truncated
+pub mod Whole

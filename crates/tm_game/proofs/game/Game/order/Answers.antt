@@ -1,0 +1,14 @@
+use Rattle.std.proofs.Common.{subst}
+use Rattle.tm_flat.specs.Flat.{flat_terms}
+use Rattle.tm_game.specs.Game.{GameData}
+use Rattle.tm_game.specs.Start.{state_bits_in}
+use Rattle.tm_game.proofs.Starting.{places_permuted}
+use Rattle.tm_game.proofs.game.Game.order.Goals as goal
+use Rattle.tm_levels.specs.Order.{IsOrder}
+use Rattle.tm_making.specs.Setting.{setting_of}
+
+pub returns-clause-places : goal.returns-clause-places
+returns-clause-places c =
+    subst (λ (g : GameData). IsOrder (state_bits_in g.flat) g.order) c.self.view_is
+    (places_permuted (setting_of c.self.inside.encoding) (flat_terms c.self.inside.flat) c.self.inside.order.items
+    c.self.invariant.shape)

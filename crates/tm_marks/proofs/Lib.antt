@@ -1,0 +1,19 @@
+mod ActorTerms
+mod BoundedStates
+mod Bounding
+mod Choosing
+mod ConditionTerms
+mod Idling
+mod InputTerms
+mod ItemTexts
+mod Laid
+mod Lists
+mod MagicPlaces
+mod Numbered
+mod OwedTerms
+mod Picking
+mod Spaces
+mod StateTerms
+mod StatedTerms
+pub mod StepsLater
+mod TaskParameters

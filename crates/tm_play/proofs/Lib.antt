@@ -1,0 +1,9 @@
+pub mod Appending
+pub mod OneEnd
+pub mod Playable
+mod Playing
+pub mod Putting
+mod Reaching
+mod ReadNumbers
+mod SplitLines
+mod Stopping

@@ -1,0 +1,5 @@
+//! The play that a text of choices tells.
+
+pub mod tables;
+mod turn;
+mod turns;

@@ -1,0 +1,4 @@
+pub mod Read
+pub mod Permuted
+pub mod Shapes
+pub mod Values
