@@ -15,13 +15,14 @@ pub enum Fault {
     /// The line of the first fault.
     #[error("SPEC has a fault in line {0}")]
     Spec(u32),
-    #[error("SPEC has the word `assume`, with which no play is made so far")]
-    Assumes,
     #[error("DRIVER is no driver of SPEC")]
     Driver,
     /// The first bad line.
     #[error("CHOICES has no reading in line {0}")]
     Choices(u64),
+    /// The step of the driver's answer.
+    #[error("it takes a game to tell whether the answer in step {0} is allowed: `termite run` makes it")]
+    Stuck(u64),
     #[error("the output could not be written")]
     Output,
     #[error("out of memory")]

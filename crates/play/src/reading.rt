@@ -10,7 +10,7 @@ use std::alloc::Global;
 use tm_base::{FileError, Files};
 use tm_cir::Blocks;
 use tm_cparse::{ReadDriverError, read_driver};
-use tm_front::{MOST_BYTES, read_specification};
+use tm_front::{MOST_BYTES, Specification, read_specification};
 use tm_play::{Script, ScriptError, read_script};
 use tm_syntax::design::Design;
 use tm_syntax::fault::FrontError;
@@ -34,20 +34,16 @@ fn contents<F: Files>(
     }
 }
 
-/// The design that a file tells.
-pub fn read_design<F: Files>(alloc: Global, files: &mut F, name: &str) -> Result<Design, Fault>
-    ensures { IfOk result (λ d. IsPlayable (design_tree d)) }
+/// The design that a file tells, and whether its text has the word `assume`.
+pub fn read_spec<F: Files>(alloc: Global, files: &mut F, name: &str) -> Result<Specification, Fault>
+    ensures { IfOk result (λ s. IsPlayable (design_tree s.design)) }
 {
     let text = contents(files, "SPEC", name, MOST_BYTES as u64)?;
-    let read = match read_specification(alloc, &text) {
-        Ok(read) => read,
-        Err(FrontError::Faulty(fault)) => return Err(Fault::Spec(fault.place.line)),
-        Err(FrontError::Memory) => return Err(Fault::Memory),
-    };
-    if read.assumes {
-        return Err(Fault::Assumes);
+    match read_specification(alloc, &text) {
+        Ok(read) => Ok(read),
+        Err(FrontError::Faulty(fault)) => Err(Fault::Spec(fault.place.line)),
+        Err(FrontError::Memory) => Err(Fault::Memory),
     }
-    Ok(read.design)
 }
 
 /// The driver's blocks that a file tells over a design.

@@ -1,13 +1,9 @@
 -- A command has one end.
-use Rattle.std.proofs.Common.{◌≡◌, ℕ, true, false, Option, None, Some, Ok, Err, List, refl, sym, ap}
+use Rattle.std.proofs.Common.{◌≡◌, ℕ, Option, None, Some, Ok, Err, List, refl, sym, ap}
 use Rattle.std.proofs.Common.{subst, ◌∙◌}
-use Rattle.tm_syntax.specs.declared.fault.Faulty.{Faulty as Fault}
 use Rattle.tm_syntax.specs.Limits.{file_limit}
 use Rattle.tm_base.specs.Files.{IsLonger}
 use Rattle.tm_syntax.specs.Design.{DesignTree}
-use Rattle.tm_syntax.specs.Tokens.{AreTokens}
-use Rattle.tm_syntax.proofs.Tokens.{tokens_agree}
-use Rattle.tm_allowed.specs.Assuming.{has_assume}
 use Rattle.tm_cir.specs.Tree.{BlockTree}
 use Rattle.tm_cir.proofs.Text.Whole.{one_driver}
 use Rattle.tm_cparse.specs.declared.bad.BadDriver.{BadDriver}
@@ -21,24 +17,18 @@ use Rattle.tm_play.specs.declared.ending.PlayEnd.{PlayEnd}
 use Rattle.tm_play.specs.Script.{ScriptData}
 use Rattle.tm_commands.specs.Words.{Command, run, generate, migrate}
 use Rattle.tm_play.specs.Choices.{reading_of}
-use Rattle.tm_front.specs.Specification.{IsDesignText}
-use Rattle.tm_commands.specs.Inputs.{TellsDesign, TellsFault, TellsAssume, TellsBlocks, TellsBadDriver}
-use Rattle.tm_commands.specs.Inputs.{TellsScript, TellsBadLine, faulty_spec, NoDesign, no_specification, assuming_spec}
+use Rattle.tm_commands.specs.Inputs.{TellsSpecification, TellsBlocks, TellsBadDriver, TellsScript, TellsBadLine}
 use Rattle.tm_commands.specs.Inputs.{NoBlocks, long_driver, bad_driver, NoScript, long_choices, bad_choices}
 use Rattle.tm_commands.specs.Run.{Loads, Refused, no_design, no_blocks, no_script, RunEnds, refused, ended}
 use Rattle.tm_commands.specs.Commands.{CommandEnds}
 use Rattle.tm_play.specs.Played.{Ends}
 use Rattle.tm_commands.proofs.Migrating.{one_migrate_end}
 use Rattle.tm_play.proofs.OneEnd.{one_end}
-use Rattle.tm_commands.proofs.Telling.{not_longer, one_no_specification, one_text}
-use Rattle.tm_commands.proofs.Texts.{one_design, design_no_fault, design_names}
+use Rattle.tm_commands.proofs.Telling.{not_longer, one_no_specification, one_text, specification_read}
+use Rattle.tm_commands.proofs.Telling.{told_specification}
+use Rattle.tm_commands.proofs.Texts.{design_names}
 
 module _ (contents : List ℕ → Option (List ℕ)) where
-  told_design : (spec : List ℕ) (d e : DesignTree) → TellsDesign contents spec d → TellsDesign contents spec e → d ≡ e
-  told_design spec d e p q =
-      one_design p.text p.tokens q.tokens d e p.is
-      (subst (λ (t : List ℕ). IsDesignText t q.tokens e) (one_text contents spec p.text q.text p.told q.told) q.is)
-
   told_blocks : (driver : List ℕ) (d : DesignTree) (bs cs : List BlockTree) → TellsBlocks contents driver d bs →
       TellsBlocks contents driver d cs → bs ≡ cs
   told_blocks driver d bs cs p q =
@@ -70,43 +60,15 @@ module _ (contents : List ℕ → Option (List ℕ)) where
       IsLonger (contents driver) file_limit → ⊥
   driver_short driver d bs p long = not_longer (contents driver) p.text p.told p.is.short long
 
-  no_fault_told : (spec : List ℕ) (d : DesignTree) (f : Fault) → TellsFault contents spec f →
-      TellsDesign contents spec d → ⊥
-  no_fault_told spec d f p q =
-      design_no_fault p.text q.tokens d f
-      (subst (λ (t : List ℕ). IsDesignText t q.tokens d) (one_text contents spec p.text q.text p.told q.told)
-      q.is) p.fault
-
-  no_assume_told : (spec : List ℕ) (d : DesignTree) → TellsAssume contents spec → TellsDesign contents spec d → ⊥
-  no_assume_told spec d p q =
-      let are : AreTokens p.text q.tokens =
-      subst (λ (t : List ℕ). AreTokens t q.tokens) (one_text contents spec p.text q.text p.told q.told)
-      q.is.are_tokens in
-      let same : p.tokens ≡ q.tokens = tokens_agree p.text p.tokens q.tokens p.is.are_tokens are in
-      let both : true ≡ false = sym p.has ∙ ap has_assume same ∙ q.without in
-      cc
-
-  no_assume_faulty : (spec : List ℕ) (f : Fault) → TellsFault contents spec f → TellsAssume contents spec → ⊥
-  no_assume_faulty spec f p q =
-      design_no_fault p.text q.tokens q.design f
-      (subst (λ (t : List ℕ). IsDesignText t q.tokens q.design) (one_text contents spec p.text q.text p.told q.told)
-      q.is) p.fault
-
   no_bad_told : (driver : List ℕ) (spec : List ℕ) (d : DesignTree) (bs : List BlockTree) (bad : BadDriver) →
-      TellsDesign contents spec d → TellsBadDriver contents driver d bad → TellsBlocks contents driver d bs → ⊥
+      TellsSpecification contents spec d → TellsBadDriver contents driver d bad → TellsBlocks contents driver d bs → ⊥
   no_bad_told driver spec d bs bad design p q =
       file_no_fault d p.text bs bad (design_names design.text design.tokens d design.is)
       (subst (λ (t : List ℕ). IsDriverFile d t bs) (one_text contents driver p.text q.text p.told q.told) q.is) p.fault
 
-  -- a file that tells a design is no reason to stop
-  design_read : (spec : List ℕ) (d : DesignTree) (ending : Ending) → TellsDesign contents spec d →
-      NoDesign contents spec ending → ⊥
-  design_read spec d ending design (no_specification (faulty_spec {f = f} fault)) =
-      no_fault_told spec d f fault design
-  design_read spec d ending design (assuming_spec assume) = no_assume_told spec d assume design
-
+  -- a file that tells something is no reason to stop
   blocks_read : (driver : List ℕ) (spec : List ℕ) (d : DesignTree) (bs : List BlockTree) (ending : Ending) →
-      TellsDesign contents spec d → TellsBlocks contents driver d bs → NoBlocks contents driver d ending → ⊥
+      TellsSpecification contents spec d → TellsBlocks contents driver d bs → NoBlocks contents driver d ending → ⊥
   blocks_read driver spec d bs ending design blocks (bad_driver {bad = bad} fault) =
       no_bad_told driver spec d bs bad design fault blocks
   blocks_read driver spec d bs ending design blocks (long_driver long) = driver_short driver d bs blocks long
@@ -118,16 +80,6 @@ module _ (contents : List ℕ → Option (List ℕ)) where
   script_read choices d c ending script (bad_choices {n = n} line) = no_bad_line choices d c n script line
 
   -- a file is refused for one cause
-  one_no_design : (spec : List ℕ) (one other : Ending) → NoDesign contents spec one → NoDesign contents spec other →
-      one ≡ other
-  one_no_design spec one other (no_specification p) (no_specification q) =
-      one_no_specification contents spec one other p q
-  one_no_design spec one other (no_specification (faulty_spec {f = f} p)) (assuming_spec q) =
-      absurd (no_assume_faulty spec f p q)
-  one_no_design spec one other (assuming_spec p) (no_specification (faulty_spec {f = f} q)) =
-      absurd (no_assume_faulty spec f q p)
-  one_no_design spec one other (assuming_spec p) (assuming_spec q) = refl
-
   one_no_blocks : (driver : List ℕ) (d : DesignTree) (one other : Ending) → NoBlocks contents driver d one →
       NoBlocks contents driver d other → one ≡ other
   one_no_blocks driver d one other (bad_driver {bad = bad} p) (bad_driver {bad = found} q) =
@@ -152,25 +104,25 @@ module _ (contents : List ℕ → Option (List ℕ)) where
 
   module _ (spec driver choices : List ℕ) where
     -- what files tell over the design that SPEC tells, they tell over any other that it tells
-    blocks_of : (d e : DesignTree) (bs : List BlockTree) → TellsDesign contents spec d → TellsDesign contents spec e →
+    blocks_of : (d e : DesignTree) (bs : List BlockTree) → TellsSpecification contents spec d → TellsSpecification contents spec e →
         TellsBlocks contents driver e bs → TellsBlocks contents driver d bs
     blocks_of d e bs p q blocks =
-        subst (λ (x : DesignTree). TellsBlocks contents driver x bs) (told_design spec e d q p) blocks
+        subst (λ (x : DesignTree). TellsBlocks contents driver x bs) (told_specification contents spec e d q p) blocks
 
-    no_blocks_of : (d e : DesignTree) (ending : Ending) → TellsDesign contents spec d → TellsDesign contents spec e →
+    no_blocks_of : (d e : DesignTree) (ending : Ending) → TellsSpecification contents spec d → TellsSpecification contents spec e →
         NoBlocks contents driver e ending → NoBlocks contents driver d ending
     no_blocks_of d e ending p q blocks =
-        subst (λ (x : DesignTree). NoBlocks contents driver x ending) (told_design spec e d q p) blocks
+        subst (λ (x : DesignTree). NoBlocks contents driver x ending) (told_specification contents spec e d q p) blocks
 
-    no_script_of : (d e : DesignTree) (ending : Ending) → TellsDesign contents spec d → TellsDesign contents spec e →
+    no_script_of : (d e : DesignTree) (ending : Ending) → TellsSpecification contents spec d → TellsSpecification contents spec e →
         NoScript contents choices e ending → NoScript contents choices d ending
     no_script_of d e ending p q script =
-        subst (λ (x : DesignTree). NoScript contents choices x ending) (told_design spec e d q p) script
+        subst (λ (x : DesignTree). NoScript contents choices x ending) (told_specification contents spec e d q p) script
 
     -- files that load are not refused
     not_refused : (d : DesignTree) (bs : List BlockTree) (c : ScriptData) (ending : Ending) →
         Loads contents spec driver choices d bs c → Refused contents spec driver choices ending → ⊥
-    not_refused d bs c ending loads (no_design none) = design_read spec d ending loads.design none
+    not_refused d bs c ending loads (no_design none) = specification_read contents spec d ending loads.design none
     not_refused d bs c ending loads (no_blocks {d = e} design none) =
         blocks_read driver spec d bs ending loads.design loads.blocks (no_blocks_of d e ending loads.design design none)
     not_refused d bs c ending loads (no_script {d = e} design blocks none) =
@@ -179,17 +131,17 @@ module _ (contents : List ℕ → Option (List ℕ)) where
     -- files are refused for one cause
     one_refusal : (one other : Ending) → Refused contents spec driver choices one →
         Refused contents spec driver choices other → one ≡ other
-    one_refusal one other (no_design p) (no_design q) = one_no_design spec one other p q
-    one_refusal one other (no_design p) (no_blocks {d = d} design q) = absurd (design_read spec d one design p)
+    one_refusal one other (no_design p) (no_design q) = one_no_specification contents spec one other p q
+    one_refusal one other (no_design p) (no_blocks {d = d} design q) = absurd (specification_read contents spec d one design p)
     one_refusal one other (no_design p) (no_script {d = d} design blocks q) =
-        absurd (design_read spec d one design p)
-    one_refusal one other (no_blocks {d = d} design p) (no_design q) = absurd (design_read spec d other design q)
+        absurd (specification_read contents spec d one design p)
+    one_refusal one other (no_blocks {d = d} design p) (no_design q) = absurd (specification_read contents spec d other design q)
     one_refusal one other (no_blocks {d = d} design p) (no_blocks {d = e} others q) =
         one_no_blocks driver d one other p (no_blocks_of d e other design others q)
     one_refusal one other (no_blocks {d = d} design p) (no_script {d = e} {bs = bs} others blocks q) =
         absurd (blocks_read driver spec d bs one design (blocks_of d e bs design others blocks) p)
     one_refusal one other (no_script {d = d} design blocks p) (no_design q) =
-        absurd (design_read spec d other design q)
+        absurd (specification_read contents spec d other design q)
     one_refusal one other (no_script {d = d} {bs = bs} design blocks p) (no_blocks {d = e} others q) =
         absurd (blocks_read driver spec d bs other design blocks (no_blocks_of d e other design others q))
     one_refusal one other (no_script {d = d} design blocks p) (no_script {d = e} others more q) =
@@ -201,7 +153,7 @@ module _ (contents : List ℕ → Option (List ℕ)) where
         Loads contents spec driver choices d bs c → Ends d bs c text one → Loads contents spec driver choices e cs f →
         Ends e cs f other_text other → one ≡ other
     same_end d e bs cs c f text other_text one other p ends q others =
-        let designs : e ≡ d = told_design spec e d q.design p.design in
+        let designs : e ≡ d = told_specification contents spec e d q.design p.design in
         let told : TellsBlocks contents driver d cs =
         subst (λ (x : DesignTree). TellsBlocks contents driver x cs) designs q.blocks in
         let blocks : cs ≡ bs = told_blocks driver d cs bs told p.blocks in

@@ -1,4 +1,5 @@
 mod Completing
+mod Halting
 mod Loading
 mod Migrating
 mod Options

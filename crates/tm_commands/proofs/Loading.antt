@@ -12,7 +12,7 @@ use Rattle.tm_commands.specs.declared.ending.Failure.TheVariants.{ReadFault, Wri
 use Rattle.tm_commands.specs.declared.ending.Stop.{Stop}
 use Rattle.tm_commands.specs.declared.ending.Stop.TheVariants.{Ends, Fails}
 use Rattle.tm_commands.specs.World.{FilesData, files_data, OnlyReads}
-use Rattle.tm_commands.specs.Inputs.{TellsFault, RefusesOne, faulty_one, bad_one, unbuilt_one}
+use Rattle.tm_commands.specs.Inputs.{TellsFault, RefusesOne, faulty_one, bad_one}
 use Rattle.tm_commands.specs.Headline.{long_fault, IsLongShown}
 use Rattle.tm_commands.specs.Inner.Stopping.{StopsBy, IsReadFailure, IsMemory, IsRefusal}
 
@@ -57,7 +57,6 @@ pub named_later : (names : List (List ℕ)) (one : List ℕ) (ending : Ending) �
 named_later names one ending among (faulty_one {file = file} named) =
     faulty_one {file = file} (lifted names one file among named)
 named_later names one ending among (bad_one {file = file} named) = bad_one (lifted names one file among named)
-named_later names one ending among (unbuilt_one {file = file} named) = unbuilt_one (lifted names one file among named)
 
 -- a count that rose later by so much rose before by so much
 rose_by_later : (last : Option ℕ) (k a b c : ℕ) → a ≤ b → RoseBy last k b c → RoseBy last k a c

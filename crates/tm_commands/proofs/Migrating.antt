@@ -4,7 +4,6 @@ use Rattle.std.proofs.Common.{subst, ◌∙◌}
 use Rattle.std.specs.Prelude.{IsTrue}
 use Rattle.tm_syntax.specs.Limits.{file_limit}
 use Rattle.tm_syntax.specs.Design.{DesignTree}
-use Rattle.tm_syntax.specs.Faults.{IsOfText}
 use Rattle.tm_cert.specs.declared.cert.Cert.{Cert as Certificate}
 use Rattle.tm_cert.specs.declared.refusal.BadCert.{BadCert}
 use Rattle.tm_cert.specs.declared.refusal.ReadCertError.{ReadCertError}
@@ -19,7 +18,7 @@ use Rattle.tm_shape.specs.Shape.{shape_of}
 use Rattle.tm_commands.specs.declared.ending.Bad.TheVariants.{Cert}
 use Rattle.tm_commands.specs.declared.ending.Ending.{Ending}
 use Rattle.tm_commands.specs.declared.ending.Ending.TheVariants.{Usage, Faulty, Play, Generated, Migrated}
-use Rattle.tm_commands.specs.declared.ending.Ending.TheVariants.{BadText, Unbuilt}
+use Rattle.tm_commands.specs.declared.ending.Ending.TheVariants.{BadText}
 use Rattle.tm_commands.specs.declared.ending.Failure.{Failure}
 use Rattle.tm_commands.specs.declared.ending.Failure.TheVariants.{ReadFault, WriteFault, Memory}
 use Rattle.tm_commands.specs.declared.ending.Stop.{Stop}
@@ -30,7 +29,7 @@ use Rattle.tm_commands.specs.Inputs.{TellsSpecification, TellsCert, NoCert, long
 use Rattle.tm_commands.specs.Migrate.{MigrateEnds, no_spec, no_cert, migrates, MigrateRefuses, refuses_spec}
 use Rattle.tm_commands.specs.Migrate.{refuses_cert, may_be_refused, MigrateLeaves}
 use Rattle.tm_commands.specs.Inner.Obeying.{Obeys}
-use Rattle.tm_commands.specs.Inner.Reading.{IsRead, IsFaulty, IsBadCert}
+use Rattle.tm_commands.specs.Inner.Reading.{IsFaulty, IsBadCert}
 use Rattle.tm_commands.specs.Inner.Stopping.{StopsBy, stop_outcome, IsMemory, IsReadFailure, IsRefusal}
 use Rattle.tm_commands.proofs.Loading.{refused_by}
 use Rattle.tm_commands.proofs.Running.{stopped_obeys, unread_obeys}
@@ -80,21 +79,6 @@ module _ (old new : FilesData) (cert text read : List ℕ) (told : IsTrue old.te
   cert_refuses refusals.Memory (Ends ending) judged is = elim is [ ]
   cert_refuses refusals.Memory (Fails failure) judged is = memory_reads (cert ∷ []) old new failure is
 
-module _ {tells : Bool} {contents : List ℕ → Option (List ℕ)} {spec : List ℕ} {d : DesignTree} {assumes : Bool}
-    (read : IsRead tells contents spec d assumes) where
-  -- what was read is what the file tells
-  pub specified : IsTrue tells → TellsSpecification contents spec d
-  specified told = record { text = read.text; tokens = read.tokens; told = read.told told; is = read.is }
-
-  -- and the tree of a text
-  pub text_of : IsOfText d.spec
-  text_of = record {
-    text = read.text;
-    tokens = read.tokens;
-    are_tokens = read.is.are_tokens;
-    is_tree = read.is.is_tree;
-  }
-
 -- a fault of the specification refuses it
 pub faulty_spec_refuses : (cert : List ℕ) (ending : Ending) → IsFaulty ending → MigrateRefuses cert ending
 faulty_spec_refuses cert (Faulty f) faulty = refuses_spec
@@ -103,7 +87,6 @@ faulty_spec_refuses cert (Play end) faulty = elim faulty [ ]
 faulty_spec_refuses cert (Generated n) faulty = elim faulty [ ]
 faulty_spec_refuses cert Migrated faulty = elim faulty [ ]
 faulty_spec_refuses cert (BadText file why) faulty = elim faulty [ ]
-faulty_spec_refuses cert (Unbuilt file) faulty = elim faulty [ ]
 
 module _ (spec cert out : List ℕ) (old new : FilesData) where
   refused_leaves : (ending : Ending) → MigrateRefuses cert ending → new.contents ≡ old.contents →

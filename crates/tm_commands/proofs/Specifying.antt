@@ -1,5 +1,5 @@
 -- What the file of a specification tells, from what was read of its text.
-use Rattle.std.proofs.Common.{◌≡◌, ℕ, ◌≤◌, Bool, true, Some, List, [], ◌∷◌, length, refl, sym, subst, ◌∙◌, arith}
+use Rattle.std.proofs.Common.{◌≡◌, ℕ, ◌≤◌, Bool, Option, Some, List, [], ◌∷◌, length, refl, sym, subst, arith}
 use Rattle.std.specs.Prelude.{IsTrue}
 use Rattle.tm_syntax.specs.declared.fault.Faulty.{Faulty as Fault}
 use Rattle.tm_syntax.specs.declared.fault.FrontError.{FrontError}
@@ -7,20 +7,20 @@ use Rattle.tm_syntax.specs.declared.fault.FrontError.TheVariants as front
 use Rattle.tm_syntax.specs.declared.token.Token.{Token}
 use Rattle.tm_syntax.specs.Limits.{specification_limit}
 use Rattle.tm_syntax.specs.Design.{DesignTree}
-use Rattle.tm_syntax.specs.Faults.{FaultOf}
-use Rattle.tm_allowed.specs.Assuming.{has_assume}
+use Rattle.tm_syntax.specs.Faults.{FaultOf, IsOfText}
 use Rattle.tm_commands.specs.declared.ending.Ending.{Ending}
 use Rattle.tm_commands.specs.declared.ending.Ending.TheVariants.{Usage, Faulty, Play, Generated, Migrated}
-use Rattle.tm_commands.specs.declared.ending.Ending.TheVariants.{BadText, Unbuilt}
+use Rattle.tm_commands.specs.declared.ending.Ending.TheVariants.{BadText}
 use Rattle.tm_commands.specs.declared.ending.Stop.{Stop}
 use Rattle.tm_commands.specs.World.{FilesData}
 use Rattle.tm_commands.specs.Headline.{long_fault}
 use Rattle.tm_front.specs.Specification.{IsDesignText, IsMemoryOr}
-use Rattle.tm_commands.specs.Inputs.{NoSpecification, faulty_spec, NoDesign, assuming_spec, RefusesOne}
-use Rattle.tm_commands.specs.Inputs.{faulty_one, unbuilt_one}
+use Rattle.tm_commands.specs.Inputs.{TellsSpecification, NoSpecification, faulty_spec, RefusesOne, faulty_one}
 use Rattle.tm_commands.specs.Inner.Reading.{IsRead, IsFaulty, refusal_of}
 use Rattle.tm_commands.specs.Inner.Stopping.{StopsBy, IsReadFailure, IsRefusal}
 use Rattle.tm_commands.proofs.Texts.{not_long}
+use Rattle.tm_play.specs.Playable.{IsPlayable}
+use Rattle.tm_play.proofs.Playable.{playable_text}
 
 module _ (old new : FilesData) (spec text read : List ℕ) (told : IsTrue old.tells → old.contents spec ≡ Some text)
     (short : length text ≤ specification_limit) (same : read ≡ text) where
@@ -52,32 +52,34 @@ module _ (old new : FilesData) (spec text read : List ℕ) (told : IsTrue old.te
       (IsReadFailure (spec ∷ []) old new)) (sym is) tt
 
   -- the file is read
-  pub text_is_read : (tokens : List Token) (d : DesignTree) (assumes : Bool) → IsDesignText read tokens d →
-      assumes ≡ has_assume tokens → IsRead old.tells old.contents spec d assumes
-  text_is_read tokens d assumes is word = record {
+  pub text_is_read : (tokens : List Token) (d : DesignTree) → IsDesignText read tokens d →
+      IsRead old.tells old.contents spec d
+  text_is_read tokens d is = record {
     text = text;
     tokens = tokens;
     told = told;
     is = subst (λ (t : List ℕ). IsDesignText t tokens d) same is;
-    word = word;
   }
 
--- a file that has the word `assume` is refused
-pub assume_refuses : (old new : FilesData) (spec : List ℕ) (d : DesignTree) (assumes : Bool) →
-    IsRead old.tells old.contents spec d assumes → assumes ≡ true →
-    IsRefusal (NoDesign old.contents spec) (RefusesOne (spec ∷ [])) old new (Unbuilt spec)
-assume_refuses old new spec d assumes read with_word = record {
-  cause = λ tells. assuming_spec (record {
-    text = read.text;
-    tokens = read.tokens;
-    design = d;
-    told = read.told tells;
-    is = read.is;
-    has = sym read.word ∙ with_word;
-  });
-  named = unbuilt_one (0, omega arith, refl);
-  long = record { specification = λ is. cc; file = λ name is. cc };
+-- what was read is what the file tells
+pub specified : {tells : Bool} {contents : List ℕ → Option (List ℕ)} {spec : List ℕ} {d : DesignTree} →
+    IsRead tells contents spec d → IsTrue tells → TellsSpecification contents spec d
+specified read told = record { text = read.text; tokens = read.tokens; told = read.told told; is = read.is }
+
+-- and the tree of a text
+pub text_of : {tells : Bool} {contents : List ℕ → Option (List ℕ)} {spec : List ℕ} {d : DesignTree} →
+    IsRead tells contents spec d → IsOfText d.spec
+text_of read = record {
+  text = read.text;
+  tokens = read.tokens;
+  are_tokens = read.is.are_tokens;
+  is_tree = read.is.is_tree;
 }
+
+-- so it can be played
+pub playable : {tells : Bool} {contents : List ℕ → Option (List ℕ)} {spec : List ℕ} {d : DesignTree} →
+    IsRead tells contents spec d → IsPlayable d
+playable {d = d} read = playable_text read.text read.tokens d read.is.are_tokens read.is.is_tree read.is.sound
 
 -- a fault of the file refuses it
 pub faulty_refuses : (spec : List ℕ) (ending : Ending) → IsFaulty ending → RefusesOne (spec ∷ []) ending
@@ -87,4 +89,3 @@ faulty_refuses spec (Play end) faulty = elim faulty [ ]
 faulty_refuses spec (Generated n) faulty = elim faulty [ ]
 faulty_refuses spec Migrated faulty = elim faulty [ ]
 faulty_refuses spec (BadText file why) faulty = elim faulty [ ]
-faulty_refuses spec (Unbuilt file) faulty = elim faulty [ ]

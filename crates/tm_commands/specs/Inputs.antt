@@ -1,12 +1,11 @@
 -- What files tell: a design, blocks, choices or a certificate, or why they tell none.
-use Rattle.std.specs.Prelude.{◌≡◌, ℕ, ◌≤◌, true, false, Option, Some, Ok, Err, List, length, Contains}
+use Rattle.std.specs.Prelude.{◌≡◌, ℕ, ◌≤◌, Option, Some, Ok, Err, List, length, Contains}
 use Rattle.tm_base.specs.Files.{IsLonger}
 use Rattle.tm_syntax.specs.declared.fault.Faulty.{Faulty as Fault}
 use Rattle.tm_syntax.specs.declared.token.Token.{Token}
 use Rattle.tm_syntax.specs.Limits.{file_limit}
 use Rattle.tm_syntax.specs.Design.{DesignTree}
 use Rattle.tm_syntax.specs.Faults.{FaultOf}
-use Rattle.tm_allowed.specs.Assuming.{has_assume}
 use Rattle.tm_front.specs.Specification.{IsDesignText}
 use Rattle.tm_cir.specs.Tree.{BlockTree}
 use Rattle.tm_cparse.specs.declared.bad.BadDriver.{BadDriver}
@@ -18,7 +17,7 @@ use Rattle.tm_cert.specs.CertValue.{IsCertText}
 use Rattle.tm_cert.specs.Judge.{judge_text}
 use Rattle.tm_shape.specs.Shape.{shape_of}
 use Rattle.tm_commands.specs.declared.ending.Ending.{Ending}
-use Rattle.tm_commands.specs.declared.ending.Ending.TheVariants.{Faulty, BadText, Unbuilt}
+use Rattle.tm_commands.specs.declared.ending.Ending.TheVariants.{Faulty, BadText}
 use Rattle.tm_commands.specs.declared.ending.Bad.{Bad}
 use Rattle.tm_commands.specs.declared.ending.Bad.TheVariants.{TooLong, Driver, Cert, Choices}
 use Rattle.tm_play.specs.Script.{ScriptData}
@@ -35,28 +34,11 @@ pub record TellsSpecification (contents : List ℕ → Option (List ℕ)) (spec 
   pub told : Tells contents spec text
   pub is : IsDesignText text tokens d
 
--- SPEC tells this design, without the word `assume`
-pub record TellsDesign (contents : List ℕ → Option (List ℕ)) (spec : List ℕ) (d : DesignTree) : Type 0 where
-  pub text : List ℕ
-  pub tokens : List Token
-  pub told : Tells contents spec text
-  pub is : IsDesignText text tokens d
-  pub without : has_assume tokens ≡ false
-
 -- SPEC has this fault
 pub record TellsFault (contents : List ℕ → Option (List ℕ)) (spec : List ℕ) (f : Fault) : Type 0 where
   pub text : List ℕ
   pub told : Tells contents spec text
   pub fault : FaultOf text f
-
--- SPEC has no fault, and has the word `assume`: which answers of a driver are allowed then is not decided so far
-pub record TellsAssume (contents : List ℕ → Option (List ℕ)) (spec : List ℕ) : Type 0 where
-  pub text : List ℕ
-  pub tokens : List Token
-  pub design : DesignTree
-  pub told : Tells contents spec text
-  pub is : IsDesignText text tokens design
-  pub has : has_assume tokens ≡ true
 
 -- DRIVER tells these blocks over a design
 pub record TellsBlocks
@@ -109,16 +91,10 @@ pub record TellsBadCert
 pub data RefusesOne (names : List (List ℕ)) : Ending → Type 0 where
   faulty_one : {file : List ℕ} {f : Fault} → Contains names file → RefusesOne names (Faulty f)
   bad_one : {file : List ℕ} {why : Bad} → Contains names file → RefusesOne names (BadText file why)
-  unbuilt_one : {file : List ℕ} → Contains names file → RefusesOne names (Unbuilt file)
 
 -- why SPEC tells no design
 pub data NoSpecification (contents : List ℕ → Option (List ℕ)) (spec : List ℕ) : Ending → Type 0 where
   faulty_spec : {f : Fault} → TellsFault contents spec f → NoSpecification contents spec (Faulty f)
-
--- why SPEC tells no design that is played
-pub data NoDesign (contents : List ℕ → Option (List ℕ)) (spec : List ℕ) : Ending → Type 0 where
-  no_specification : {ending : Ending} → NoSpecification contents spec ending → NoDesign contents spec ending
-  assuming_spec : TellsAssume contents spec → NoDesign contents spec (Unbuilt spec)
 
 -- why DRIVER tells no blocks over a design
 pub data NoBlocks (contents : List ℕ → Option (List ℕ)) (driver : List ℕ) (d : DesignTree) : Ending → Type 0 where

@@ -18,7 +18,7 @@ use Rattle.tm_commands.specs.declared.ending.Bad.TheVariants.{TooLong, Driver, C
 use Rattle.tm_play.specs.Report.{end_text}
 use Rattle.tm_commands.specs.declared.ending.Ending.{Ending}
 use Rattle.tm_commands.specs.declared.ending.Ending.TheVariants.{Usage, Faulty, Play, Generated, Migrated}
-use Rattle.tm_commands.specs.declared.ending.Ending.TheVariants.{BadText, Unbuilt}
+use Rattle.tm_commands.specs.declared.ending.Ending.TheVariants.{BadText}
 use Rattle.tm_commands.specs.declared.ending.Failure.{Failure}
 use Rattle.tm_commands.specs.declared.ending.Failure.TheVariants.{ReadFault, WriteFault, Memory}
 
@@ -107,7 +107,6 @@ ending_text (Play end) = end_text end
 ending_text (Generated registers) = codes "generated " ++ decimal registers ++ codes "\n"
 ending_text Migrated = codes "migrated\n"
 ending_text (BadText file why) = codes "bad " ++ file ++ codes " " ++ bad_text why ++ codes "\n"
-ending_text (Unbuilt name) = codes "unbuilt " ++ name ++ codes "\n"
 
 -- the line that tells a failure, if it has one: none where the output or memory failed
 abbrev pub failure_text : Failure → List ℕ

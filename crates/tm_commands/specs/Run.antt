@@ -6,25 +6,26 @@ use Rattle.tm_commands.specs.declared.ending.Ending.{Ending}
 use Rattle.tm_commands.specs.declared.ending.Ending.TheVariants.{Play}
 use Rattle.tm_play.specs.declared.ending.PlayEnd.{PlayEnd}
 use Rattle.tm_play.specs.Script.{ScriptData}
-use Rattle.tm_commands.specs.Inputs.{TellsDesign, TellsBlocks, TellsScript, NoDesign, NoBlocks, NoScript, RefusesOne}
+use Rattle.tm_commands.specs.Inputs.{TellsSpecification, TellsBlocks, TellsScript, NoSpecification, NoBlocks, NoScript}
+use Rattle.tm_commands.specs.Inputs.{RefusesOne}
 use Rattle.tm_play.specs.Played.{Ends, IsPart}
 
 -- the files of `run` tell a design, blocks, and choices
 pub record Loads
     (contents : List ℕ → Option (List ℕ)) (spec driver choices : List ℕ)
     (d : DesignTree) (bs : List BlockTree) (c : ScriptData) : Type 0 where
-  pub design : TellsDesign contents spec d
+  pub design : TellsSpecification contents spec d
   pub blocks : TellsBlocks contents driver d bs
   pub script : TellsScript contents choices d c
 
 -- the first of the files of `run` that is refused, and why
 pub data Refused (contents : List ℕ → Option (List ℕ)) (spec driver choices : List ℕ) : Ending → Type 0 where
-  no_design : {ending : Ending} → NoDesign contents spec ending → Refused contents spec driver choices ending
+  no_design : {ending : Ending} → NoSpecification contents spec ending → Refused contents spec driver choices ending
   no_blocks : {d : DesignTree} {ending : Ending} →
-      TellsDesign contents spec d → NoBlocks contents driver d ending →
+      TellsSpecification contents spec d → NoBlocks contents driver d ending →
       Refused contents spec driver choices ending
   no_script : {d : DesignTree} {bs : List BlockTree} {ending : Ending} →
-      TellsDesign contents spec d → TellsBlocks contents driver d bs → NoScript contents choices d ending →
+      TellsSpecification contents spec d → TellsBlocks contents driver d bs → NoScript contents choices d ending →
       Refused contents spec driver choices ending
 
 -- how `run` ends, with the lines of the states of its play

@@ -6,7 +6,7 @@ use Rattle.tm_commands.specs.declared.ending.Failure.{Failure}
 use Rattle.tm_commands.specs.declared.ending.Failure.TheVariants as failures
 use Rattle.tm_commands.specs.declared.status.Status.{Status}
 use Rattle.tm_commands.specs.declared.status.Status.TheVariants.{Played, Usage, Faulty, ReadFault, WriteFault, Memory}
-use Rattle.tm_commands.specs.declared.status.Status.TheVariants.{BadText, Stopped, Generated, Migrated, Unbuilt}
+use Rattle.tm_commands.specs.declared.status.Status.TheVariants.{BadText, Stopped, Generated, Migrated}
 use Rattle.tm_play.specs.declared.ending.PlayEnd.TheVariants as plays
 
 -- the end of a command, or the failure that came before it
@@ -18,7 +18,6 @@ outcome_of (Stopped step why) = Ok (endings.Play (plays.Stopped step why))
 outcome_of (Generated registers) = Ok (endings.Generated registers)
 outcome_of Migrated = Ok endings.Migrated
 outcome_of (BadText file why) = Ok (endings.BadText file why)
-outcome_of (Unbuilt name) = Ok (endings.Unbuilt name)
 outcome_of (ReadFault name) = Err (failures.ReadFault name)
 outcome_of (WriteFault name) = Err (failures.WriteFault name)
 outcome_of Memory = Err failures.Memory
@@ -35,4 +34,3 @@ code_of (WriteFault name) = 6
 code_of Memory = 7
 code_of (BadText file why) = 8
 code_of (Stopped step why) = 9
-code_of (Unbuilt name) = 10

@@ -33,8 +33,6 @@ pub enum Ending {
     /// The certificate was written in format 2.
     Migrated,
     BadText { file: Name, why: Bad },
-    /// The specification has the word `assume`, with which no play is made so far.
-    Unbuilt(Name),
 }
 
 /// What may come before the end: what the words and the files do not determine.

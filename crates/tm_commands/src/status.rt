@@ -27,8 +27,6 @@ pub enum Status {
     BadText { file: Name, why: Bad },
     /// The step of this number has no next state.
     Stopped { step: u64, why: StopWhy },
-    /// The specification has the word `assume`, with which no play is made so far.
-    Unbuilt(Name),
 }
 
 impl Status {
@@ -49,7 +47,6 @@ impl Status {
             Status::Memory => 7,
             Status::BadText { .. } => 8,
             Status::Stopped { .. } => 9,
-            Status::Unbuilt(_) => 10,
         }
     }
 }
@@ -66,7 +63,6 @@ pub fn status_of(outcome: Result<Ending, Failure>) -> Status
         Ok(Ending::Generated(registers)) => Status::Generated(registers),
         Ok(Ending::Migrated) => Status::Migrated,
         Ok(Ending::BadText { file, why }) => Status::BadText { file, why },
-        Ok(Ending::Unbuilt(name)) => Status::Unbuilt(name),
         Err(Failure::ReadFault(name)) => Status::ReadFault(name),
         Err(Failure::WriteFault(name)) => Status::WriteFault(name),
         Err(Failure::Memory) => Status::Memory,

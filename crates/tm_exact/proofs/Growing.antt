@@ -20,7 +20,7 @@ use Rattle.tm_forcing.specs.States.{ReadsState}
 use Rattle.tm_forcing.proofs.Extended.{IsSetOf-Extends, Knows-Extends, means-Extends}
 use Rattle.tm_game.specs.Game.{GameData, Grows, IsStates}
 use Rattle.tm_game.specs.Start.{state_bits_in}
-use Rattle.tm_game.proofs.FlatGrowth.{flat_kept}
+use Rattle.tm_flat.proofs.Growth.{flat_kept}
 use Rattle.tm_levels.specs.Order.{IsOrder}
 use Rattle.tm_sem.specs.Fairness.{IsFair}
 use Rattle.tm_sem.specs.Play.{goal_holds}

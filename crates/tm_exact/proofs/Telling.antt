@@ -315,7 +315,8 @@ module _ (t base : Table) (d : DesignTree) (f : FlatTerms) (order : List ℕ) (f
           (p k : ℕ) × (magic_at f p k ≡ Some true) × (stands_at d order p k v ≡ true)
       only h =
           let row = Any-from_list_any
-          (λ p. list_any (λ k. is_magic (magic_at f p k) && stands_in f order p k v) (range_with_len 0 (locations_in f p)))
+          (λ p. list_any (λ k. is_magic (magic_at f p k) && stands_in f order p k v)
+          (range_with_len 0 (locations_in f p)))
           (range_with_len 0 (length f.magic)) h in
           let found = Any-from_list_any (λ k. is_magic (magic_at f row.1 k) && stands_in f order row.1 k v)
           (range_with_len 0 (locations_in f row.1)) row.4 in
@@ -337,7 +338,8 @@ module _ (t base : Table) (d : DesignTree) (f : FlatTerms) (order : List ℕ) (f
           (ap (λ j. is_magic (magic_at f p j) && stands_in f order p j v)
           (get_or-range_with_len 0 (locations_in f p) k 0 inside.1 ∙ omega arith) ∙ this) in
           list_any_at
-          (λ q. list_any (λ j. is_magic (magic_at f q j) && stands_in f order q j v) (range_with_len 0 (locations_in f q)))
+          (λ q. list_any (λ j. is_magic (magic_at f q j) && stands_in f order q j v)
+          (range_with_len 0 (locations_in f q)))
           (range_with_len 0 (length f.magic)) p 0
           (omega (arith, inside.0, length-range_with_len 0 (length f.magic)))
           (ap (λ q.
@@ -401,7 +403,8 @@ module _ (t base : Table) (d : DesignTree) (f : FlatTerms) (order : List ℕ) (f
   task_is : (n : ℕ) (terms : StepTerms) → slice_get f.tasks n ≡ Some terms →
       IsOfTask t d order f n (step_in t f order (λ v. true) (argument_levels order) terms)
   task_is n terms at =
-      let found = zipped_second (IsTaskStep base d) (range_with_len 0 (length d.tasks)) f.tasks low.tasks n terms at in (
+      let found =
+      zipped_second (IsTaskStep base d) (range_with_len 0 (length d.tasks)) f.tasks low.tasks n terms at in (
         terms,
         at,
         step_told (λ v. true) (λ v. true) (λ v. refl) (argument_levels order) terms found.1.terms,
@@ -442,7 +445,8 @@ module _ (t base : Table) (d : DesignTree) (f : FlatTerms) (order : List ℕ) (f
       All-append IsDriven (idle_in f order ∷ tasks_in t f order) (steps_of_sort t f order true)
       (All-cons IsDriven (idle_in f order) (tasks_in t f order) (idles (idle_is small))
       (all_tasks 0 f.tasks
-      (λ k terms at. let same : k ≡ 0 + k = omega arith in subst (λ (i : ℕ). slice_get f.tasks i ≡ Some terms) same at)))
+      (λ k terms at. let same : k ≡ 0 + k = omega arith in
+      subst (λ (i : ℕ). slice_get f.tasks i ≡ Some terms) same at)))
       (λ i e below. let found = each_of_sort true i e below in leaves found.0 found.1 found.2)
 
   pub told : AreSmall d → IsTold t d order f (functions_in t f order)

@@ -3,6 +3,7 @@ pub mod BitSteps
 pub mod Crossings
 pub mod Finding
 pub mod Frames
+pub mod Growth
 pub mod InOrder
 pub mod Indices
 pub mod Ranges

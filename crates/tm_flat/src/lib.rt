@@ -5,7 +5,7 @@ mod flat;
 
 ghost use Rattle.std.specs.Prelude.{◌≡◌, ◌≢◌, ◌<◌, ◌≤◌, ◌^◌, ℕ, Bool, true, false, Some, None, List, [], ◌∷◌, length, slice_get, slice_index};
 ghost use Rattle.tm_term.specs.Table.{Table};
-ghost use Rattle.tm_term.specs.Value.{AreInputs};
+ghost use Rattle.tm_term.specs.Value.{AreInputs, Extends};
 ghost use Rattle.tm_syntax.specs.declared.tree.Ident.{Ident};
 ghost use Rattle.tm_syntax.specs.Scopes.Names.{template_along};
 ghost use Rattle.tm_syntax.specs.Design.{DesignTree, IsDesign, AreInstances};
@@ -36,7 +36,7 @@ ghost use Rattle.tm_flat.specs.Kept.{HasValueAt};
 ghost use Rattle.tm_flat.specs.Positions.{row_after, body_after};
 ghost use Rattle.tm_flat.specs.Sample.{sample, sample_start, sample_paused};
 ghost use Rattle.tm_flat.specs.Seeing.{ReadAlike, EndAlike};
-ghost use Rattle.tm_flat.specs.Steps.{told_outcome, Tells, move_from};
+ghost use Rattle.tm_flat.specs.Steps.{IsProcessStep, IsTaskStep, told_outcome, Tells, move_from};
 ghost use Rattle.tm_flat.specs.Tiny.{tiny, tiny_terms, tiny_flat};
 ghost use Rattle.tm_flat.specs.Wiring.{AreWired};
 ghost use Rattle.tm_flat.specs.Writes.{items_write};
@@ -132,6 +132,15 @@ pub fn guarded_updates_tell_every_call()
         → arguments_fit d callee.params args ≡ true
         → (bits : List ℕ) × AreBits bits × (step : StepTerms) × (slice_get f.tasks n ≡ Some step)
         × Tells t d step s (Call n args) bits }
+{}
+
+/// Guarded updates, and the steps of which they are made, stay what they are where terms are added.
+pub fn guarded_updates_stay_what_they_are()
+    ensures processes { (t u : Table) → Extends t u → (d : DesignTree) (p k : ℕ) (step : StepTerms)
+        → IsProcessStep t d p k step → IsProcessStep u d p k step }
+    ensures tasks { (t u : Table) → Extends t u → (d : DesignTree) (n : ℕ) (step : StepTerms) → IsTaskStep t d n step
+        → IsTaskStep u d n step }
+    ensures whole { (t u : Table) → Extends t u → (d : DesignTree) (f : FlatTerms) → IsFlat t d f → IsFlat u d f }
 {}
 
 /// A path of a design ends in an instance of the template that the text says, where instances are declared with

@@ -3,4 +3,5 @@ pub mod Kept
 pub mod Made
 pub mod Merged
 pub mod Operators
+pub mod Tables
 pub mod Valued

@@ -5,7 +5,6 @@ pub mod Copying
 pub mod Designs
 pub mod DriverMoves
 pub mod Extending
-pub mod FlatGrowth
 pub mod Flats
 pub mod GoodMoves
 pub mod KeptSets

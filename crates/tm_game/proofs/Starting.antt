@@ -19,7 +19,7 @@ use Rattle.tm_game.specs.Shape.{IsShape}
 use Rattle.tm_game.specs.Start.{CanStart, state_bits_in}
 use Rattle.tm_game.proofs.Apart.{levels_apart}
 use Rattle.tm_game.proofs.Flats.{has_terms, last_fits, place_fits}
-use Rattle.tm_game.proofs.FlatGrowth.{flat_kept}
+use Rattle.tm_flat.proofs.Growth.{flat_kept}
 use Rattle.tm_game.proofs.Short.{short_widths}
 use Rattle.tm_game.proofs.Shapes.{count_widths, length-state_widths, levels_are, order_is}
 use Rattle.tm_levels.specs.Order.{IsOrder}

@@ -16,7 +16,7 @@ use Rattle.tm_game.specs.declared.game.Game.TheInside.{Inside}
 use Rattle.tm_game.specs.Game.{GameData, Grows, IsOf}
 use Rattle.tm_game.specs.Kept.{AreKept}
 use Rattle.tm_game.specs.Layout.{IsGame, game_data}
-use Rattle.tm_game.proofs.FlatGrowth.{flat_kept}
+use Rattle.tm_flat.proofs.Growth.{flat_kept}
 use Rattle.tm_making.specs.Setting.{AreNumbers, IsReady, Setting, has_value, setting_of, values_at}
 use Rattle.tm_making.specs.Sets.{IsAlwaysOneIn, IsOneIn}
 use Rattle.tm_making.specs.Telling.{AreFrom, AreStepTerms, AreTasks, HasTerms, IsFrom, IsOfTask, TellsGame, TellsStep}

@@ -13,7 +13,7 @@ use Rattle.tm_syntax.specs.Tree.View.{expr_tree, named_tree, template_tree}
 use Rattle.tm_syntax.specs.Design.View.{design_tree}
 use Rattle.tm_syntax.specs.Design.Scope.{Site, site}
 use Rattle.tm_scope.proofs.CellSites.{site-absent, site-without, site-here}
-use Rattle.tm_marks.specs.Markable.{cells_of}
+use Rattle.tm_flatten.specs.Tables.{cells_of}
 use Rattle.tm_marks.proofs.StatedTerms.{own_cells}
 
 -- an expression that is found, or none, as contracts see it

@@ -1,19 +1,18 @@
-mod ActorTerms
-mod BoundedStates
-mod Bounding
-mod Choosing
-mod ConditionTerms
-mod Idling
-mod InputTerms
-mod ItemTexts
-mod Laid
-mod Lists
-mod MagicPlaces
-mod Numbered
-mod OwedTerms
-mod Picking
-mod Spaces
-mod StateTerms
-mod StatedTerms
-pub mod StepsLater
-mod TaskParameters
+pub mod ActorTerms
+pub mod BoundedStates
+pub mod Bounding
+pub mod Choosing
+pub mod ConditionTerms
+pub mod Idling
+pub mod InputTerms
+pub mod ItemTexts
+pub mod Laid
+pub mod Lists
+pub mod MagicPlaces
+pub mod Numbered
+pub mod OwedTerms
+pub mod Picking
+pub mod Spaces
+pub mod StateTerms
+pub mod StatedTerms
+pub mod TaskParameters

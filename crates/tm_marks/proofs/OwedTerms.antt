@@ -24,7 +24,7 @@ use Rattle.tm_flatten.proofs.Later.{Extends-refl}
 use Rattle.tm_marks.specs.Actors.{HaveSteps, IsConditionTerm, PushesOwed, lazy_of}
 use Rattle.tm_marks.specs.Marks.{MakesSuch}
 use Rattle.tm_marks.proofs.Numbered.{numbered, numbered_all, zip_joined, zip_weaker}
-use Rattle.tm_marks.proofs.StepsLater.{process_later}
+use Rattle.tm_flat.proofs.Growth.{process_kept}
 
 -- whether a process is owed its turns
 pub owed_by : (d : DesignTree) (p : ℕ) (lazy : Option Bool) → option_map lazy_of (thread d p) ≡ lazy →
@@ -130,7 +130,7 @@ steps_here t m d p processes steps items have grown inside is same =
     found
     (subst (λ q. AllZip (IsProcessStep t d q) (location_numbers d q) (map step_terms there.0.items)) at there.2) in
     subst (λ (l : List FlatStep). AllZip (IsProcessStep m d p) (location_numbers d p) (map step_terms l)) (sym same)
-    (zip_weaker (IsProcessStep t d p) (IsProcessStep m d p) (λ k step is. process_later t m d p k step grown is)
+    (zip_weaker (IsProcessStep t d p) (IsProcessStep m d p) (λ k step is. process_kept t m grown d p k step is)
     (location_numbers d p) (map step_terms steps.items) own)
 
 -- ---- all conditions

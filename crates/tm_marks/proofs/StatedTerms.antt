@@ -40,7 +40,8 @@ use Rattle.tm_flatten.proofs.Along.{kept_along}
 use Rattle.tm_flatten.proofs.Later.{Extends-refl, below_later, term_along}
 use Rattle.tm_marks.specs.Actors.{IsConditionTerm}
 use Rattle.tm_marks.specs.Conditions.{AreInputTerms, AreStated, HasInputs, IsStated, MakesMemory, stated}
-use Rattle.tm_marks.specs.Markable.{IsMarkable, cells_of, outside_of}
+use Rattle.tm_flatten.specs.Tables.{cells_of}
+use Rattle.tm_marks.specs.Markable.{IsMarkable, outside_of}
 use Rattle.tm_marks.specs.Marks.{MakesSuch}
 use Rattle.tm_marks.proofs.ConditionTerms.{fair_told, goal_told}
 use Rattle.tm_marks.proofs.InputTerms.{input_along, input_of, input_value, inputs_many, var_width}

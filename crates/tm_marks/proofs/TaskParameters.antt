@@ -31,7 +31,8 @@ use Rattle.tm_sem.specs.Run.{asked_by}
 use Rattle.tm_sem.specs.Step.{task_of}
 use Rattle.tm_flat.specs.Inputs.{parameter_widths}
 use Rattle.tm_flat.specs.IsFlat.{AreWidths}
-use Rattle.tm_marks.specs.Markable.{HasArguments, cells_of}
+use Rattle.tm_flatten.specs.Tables.{cells_of}
+use Rattle.tm_marks.specs.Markable.{HasArguments}
 use Rattle.tm_marks.specs.Parameters.{AreNarrow, IsDriverTask}
 use Rattle.tm_marks.proofs.Numbered.{range_pushed}
 use Rattle.tm_marks.proofs.StatedTerms.{own_cells}

@@ -9,7 +9,7 @@ use Rattle.tm_syntax.specs.Design.{DesignTree}
 use Rattle.tm_syntax.specs.Design.Cells.{Called}
 use Rattle.tm_syntax.specs.Design.View.{design_tree}
 use Rattle.tm_typing.specs.HasType.{IsSized}
-use Rattle.tm_scope.specs.Cells.{CellTables, HasCells, ScopedCells}
+use Rattle.tm_scope.specs.Cells.{HasCells, ScopedCells}
 use Rattle.tm_scope.specs.declared.context.BodyName.TheVariants.{Outside}
 use Rattle.tm_operands.specs.Typed.{HasTypeAt}
 use Rattle.tm_settled.specs.Settled.{AreSettled}
@@ -19,10 +19,7 @@ use Rattle.tm_sem.specs.Play.{goal_expr}
 use Rattle.tm_sem.specs.Run.{asked_by}
 use Rattle.tm_sem.specs.Step.{task_of}
 use Rattle.tm_flat.specs.Inputs.{AreSmall, first_choice, room}
-
--- the tables of the cells of a design
-abbrev pub cells_of : Design → CellTables
-cells_of d = record { spec = d.spec; instances = d.instances.items; vars = d.vars.items }
+use Rattle.tm_flatten.specs.Tables.{cells_of}
 
 -- what stands outside of the bodies of an instance
 abbrev pub outside_of : Design → ℕ → ScopedCells

@@ -13,7 +13,8 @@ ghost use Rattle.tm_term.specs.Table.{IsSound};
 ghost use Rattle.tm_flat.specs.Inputs.{input_widths};
 ghost use Rattle.tm_flatten.specs.Made.{Makes};
 ghost use Rattle.tm_marks.specs.Conditions.{AreInputTerms, HasInputs, MakesMemory, stated};
-ghost use Rattle.tm_marks.specs.Markable.{IsMarkable, cells_of, outside_of};
+ghost use Rattle.tm_flatten.specs.Tables.{cells_of};
+ghost use Rattle.tm_marks.specs.Markable.{IsMarkable, outside_of};
 
 use crate::marker::Marker;
 use std::alloc::{AllocError, Global};

@@ -12,7 +12,8 @@ ghost use Rattle.tm_flat.specs.Inputs.{input_widths};
 ghost use Rattle.tm_flat.specs.IsFlat.{IsGoalTerm};
 ghost use Rattle.tm_flatten.specs.Made.{Makes};
 ghost use Rattle.tm_marks.specs.Conditions.{AreStated, HasInputs, stated};
-ghost use Rattle.tm_marks.specs.Markable.{IsMarkable, cells_of};
+ghost use Rattle.tm_flatten.specs.Tables.{cells_of};
+ghost use Rattle.tm_marks.specs.Markable.{IsMarkable};
 ghost use Rattle.tm_marks.specs.Marks.{MakesSuch};
 
 use crate::marker::Marker;

@@ -1,6 +1,6 @@
 //! A design with the tables by which the terms of what it says of states are made.
 ghost use Rattle.std.specs.Prelude.{◌≡◌};
-ghost use Rattle.tm_marks.specs.Markable.{cells_of};
+ghost use Rattle.tm_flatten.specs.Tables.{cells_of};
 
 use tm_locations::Locations;
 use tm_scope::{Cells, Scopes};

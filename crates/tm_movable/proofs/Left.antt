@@ -26,7 +26,7 @@ use Rattle.tm_walkable.proofs.Promising.{IsAsked}
 use Rattle.tm_walkable.proofs.Typing.{row_typed}
 use Rattle.tm_walkable.specs.Tables.{walk_tables}
 use Rattle.tm_moves.specs.Items.{ItemsAreTyped, MayBeWalked, StmtStands}
-use Rattle.tm_moves.specs.Tables.{cells_of}
+use Rattle.tm_flatten.specs.Tables.{cells_of}
 use Rattle.tm_movable.proofs.Standing.{IsAskedIn, ItemsAreAsked, rest_stands}
 
 module _ (d : Design) (sound : IsSound (design_tree d)) (of : IsOfText (design_tree d).spec) where

@@ -19,7 +19,7 @@ use Rattle.tm_flatten.specs.Merged.{IsMemory}
 use Rattle.tm_flatten.proofs.Later.{term_along}
 use Rattle.tm_flows.specs.Flows.{FlowTerms}
 use Rattle.tm_moves.specs.Begun.{AreInputTerms, Begins}
-use Rattle.tm_moves.specs.Tables.{cells_of}
+use Rattle.tm_flatten.specs.Tables.{cells_of}
 use Rattle.tm_moves.proofs.InputTerms.{input_value}
 use Rattle.tm_moves.proofs.InputWidths.{input_of, inputs_many, var_width}
 use Rattle.tm_moves.proofs.Lists.{get_within, index_map, map_long, same_lists}

@@ -9,7 +9,7 @@ use Rattle.tm_scope.specs.Cells.{CellTables, HasCells, ScopedCells}
 use Rattle.tm_scope.specs.declared.cells.site_body.SiteBody.{SiteBody}
 use Rattle.tm_walk.proofs.Found.{body_found, no_source}
 use Rattle.tm_moves.specs.declared.mover.Mover.{Mover}
-use Rattle.tm_moves.specs.Tables.{cells_of}
+use Rattle.tm_flatten.specs.Tables.{cells_of}
 
 pub own_cells : (d : Design) → HasCells (cells_of d) (design_tree d)
 own_cells d = record { text = refl; instances = refl; vars = refl }

@@ -6,4 +6,3 @@ pub mod Made
 pub mod Movable
 pub mod Next
 pub mod Run
-pub mod Tables

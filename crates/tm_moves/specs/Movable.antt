@@ -12,7 +12,7 @@ use Rattle.tm_locations.specs.Locations.{AreLocations, table_of}
 use Rattle.tm_walk.specs.declared.stand.Stand.{Stand}
 use Rattle.tm_walk.specs.Walks.{AreWalkable, WalkTables}
 use Rattle.tm_moves.specs.declared.mover.Mover.{Mover}
-use Rattle.tm_moves.specs.Tables.{cells_of}
+use Rattle.tm_flatten.specs.Tables.{cells_of}
 
 -- the tables by which the bodies of a design are walked from a process
 abbrev pub tables_by : Mover → WalkTables

@@ -5,7 +5,7 @@ ghost use Rattle.tm_flat.specs.Steps.{IsTerm};
 ghost use Rattle.tm_syntax.specs.Design.View.{design_tree};
 ghost use Rattle.tm_term.specs.Table.{IsSound};
 ghost use Rattle.tm_moves.specs.Begun.{AreInputTerms, Begins};
-ghost use Rattle.tm_moves.specs.Tables.{cells_of};
+ghost use Rattle.tm_flatten.specs.Tables.{cells_of};
 
 use crate::mover::Mover;
 use std::alloc::{AllocError, Global};

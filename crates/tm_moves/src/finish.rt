@@ -10,7 +10,7 @@ ghost use Rattle.tm_term.specs.Table.{IsSound};
 ghost use Rattle.tm_moves.specs.Ended.{IsEnding, IsMoverOf, MakesArrived, MakesNowhere, MakesSomewhere, MakesVerdict};
 ghost use Rattle.tm_moves.specs.Made.{MakesStep};
 ghost use Rattle.tm_moves.specs.Next.{Finishes};
-ghost use Rattle.tm_moves.specs.Tables.{cells_of};
+ghost use Rattle.tm_flatten.specs.Tables.{cells_of};
 
 use crate::arrivals::{Arrived, arrivals};
 use crate::begin::input_terms;

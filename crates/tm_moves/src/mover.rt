@@ -2,7 +2,7 @@
 ghost use Rattle.std.specs.Prelude.{◌≡◌};
 ghost use Rattle.tm_syntax.specs.Tree.View.{spec_tree};
 ghost use Rattle.tm_syntax.specs.Scopes.Pauses.{call_depth};
-ghost use Rattle.tm_moves.specs.Tables.{cells_of};
+ghost use Rattle.tm_flatten.specs.Tables.{cells_of};
 
 use tm_locations::Locations;
 use tm_scope::{Cells, Scopes};

@@ -26,7 +26,7 @@ use Rattle.tm_play.specs.Played.{IsMoveOf, Follows, state_after, goal_after, pla
 use Rattle.tm_play.specs.Played.{stops, begins_badly}
 
 -- the blocks answer with a move of the driver
-pub answers_driver : (bs : List BlockTree) (s : StateData) (g : ℕ) {at : ℕ} {m : Move} → AnswersFrom bs s g at m →
+answers_driver : (bs : List BlockTree) (s : StateData) (g : ℕ) {at : ℕ} {m : Move} → AnswersFrom bs s g at m →
     IsTrue (is_driver_move m)
 answers_driver bs s g (goes_first at so rest) = answers_driver bs s g rest
 answers_driver bs s g (goes_second at so rest) = answers_driver bs s g rest

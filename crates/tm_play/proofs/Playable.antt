@@ -1,5 +1,5 @@
 -- Which designs can be played.
-use Rattle.std.proofs.Common.{◌≡◌, ◌<◌, ◌^◌, true, false, ℕ, List, [], ◌∷◌, length, sym, subst, arith}
+use Rattle.std.proofs.Common.{◌<◌, ◌^◌, true, ℕ, List, [], ◌∷◌, length, sym, subst, arith}
 use Rattle.tm_syntax.specs.declared.design.Item.{Item}
 use Rattle.tm_syntax.specs.declared.token.Token.{Token}
 use Rattle.tm_syntax.specs.Tokens.{AreTokens}
@@ -8,8 +8,6 @@ use Rattle.tm_syntax.specs.Grammar.Faults.{IsTree}
 use Rattle.tm_syntax.specs.Design.{DesignTree, all_items, with_goal}
 use Rattle.tm_syntax.specs.Faults.{IsSound}
 use Rattle.tm_syntax.proofs.Limits as counts
-use Rattle.tm_allowed.specs.Assuming.{has_assume}
-use Rattle.tm_allowed.proofs.Plain.{plain_tree}
 use Rattle.tm_play.specs.Playable.{IsPlayable}
 
 a_goal : (goals : List Item) → 0 < length (with_goal goals)
@@ -28,13 +26,12 @@ module _ (d : DesignTree) (sound : IsSound d) where
   few_processes : length d.processes < 2 ^ 32
   few_processes = let few = counts.few_processes d sound in omega arith
 
--- a design of a text without the word `assume` can be played
+-- a sound design of a text can be played
 pub playable_text : (text : List ℕ) (tokens : List Token) (d : DesignTree) → AreTokens text tokens →
-    IsTree text tokens d.spec → IsSound d → has_assume tokens ≡ false → IsPlayable d
-playable_text text tokens d are_tokens is_tree sound without = record {
+    IsTree text tokens d.spec → IsSound d → IsPlayable d
+playable_text text tokens d are_tokens is_tree sound = record {
   sound = sound;
   of_text = record { text = text; tokens = tokens; are_tokens = are_tokens; is_tree = is_tree };
-  plain = plain_tree text tokens d.spec is_tree without;
   some_goal = some_goal d sound;
   few_goals = few_goals d sound;
   few_processes = few_processes d sound;

@@ -1,6 +1,6 @@
 -- What holds while the choices are played.
 use Rattle.std.proofs.Common.{◌≡◌, ℕ, zero, suc, ◌+◌, ◌<◌, ◌≤◌, Bool, Option, None, Some, List, [], ◌∷◌, ◌++◌, length}
-use Rattle.std.proofs.Common.{get_or, sym, ap, subst, ◌∙◌, arith}
+use Rattle.std.proofs.Common.{get_or, inr, sym, ap, subst, ◌∙◌, arith}
 use Rattle.std.specs.Prelude.{IsTrue, slice_get}
 use Rattle.tm_syntax.specs.Design.{DesignTree}
 use Rattle.tm_sem.specs.State.{StateData}
@@ -13,9 +13,9 @@ use Rattle.tm_play.specs.Report.{state_line}
 use Rattle.tm_play.specs.declared.ending.StopWhy.{StopWhy}
 use Rattle.tm_play.specs.declared.ending.PlayEnd.TheVariants.{Played, Stopped}
 use Rattle.tm_play.specs.declared.play.turn.TurnOutcome.{TurnOutcome}
-use Rattle.tm_play.specs.declared.play.turn.TurnOutcome.TheVariants.{To, Stop}
+use Rattle.tm_play.specs.declared.play.turn.TurnOutcome.TheVariants.{To, Stop, Stuck}
 use Rattle.tm_play.specs.declared.play.turn.Position.{Position}
-use Rattle.tm_play.specs.Played.{Reaches, Stops, Ends, plays, stops}
+use Rattle.tm_play.specs.Played.{Reaches, Stops, Ends, plays, stops, part, IsStuck}
 use Rattle.tm_play.specs.Inner.Advance.{Begins, Advances, IsPosition}
 use Rattle.tm_play.proofs.Reaching.{reaches_first, reaches_next}
 
@@ -66,6 +66,7 @@ pub led_on : (d : DesignTree) (bs : List BlockTree) (c : ScriptData) (n : ℕ) (
     Reaches d bs c (n + 1) next.state next.goal (text ++ state_line d (n + 1) (Some m) next.state next.goal)
     × IsPosition d p.goal next
 led_on d bs c n p text turns t (Stop why) m next reaches same within is advances to = cc
+led_on d bs c n p text turns t (Stuck action) m next reaches same within is advances to = cc
 led_on d bs c n p text turns t (To action behind) m next reaches same within is advances to =
     let moved : action ≡ m = cc in
     let left : behind ≡ next = cc in
@@ -84,10 +85,31 @@ pub led_nowhere : (d : DesignTree) (bs : List BlockTree) (c : ScriptData) (n : �
     Advances d bs p.state p.goal t o → o ≡ Stop why →
     Ends d bs c text (Stopped (n + 1) why)
 led_nowhere d bs c n p text turns t (To action behind) why reaches same within is advances to = cc
+led_nowhere d bs c n p text turns t (Stuck action) why reaches same within is advances to = cc
 led_nowhere d bs c n p text turns t (Stop other) why reaches same within is advances to =
     let led : other ≡ why = cc in
     stops reaches (ap (λ ts. slice_get ts n) (sym same) ∙ item_at turns n t within is)
     (subst (Stops d bs p.state p.goal t) led advances)
+
+-- an answer of the driver's at which the play is stuck
+pub led_stuck : (d : DesignTree) (bs : List BlockTree) (c : ScriptData) (n : ℕ) (p : Position) (text : List ℕ)
+    (turns : List TurnData) (t : TurnData) (o : TurnOutcome) (m : Move) →
+    Reaches d bs c n p.state p.goal text → turns ≡ c.turns → n < length turns → t ≡ get_or turns n t →
+    Advances d bs p.state p.goal t o → o ≡ Stuck m → IsState d p.state → IsStuck d bs c text (n + 1) p.state m
+led_stuck d bs c n p text turns t (To action behind) m reaches same within is advances stuck valid = cc
+led_stuck d bs c n p text turns t (Stop why) m reaches same within is advances stuck valid = cc
+led_stuck d bs c n p text turns t (Stuck action) m reaches same within is advances stuck valid =
+    let moved : action ≡ m = cc in
+    let led : Advances d bs p.state p.goal t (Stuck m) =
+    subst (λ a. Advances d bs p.state p.goal t (Stuck a)) moved advances in
+    let at : slice_get c.turns n ≡ Some t = ap (λ ts. slice_get ts n) (sym same) ∙ item_at turns n t within is in
+    record {
+      state = valid;
+      permitted = led.3;
+      lines = part reaches;
+      forbidden = λ never. stops reaches at (m, led.0, led.1, never);
+      illegal = λ allowed. stops reaches at (inr (m, led.1, led.2, λ driver. allowed));
+    }
 
 -- a play of all the steps
 pub played_all : (d : DesignTree) (bs : List BlockTree) (c : ScriptData) (n count : ℕ) (p : Position) (text : List ℕ) →

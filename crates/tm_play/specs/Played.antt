@@ -1,11 +1,11 @@
 -- The play that a text of choices and a driver's blocks tell, and where it stops.
-use Rattle.std.specs.Prelude.{◌≡◌, ℕ, ◌+◌, true, false, ◌⊎◌, None, Some, List, [], ◌∷◌, ◌++◌, length, slice_get}
+use Rattle.std.specs.Prelude.{◌≡◌, ℕ, ◌+◌, true, false, ◌⊎◌, None, Some, List, [], ◌∷◌, ◌++◌, is_some, length, slice_get}
 use Rattle.tm_syntax.specs.Design.{DesignTree}
 use Rattle.tm_sem.specs.State.{StateData}
 use Rattle.tm_sem.specs.declared.state.Move.{Move}
 use Rattle.tm_sem.specs.declared.state.Move.TheVariants as moves
 use Rattle.tm_sem.specs.declared.state.Outcome.TheVariants as outcomes
-use Rattle.tm_sem.specs.Step.{is_driver_turn, Step, IsAllowed}
+use Rattle.tm_sem.specs.Step.{is_driver_turn, work, IsState, Step, IsAllowed}
 use Rattle.tm_sem.specs.Play.{Entry, IsPlay, pending_at}
 use Rattle.tm_cir.specs.Tree.{BlockTree}
 use Rattle.tm_cir.specs.Answer.{Answers}
@@ -16,6 +16,8 @@ use Rattle.tm_play.specs.declared.ending.StopWhy.{StopWhy}
 use Rattle.tm_play.specs.declared.ending.StopWhy.TheVariants.{Error, Forbidden, Illegal}
 use Rattle.tm_play.specs.declared.ending.PlayEnd.{PlayEnd}
 use Rattle.tm_play.specs.declared.ending.PlayEnd.TheVariants.{Played, Stopped}
+use Rattle.tm_play.specs.declared.ending.PlayHalt.{PlayHalt}
+use Rattle.tm_play.specs.declared.ending.PlayHalt.TheVariants.{Ended, Stuck}
 use Rattle.tm_play.specs.Script.{TurnData, ScriptData}
 use Rattle.tm_play.specs.Report.{state_line}
 
@@ -97,3 +99,18 @@ pub data Ends (d : DesignTree) (bs : List BlockTree) (c : ScriptData) : List ℕ
 pub data IsPart (d : DesignTree) (bs : List BlockTree) (c : ScriptData) : List ℕ → Type 0 where
   nothing : IsPart d bs c []
   part : {n : ℕ} {s : StateData} {g : ℕ} {text : List ℕ} → Reaches d bs c n s g text → IsPart d bs c text
+
+-- a play with these lines goes on to the step of this number, where the driver's answer at a valid state has no outcome,
+-- although the turn rule permits it: whether it is allowed tells why the play stops
+pub record IsStuck (d : DesignTree) (bs : List BlockTree) (c : ScriptData) (text : List ℕ) (step : ℕ) (s : StateData)
+    (m : Move) : Type 0 where
+  pub state : IsState d s
+  pub permitted : is_some (work d s m) ≡ true
+  pub lines : IsPart d bs c text
+  pub forbidden : ¬ (IsAllowed d s m) → Ends d bs c text (Stopped step Forbidden)
+  pub illegal : IsAllowed d s m → Ends d bs c text (Stopped step Illegal)
+
+-- how far the play of choices goes, with the lines of its states
+abbrev pub Halts : DesignTree → List BlockTree → ScriptData → List ℕ → PlayHalt → Type 0
+Halts d bs c text (Ended end) = Ends d bs c text end
+Halts d bs c text (Stuck step s m) = IsStuck d bs c text step s m

@@ -2,6 +2,7 @@
 
 use std::alloc::AllocError;
 use thiserror::Error;
+use tm_sem::state::{Move, State};
 
 /// Why a play stops at a step.
 #[derive(Clone, Copy, Debug, PartialEq, Eq)]
@@ -21,6 +22,20 @@ pub enum PlayEnd {
     Played(u64),
     /// The step of this number has no next state.
     Stopped { step: u64, why: StopWhy },
+}
+
+/// How far a play goes.
+#[derive(Drop)]
+pub enum PlayHalt {
+    /// The play has this end.
+    Ended(PlayEnd),
+    /// In the step of this number the driver's answer at this state, which the turn rule permits, has no outcome. The
+    /// play stops there: where the answer is not allowed it is forbidden, and else the choices are not legal.
+    Stuck {
+        step: u64,
+        state: State,
+        action: Move,
+    },
 }
 
 /// Why a play was cut off before its end.

@@ -7,7 +7,7 @@ mod laws;
 mod play;
 mod report;
 
-pub use ending::{PlayEnd, PlayError, StopWhy};
+pub use ending::{PlayEnd, PlayError, PlayHalt, StopWhy};
 pub use input::choices::{ScriptError, read_script};
 pub use input::number::read_digits;
 pub use input::script::{Actor, Script, Turn};

@@ -18,7 +18,7 @@ use Rattle.tm_sem.specs.Step.{task_of}
 use Rattle.tm_locations.proofs.CalledBodies.{made}
 use Rattle.tm_operands.specs.Parameters.{task_at}
 use Rattle.tm_operands.proofs.ParamCells.{TaskPlace, task_place}
-use Rattle.tm_moves.specs.Tables.{cells_of}
+use Rattle.tm_flatten.specs.Tables.{cells_of}
 use Rattle.tm_turns.specs.Controllable.{IsControllable}
 
 -- the tables of a design are its own

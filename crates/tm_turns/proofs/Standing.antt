@@ -25,7 +25,7 @@ use Rattle.tm_moves.specs.Made.{MakesStep}
 use Rattle.tm_moves.specs.Movable.{tables_by}
 use Rattle.tm_moves.specs.Next.{Finishes}
 use Rattle.tm_moves.specs.Run.{HasRun}
-use Rattle.tm_moves.specs.Tables.{cells_of}
+use Rattle.tm_flatten.specs.Tables.{cells_of}
 use Rattle.tm_turns.specs.Callable.{AreCallable, walk_by}
 use Rattle.tm_turns.specs.Calls.{call_ending, call_items, call_writes, callee_at}
 use Rattle.tm_turns.specs.Controllable.{IsControllable}

@@ -15,7 +15,7 @@ use Rattle.tm_machine.specs.Machine.{AreLocated}
 use Rattle.tm_flat.specs.Fitting.{ArgumentsFit, ItemsFit}
 use Rattle.tm_flat.specs.Inputs.{AreSmall, first_choice, room}
 use Rattle.tm_walk.specs.Walks.{AreWalkable, WalkTables}
-use Rattle.tm_moves.specs.Tables.{cells_of}
+use Rattle.tm_flatten.specs.Tables.{cells_of}
 use Rattle.tm_turns.specs.Calls.{call_items}
 
 -- the tables by which the bodies of a design are walked, with the locations of a process

@@ -6,7 +6,7 @@ ghost use Rattle.tm_syntax.specs.Design.View.{design_tree};
 ghost use Rattle.tm_term.specs.Table.{IsSound};
 ghost use Rattle.tm_flat.specs.Inputs.{first_choice, input_widths, room};
 ghost use Rattle.tm_flows.specs.Flows.{IsFlow};
-ghost use Rattle.tm_moves.specs.Tables.{cells_of};
+ghost use Rattle.tm_flatten.specs.Tables.{cells_of};
 ghost use Rattle.tm_turns.specs.Arguments.{ReadsArguments, params_of};
 ghost use Rattle.tm_turns.specs.Inner.Reading.{AreParameters, IsParameter, IsReadable};
 

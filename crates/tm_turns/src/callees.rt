@@ -5,7 +5,7 @@ ghost use Rattle.tm_syntax.specs.Design.View.{design_tree};
 ghost use Rattle.tm_scope.specs.declared.context.BodyName.TheVariants.{Task};
 ghost use Rattle.tm_sem.specs.Step.{task_of};
 ghost use Rattle.tm_operands.specs.Parameters.{task_at};
-ghost use Rattle.tm_moves.specs.Tables.{cells_of};
+ghost use Rattle.tm_flatten.specs.Tables.{cells_of};
 ghost use Rattle.tm_turns.specs.Controllable.{IsControllable};
 
 use crate::tasks::Tasks;

@@ -10,7 +10,7 @@ ghost use Rattle.tm_moves.specs.Ended.{MakesNowhere};
 ghost use Rattle.tm_moves.specs.Made.{MakesStep};
 ghost use Rattle.tm_moves.specs.Movable.{IsStandAt, tables_by};
 ghost use Rattle.tm_moves.specs.Run.{HasRun};
-ghost use Rattle.tm_moves.specs.Tables.{cells_of};
+ghost use Rattle.tm_flatten.specs.Tables.{cells_of};
 ghost use Rattle.tm_turns.specs.Callable.{AreCallable};
 ghost use Rattle.tm_turns.specs.Calls.{call_ending, call_writes, callee_at};
 ghost use Rattle.tm_turns.specs.Controllable.{IsControllable};

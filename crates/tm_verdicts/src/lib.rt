@@ -1,5 +1,7 @@
-//! Laws: the conditions of certificates, part by part in the order in which they are tried.
+//! What checkers of certificates answer, and laws on the conditions that they try: part by part, in order.
 #![tactic(auto)]
+
+mod verdict;
 
 ghost use Rattle.std.specs.Prelude.{◌≡◌, ◌↔◌, ℕ, List, length};
 ghost use Rattle.std.specs.List.{AllByRecursion};
@@ -11,6 +13,8 @@ ghost use Rattle.tm_verdicts.specs.Driver as driver;
 ghost use Rattle.tm_verdicts.specs.Driver.{driver_parts};
 ghost use Rattle.tm_verdicts.specs.Environment as environment;
 ghost use Rattle.tm_verdicts.specs.Environment.{HasShape, level_parts};
+
+pub use verdict::Verdict;
 
 /// Sets are a driver's certificate exactly where all parts of its conditions pass, given as many goals as the design
 /// has, and ranked regions that wait for its fairness conditions.

@@ -4,7 +4,6 @@ use Rattle.tm_syntax.specs.declared.fault.FrontError.{FrontError}
 use Rattle.tm_syntax.specs.declared.fault.FrontError.TheVariants as front
 use Rattle.tm_syntax.specs.declared.token.Token.{Token}
 use Rattle.tm_syntax.specs.Design.{DesignTree}
-use Rattle.tm_allowed.specs.Assuming.{has_assume}
 use Rattle.tm_front.specs.Specification.{IsDesignText}
 use Rattle.tm_cert.specs.declared.cert.Cert.{Cert}
 use Rattle.tm_cert.specs.declared.refusal.ReadCertError.{ReadCertError}
@@ -20,15 +19,13 @@ use Rattle.tm_commands.specs.declared.ending.Stop.{Stop}
 use Rattle.tm_commands.specs.declared.ending.Stop.TheVariants.{Ends, Fails}
 use Rattle.tm_commands.specs.Inputs.{Tells, TellsSpecification, TellsCert}
 
--- a file was read as the text of this design, which has the word `assume` or not; where the files tell, it is what they
--- tell
+-- a file was read as the text of this design; where the files tell, it is what they tell
 pub record IsRead (tells : Bool) (contents : List ℕ → Option (List ℕ)) (spec : List ℕ) (d : DesignTree)
-    (assumes : Bool) : Type 0 where
+    : Type 0 where
   pub text : List ℕ
   pub tokens : List Token
   pub told : IsTrue tells → Tells contents spec text
   pub is : IsDesignText text tokens d
-  pub word : assumes ≡ has_assume tokens
 
 -- two files were read as a design and a certificate for its numbers; where the files tell, they are what they tell
 pub record IsMigration (tells : Bool) (contents : List ℕ → Option (List ℕ)) (spec cert : List ℕ) (shape : CertShape)

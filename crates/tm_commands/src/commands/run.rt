@@ -4,11 +4,13 @@ ghost use Rattle.tm_base.specs.Sink.{AppendsPrefix};
 ghost use Rattle.tm_syntax.specs.Design.View.{design_tree};
 ghost use Rattle.tm_cir.specs.View.{trees_of};
 ghost use Rattle.tm_cir.specs.Fit.{FitBlocks};
+ghost use Rattle.tm_cir.specs.Tree.{BlockTree};
 ghost use Rattle.tm_commands.specs.Words.{run as run_words};
 ghost use Rattle.tm_commands.specs.World.{files_data, sink_data};
 ghost use Rattle.tm_commands.specs.declared.ending.Ending.TheVariants.{Play};
 ghost use Rattle.tm_play.specs.declared.ending.PlayEnd.{PlayEnd};
-ghost use Rattle.tm_play.specs.Played.{Ends, IsPart};
+ghost use Rattle.tm_play.specs.Script.{ScriptData};
+ghost use Rattle.tm_play.specs.Played.{Ends, Halts, IsPart};
 ghost use Rattle.tm_play.specs.Playable.{IsPlayable};
 ghost use Rattle.tm_commands.specs.Inner.Obeying.{Obeys};
 ghost use Rattle.tm_commands.specs.Inner.Stopping.{IsSinkFailure};
@@ -16,9 +18,39 @@ ghost use Rattle.tm_commands.specs.Inner.Stopping.{IsSinkFailure};
 use crate::ending::{Ending, Failure};
 use crate::input::load::{Inputs, load};
 use crate::report::put::failure_of;
-use std::alloc::Global;
+use std::alloc::{AllocError, Global};
 use tm_base::{Files, Sink, SinkError};
-use tm_play::{PlayError, play_script};
+use tm_design_game::is_allowed;
+use tm_play::{PlayEnd, PlayError, PlayHalt, StopWhy, play_script};
+use tm_syntax::design::Design;
+
+/// How a play ends that goes so far: where the driver's answer is stuck, the game of the design tells whether it is
+/// allowed.
+fn end_of(alloc: Global, design: &Design, halt: PlayHalt) -> Result<PlayEnd, AllocError>
+    requires playable { IsPlayable (design_tree design.now) }
+    requires halted { (bs : List BlockTree) × (c : ScriptData) × (text : List ℕ)
+        × Halts (design_tree design.now) bs c text halt }
+    ensures { IfOk result (λ end. (bs : List BlockTree) (c : ScriptData) (text : List ℕ)
+        → Halts (design_tree design.now) bs c text halt → Ends (design_tree design.now) bs c text end) }
+{
+    match halt {
+        PlayHalt::Ended(end) => Ok(end),
+        PlayHalt::Stuck {
+            step,
+            state,
+            action,
+        } => {
+            let allowed = is_allowed(alloc, design, &state, &action)?;
+            if allowed {
+                let why = StopWhy::Illegal;
+                Ok(PlayEnd::Stopped { step, why })
+            } else {
+                let why = StopWhy::Forbidden;
+                Ok(PlayEnd::Stopped { step, why })
+            }
+        }
+    }
+}
 
 /// Plays what was read.
 fn play_inputs<O: Sink>(alloc: Global, inputs: &Inputs, out: &mut O) -> Result<Ending, Failure>
@@ -34,10 +66,14 @@ fn play_inputs<O: Sink>(alloc: Global, inputs: &Inputs, out: &mut O) -> Result<E
         (sink_data ⟦<O as Sink>⟧ out.old) (sink_data ⟦<O as Sink>⟧ out.new)) }
     ensures no_fewer_faults { O.faults out.old ≤ O.faults out.new }
 {
-    match play_script(alloc, &inputs.design, &inputs.blocks, &inputs.script, out) {
+    let halt = match play_script(alloc, &inputs.design, &inputs.blocks, &inputs.script, out) {
+        Ok(halt) => halt,
+        Err(PlayError::Failed) => return Err(failure_of(alloc, SinkError::Failed)),
+        Err(PlayError::Memory) => return Err(Failure::Memory),
+    };
+    match end_of(alloc, &inputs.design, halt) {
         Ok(end) => Ok(Ending::Play(end)),
-        Err(PlayError::Failed) => Err(failure_of(alloc, SinkError::Failed)),
-        Err(PlayError::Memory) => Err(Failure::Memory),
+        Err(_) => Err(Failure::Memory),
     }
 }
 

@@ -39,16 +39,6 @@ pub fn read_file<F: Files>(
     }
 }
 
-/// No play is made so far of what a file tells.
-pub fn unbuilt(alloc: Global, name: &str) -> Stop
-    ensures { StopsBy (λ e. e ≡ Ending.Unbuilt name.now) IsMemory result }
-{
-    match Name::from_bytes(alloc, name.as_bytes()) {
-        Ok(file) => Stop::Ends(Ending::Unbuilt(file)),
-        Err(_) => Stop::Fails(Failure::Memory),
-    }
-}
-
 /// A file has no reading.
 pub fn bad_text(alloc: Global, name: &str, why: Bad) -> Stop
     ensures { StopsBy (λ e. e ≡ Ending.BadText name.now why) IsMemory result }

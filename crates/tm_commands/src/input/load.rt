@@ -4,14 +4,13 @@ ghost use Rattle.tm_syntax.specs.Design.View.{design_tree};
 ghost use Rattle.tm_cir.specs.View.{trees_of};
 ghost use Rattle.tm_cir.specs.Fit.{FitBlocks};
 ghost use Rattle.tm_commands.specs.World.{files_data, OnlyReads};
-ghost use Rattle.tm_commands.specs.Inputs.{TellsDesign, TellsBlocks, TellsScript, NoDesign, NoBlocks, NoScript};
-ghost use Rattle.tm_commands.specs.Inputs.{RefusesOne};
+ghost use Rattle.tm_commands.specs.Inputs.{TellsBlocks, TellsScript, NoBlocks, NoScript, RefusesOne};
 ghost use Rattle.tm_commands.specs.Run.{Loads, Refused};
 ghost use Rattle.tm_play.specs.Playable.{IsPlayable};
 ghost use Rattle.tm_commands.specs.Inner.Stopping.{StopsBy, IsReadFailure, IsRefusal};
 
 use crate::ending::{Bad, Failure, Stop};
-use crate::input::file::{TEXT_BYTES, bad_text, read_file, unbuilt};
+use crate::input::file::{TEXT_BYTES, bad_text, read_file};
 use crate::input::specification::load_specification;
 use std::alloc::Global;
 use tm_base::Files;
@@ -26,27 +25,6 @@ pub struct Inputs {
     pub design: Design,
     pub blocks: Blocks,
     pub script: Script,
-}
-
-/// The design that a file tells.
-fn load_design<F: Files>(alloc: Global, files: &mut F, spec: &str) -> Result<Design, Stop>
-    ensures told { IfOk result (λ d. IsTrue F.tells → TellsDesign (F.contents files.old) spec.now (design_tree d)) }
-    ensures playable { IfOk result (λ d. IsPlayable (design_tree d)) }
-    ensures stopped { IfErr result (StopsBy
-        (IsRefusal (NoDesign (F.contents files.old) spec.now) (RefusesOne (spec.now ∷ []))
-        (files_data ⟦<F as Files>⟧ files.old) (files_data ⟦<F as Files>⟧ files.new))
-        (IsReadFailure (spec.now ∷ [])
-        (files_data ⟦<F as Files>⟧ files.old) (files_data ⟦<F as Files>⟧ files.new))) }
-    ensures files { OnlyReads (files_data ⟦<F as Files>⟧ files.old) (files_data ⟦<F as Files>⟧ files.new) }
-{
-    let read = match load_specification(alloc, files, spec) {
-        Ok(read) => read,
-        Err(no_specification) => return Err(no_specification),
-    };
-    if read.assumes {
-        return Err(unbuilt(alloc, spec));
-    }
-    Ok(read.design)
 }
 
 /// The blocks that a file tells over a design.
@@ -125,7 +103,7 @@ pub fn load<F: Files>(
         (files_data ⟦<F as Files>⟧ files.old) (files_data ⟦<F as Files>⟧ files.new))) }
     ensures files { OnlyReads (files_data ⟦<F as Files>⟧ files.old) (files_data ⟦<F as Files>⟧ files.new) }
 {
-    let design = match load_design(alloc, files, spec) {
+    let design = match load_specification(alloc, files, spec) {
         Ok(design) => design,
         Err(no_design) => return Err(no_design),
     };

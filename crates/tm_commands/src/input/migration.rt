@@ -75,11 +75,11 @@ pub fn load_migration<F: Files>(
         (files_data ⟦<F as Files>⟧ files.old) (files_data ⟦<F as Files>⟧ files.new))) }
     ensures files { OnlyReads (files_data ⟦<F as Files>⟧ files.old) (files_data ⟦<F as Files>⟧ files.new) }
 {
-    let read = match load_specification(alloc, files, spec) {
-        Ok(read) => read,
+    let design = match load_specification(alloc, files, spec) {
+        Ok(design) => design,
         Err(no_specification) => return Err(no_specification),
     };
-    let shape = cert_shape(alloc, &read.design, Kind::Either)?;
+    let shape = cert_shape(alloc, &design, Kind::Either)?;
     match load_cert(alloc, files, cert, shape) {
         Ok(cert) => Ok(Migration { shape, cert }),
         Err(no_cert) => Err(no_cert),

@@ -11,7 +11,8 @@ use crate::ending::{Ending, Failure, Stop};
 use crate::input::file::read_file;
 use std::alloc::Global;
 use tm_base::{Files, Place};
-use tm_front::{Specification, read_specification};
+use tm_front::read_specification;
+use tm_syntax::design::Design;
 use tm_syntax::fault::{Detail, FaultKind, Faulty, FrontError, Quantity};
 
 /// The most bytes of a specification.
@@ -42,14 +43,13 @@ fn refusal(error: FrontError) -> Stop
     }
 }
 
-/// The design that a file tells, and whether its text has the word `assume`.
+/// The design that a file tells.
 pub fn load_specification<F: Files>(
     alloc: Global,
     files: &mut F,
     spec: &str,
-) -> Result<Specification, Stop>
-    ensures read { IfOk result (λ s.
-        IsRead F.tells (F.contents files.old) spec.now (design_tree s.design) s.assumes) }
+) -> Result<Design, Stop>
+    ensures read { IfOk result (λ d. IsRead F.tells (F.contents files.old) spec.now (design_tree d)) }
     ensures stopped { IfErr result (StopsBy
         (IsRefusal (NoSpecification (F.contents files.old) spec.now) IsFaulty
         (files_data ⟦<F as Files>⟧ files.old) (files_data ⟦<F as Files>⟧ files.new))
@@ -61,7 +61,7 @@ pub fn load_specification<F: Files>(
         return Err(Stop::Ends(Ending::Faulty(long_fault())));
     };
     match read_specification(alloc, &text) {
-        Ok(read) => Ok(read),
+        Ok(read) => Ok(read.design),
         Err(error) => Err(refusal(error)),
     }
 }

@@ -170,10 +170,6 @@ fn put_ending<O: Sink>(alloc: Global, ending: &Ending, out: &mut O) -> Result<()
             let line = bad_line(alloc, file, why)?;
             put_line(alloc, out, &line)
         }
-        Ending::Unbuilt(name) => {
-            let line = named_line(alloc, b"unbuilt ", name)?;
-            put_line(alloc, out, &line)
-        }
         Ending::Faulty(fault) => {
             let line = fault_line(alloc, fault)?;
             put_line(alloc, out, &line)

@@ -1,20 +1,19 @@
 -- What one step of the choices leads to.
-use Rattle.std.specs.Prelude.{◌≡◌, ℕ, ◌<◌, false, Option, List, MatchOption, length}
+use Rattle.std.specs.Prelude.{◌≡◌, ◌≢◌, ℕ, ◌<◌, true, false, Option, List, MatchOption, is_some, length}
 use Rattle.tm_syntax.specs.Design.{DesignTree}
 use Rattle.tm_sem.specs.State.{StateData}
 use Rattle.tm_sem.specs.declared.state.Move.{Move}
 use Rattle.tm_sem.specs.declared.state.Outcome.TheVariants as outcomes
-use Rattle.tm_sem.specs.Step.{is_driver_turn, IsState, IsInitial, IsAllowed, Step}
+use Rattle.tm_sem.specs.Step.{is_driver_turn, work, IsState, IsInitial, IsAllowed, Step}
 use Rattle.tm_sem.specs.First.{IsFirst}
 use Rattle.tm_sem.specs.Play.{pending_at}
 use Rattle.tm_cir.specs.Tree.{BlockTree}
 use Rattle.tm_play.specs.declared.input.script.Actor.{Actor}
 use Rattle.tm_play.specs.declared.input.script.Actor.TheVariants.{Driver}
-use Rattle.tm_play.specs.declared.ending.StopWhy.{StopWhy}
 use Rattle.tm_play.specs.declared.ending.StopWhy.TheVariants.{Error, Forbidden, Illegal}
 use Rattle.tm_play.specs.declared.play.turn.Position.{Position}
 use Rattle.tm_play.specs.declared.play.turn.TurnOutcome.{TurnOutcome}
-use Rattle.tm_play.specs.declared.play.turn.TurnOutcome.TheVariants.{To, Stop}
+use Rattle.tm_play.specs.declared.play.turn.TurnOutcome.TheVariants.{To, Stop, Stuck}
 use Rattle.tm_play.specs.Script.{TurnData}
 use Rattle.tm_play.specs.Played.{IsMoveOf, Stops}
 
@@ -34,14 +33,21 @@ Begins d choices p =
     MatchOption p ((s : StateData) → ¬ (IsFirst d choices s))
     (λ begin. IsFirst d choices begin.state × IsInitial d begin.state × IsPosition d 0 begin)
 
--- a move of the step and the position that it leads to, or why it leads to none
+-- a move of the step and the position that it leads to, why it leads to none, or an answer of the driver's that the
+-- turn rule permits and that has no outcome
 abbrev pub Advances : DesignTree → List BlockTree → StateData → ℕ → TurnData → TurnOutcome → Type 0
 Advances d bs s g t (To m next) =
     IsMoveOf d bs s g t.actor m × Step d s m t.choices (outcomes.Next next.state) × IsPosition d g next
 Advances d bs s g t (Stop why) = Stops d bs s g t why
+Advances d bs s g t (Stuck m) =
+    (t.actor ≡ Driver) × IsMoveOf d bs s g t.actor m × Step d s m t.choices outcomes.NoOutcome
+    × (is_some (work d s m) ≡ true)
 
--- why a move without an outcome stops the play
-abbrev pub IsWhyNone : DesignTree → StateData → Actor → Move → StopWhy → Type 0
-IsWhyNone d s actor m Error = ⊥
-IsWhyNone d s actor m Forbidden = (actor ≡ Driver) × ¬ (IsAllowed d s m)
-IsWhyNone d s actor m Illegal = actor ≡ Driver → IsAllowed d s m
+-- what a move without an outcome leads to: an answer of the driver's is not allowed, or the turn rule permits it, and
+-- any other meets choices that are not legal
+abbrev pub IsWithoutOutcome : DesignTree → StateData → Actor → Move → TurnOutcome → Type 0
+IsWithoutOutcome d s actor m (To n next) = ⊥
+IsWithoutOutcome d s actor m (Stop Error) = ⊥
+IsWithoutOutcome d s actor m (Stop Forbidden) = (actor ≡ Driver) × ¬ (IsAllowed d s m)
+IsWithoutOutcome d s actor m (Stop Illegal) = actor ≢ Driver
+IsWithoutOutcome d s actor m (Stuck n) = (actor ≡ Driver) × (n ≡ m) × (is_some (work d s m) ≡ true)

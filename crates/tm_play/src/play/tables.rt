@@ -6,9 +6,9 @@ ghost use Rattle.tm_syntax.specs.Design.View.{design_tree};
 ghost use Rattle.tm_cir.specs.View.{trees_of};
 ghost use Rattle.tm_cir.specs.Fit.{FitBlocks};
 ghost use Rattle.tm_play.specs.Playable.{IsPlayable};
-ghost use Rattle.tm_play.specs.Played.{Ends, IsPart};
+ghost use Rattle.tm_play.specs.Played.{Halts, IsPart};
 
-use crate::ending::{PlayEnd, PlayError};
+use crate::ending::{PlayError, PlayHalt};
 use crate::input::script::Script;
 use crate::play::turns::play;
 use std::alloc::Global;
@@ -24,11 +24,11 @@ fn play_by_tables<O: Sink>(
     blocks: &Blocks,
     script: &Script,
     out: &mut O,
-) -> Result<PlayEnd, PlayError>
+) -> Result<PlayHalt, PlayError>
     requires playable { IsPlayable (design_tree tables.now) }
     requires blocks { FitBlocks (design_tree tables.now) (trees_of blocks.now) }
-    ensures ended { IfOk result (λ end. (text : List ℕ)
-        × Ends (design_tree tables.now) (trees_of blocks.now) script.now text end
+    ensures halted { IfOk result (λ halt. (text : List ℕ)
+        × Halts (design_tree tables.now) (trees_of blocks.now) script.now text halt
         × (IsTrue O.tells → O.written out.new ≡ O.written out.old ++ text)) }
     ensures cut { OnErr result ((text : List ℕ)
         × IsPart (design_tree tables.now) (trees_of blocks.now) script.now text
@@ -42,22 +42,23 @@ fn play_by_tables<O: Sink>(
     play(alloc, &machine, blocks, script, out)
 }
 
-/// Plays choices against a driver's blocks from the start line on, and puts the line of each state. It answers how the
-/// play ends, without the line of that; or `Err` where the output failed or memory ran out.
+/// Plays choices against a driver's blocks from the start line on, and puts the line of each state. It answers how far
+/// the play goes, without the line that tells its end; or `Err` where the output failed or memory ran out.
 ///
-/// `Ends` says which end comes, and `IsPart` what may have been put before an error; `ends_are_determined` that a text
-/// of choices has one end.
+/// `Halts` says how far the play goes: to its end, or to an answer of the driver's without an outcome, where it takes a
+/// game to tell whether the answer is allowed, and with that the end. `IsPart` says what may have been put before an
+/// error; `ends_are_determined` that a text of choices has one end.
 pub fn play_script<O: Sink>(
     alloc: Global,
     design: &Design,
     blocks: &Blocks,
     script: &Script,
     out: &mut O,
-) -> Result<PlayEnd, PlayError>
+) -> Result<PlayHalt, PlayError>
     requires playable { IsPlayable (design_tree design.now) }
     requires blocks { FitBlocks (design_tree design.now) (trees_of blocks.now) }
-    ensures ended { IfOk result (λ end. (text : List ℕ)
-        × Ends (design_tree design.now) (trees_of blocks.now) script.now text end
+    ensures halted { IfOk result (λ halt. (text : List ℕ)
+        × Halts (design_tree design.now) (trees_of blocks.now) script.now text halt
         × (IsTrue O.tells → O.written out.new ≡ O.written out.old ++ text)) }
 
     // What was put before an error is a first part of the lines of the play so far.

@@ -1,14 +1,14 @@
 //! One step of a play.
-ghost use Rattle.std.specs.Prelude.{◌≡◌, ◌<◌, true, length, IfOk};
+ghost use Rattle.std.specs.Prelude.{◌≡◌, ◌<◌, length, IfOk};
 ghost use Rattle.tm_syntax.specs.Design.View.{design_tree};
-ghost use Rattle.tm_sem.specs.Step.{is_driver_move, IsState, Step};
+ghost use Rattle.tm_sem.specs.Step.{IsState, Step};
 ghost use Rattle.tm_sem.specs.declared.state.Outcome.TheVariants.{NoOutcome};
 ghost use Rattle.tm_cir.specs.View.{trees_of};
 ghost use Rattle.tm_cir.specs.Fit.{FitBlocks};
 ghost use Rattle.tm_play.specs.declared.input.script.Actor.TheVariants.{Driver};
 ghost use Rattle.tm_play.specs.Played.{IsMoveOf};
 ghost use Rattle.tm_play.specs.Playable.{IsPlayable};
-ghost use Rattle.tm_play.specs.Inner.Advance.{MovesBy, IsPosition, Advances, IsWhyNone};
+ghost use Rattle.tm_play.specs.Inner.Advance.{MovesBy, IsPosition, Advances, IsWithoutOutcome};
 
 use crate::ending::StopWhy;
 use crate::input::script::{Actor, Turn};
@@ -29,6 +29,8 @@ pub struct Position {
 pub enum TurnOutcome {
     To(Move, Position),
     Stop(StopWhy),
+    /// The driver's answer, which the turn rule permits, has no outcome.
+    Stuck(Move),
 }
 
 /// The position at a state, where this goal was pending before it.
@@ -82,65 +84,56 @@ fn move_of(
     }
 }
 
-/// Why a driver's answer without an outcome stops the play: what the turn rule does not permit is forbidden.
-fn why_no_answer(
+/// What a driver's answer without an outcome leads to: what the turn rule does not permit is forbidden.
+fn without_answer(
     alloc: Global,
     machine: &Machine,
     state: &State,
-    action: &Move,
-) -> Result<StopWhy, AllocError>
-    requires playable { IsPlayable (design_tree machine.now) }
-    requires state { IsState (design_tree machine.now) state.now }
-    requires driver { is_driver_move action.now ≡ true }
-    ensures { IfOk result (IsWhyNone (design_tree machine.now) state.now Driver action.now) }
+    action: Move,
+) -> Result<TurnOutcome, AllocError>
+    ensures { IfOk result (IsWithoutOutcome (design_tree machine.now) state.now Driver action) }
 {
-    let permits = machine.permits(alloc, state, action)?;
+    let permits = machine.permits(alloc, state, &action)?;
     if permits {
-        Ok(StopWhy::Illegal)
+        Ok(TurnOutcome::Stuck(action))
     } else {
-        Ok(StopWhy::Forbidden)
+        Ok(TurnOutcome::Stop(StopWhy::Forbidden))
     }
 }
 
-/// Why a move without an outcome stops the play: a driver's answer may be one that is not allowed.
-fn why_none(
+/// What a move without an outcome leads to.
+fn without_outcome(
     alloc: Global,
     machine: &Machine,
     state: &State,
     actor: Actor,
-    action: &Move,
-) -> Result<StopWhy, AllocError>
-    requires playable { IsPlayable (design_tree machine.now) }
-    requires state { IsState (design_tree machine.now) state.now }
-    requires driver { actor ≡ Driver → is_driver_move action.now ≡ true }
-    ensures { IfOk result (IsWhyNone (design_tree machine.now) state.now actor action.now) }
+    action: Move,
+) -> Result<TurnOutcome, AllocError>
+    ensures { IfOk result (IsWithoutOutcome (design_tree machine.now) state.now actor action) }
 {
     match actor {
-        Actor::Driver => why_no_answer(alloc, machine, state, action),
-        _ => Ok(StopWhy::Illegal),
+        Actor::Driver => without_answer(alloc, machine, state, action),
+        _ => Ok(TurnOutcome::Stop(StopWhy::Illegal)),
     }
 }
 
 /// The stop at a move of the step that has no outcome.
-#[tactic(auto, using(crate::proofs::Stopping::driver_move))]
 fn stop_without_outcome(
     alloc: Global,
     machine: &Machine,
     blocks: &Blocks,
     position: &Position,
     turn: &Turn,
-    action: &Move,
+    action: Move,
 ) -> Result<TurnOutcome, AllocError>
-    requires playable { IsPlayable (design_tree machine.now) }
-    requires state { IsState (design_tree machine.now) position.now.state }
     requires moved { IsMoveOf (design_tree machine.now) (trees_of blocks.now) position.now.state position.now.goal
-        turn.now.actor action.now }
-    requires step { Step (design_tree machine.now) position.now.state action.now turn.now.choices NoOutcome }
+        turn.now.actor action }
+    requires step { Step (design_tree machine.now) position.now.state action turn.now.choices NoOutcome }
     ensures { IfOk result (Advances (design_tree machine.now) (trees_of blocks.now)
         position.now.state position.now.goal turn.now) }
 {
-    let why = why_none(alloc, machine, &position.state, turn.actor, action)?;
-    Ok(TurnOutcome::Stop(why))
+    let outcome = without_outcome(alloc, machine, &position.state, turn.actor, action)?;
+    Ok(outcome)
 }
 
 /// What a step leads to, from a position.
@@ -169,7 +162,7 @@ pub fn advance(
         }
         Outcome::Error => Ok(TurnOutcome::Stop(StopWhy::Error)),
         Outcome::NoOutcome => {
-            stop_without_outcome(alloc, machine, blocks, position, turn, &action)
+            stop_without_outcome(alloc, machine, blocks, position, turn, action)
         }
     }
 }

@@ -6,11 +6,11 @@ ghost use Rattle.tm_syntax.specs.Design.View.{design_tree};
 ghost use Rattle.tm_cir.specs.View.{trees_of};
 ghost use Rattle.tm_cir.specs.Fit.{FitBlocks};
 ghost use Rattle.tm_play.specs.Report.{state_line as line_of_state};
-ghost use Rattle.tm_play.specs.Played.{Ends, IsPart};
+ghost use Rattle.tm_play.specs.Played.{Halts, IsPart};
 ghost use Rattle.tm_play.specs.Playable.{IsPlayable};
 ghost use Rattle.tm_play.specs.Inner.Advance.{Begins};
 
-use crate::ending::{PlayEnd, PlayError, StopWhy};
+use crate::ending::{PlayEnd, PlayError, PlayHalt, StopWhy};
 use crate::input::script::Script;
 use crate::play::turn::{Position, TurnOutcome, advance, position_at};
 use crate::report::play_text::state_line;
@@ -70,19 +70,19 @@ fn put_position<O: Sink>(
     put_line(out, &line)
 }
 
-/// Plays the choices from the start line on, and puts the line of each state. It answers how the play ends, without
-/// the lines of that; or `Err` where the output failed or memory ran out.
+/// Plays the choices from the start line on, and puts the line of each state. It answers how far the play goes, without
+/// the line that tells its end; or `Err` where the output failed or memory ran out.
 pub fn play<O: Sink>(
     alloc: Global,
     machine: &Machine,
     blocks: &Blocks,
     script: &Script,
     out: &mut O,
-) -> Result<PlayEnd, PlayError>
+) -> Result<PlayHalt, PlayError>
     requires playable { IsPlayable (design_tree machine.now) }
     requires blocks { FitBlocks (design_tree machine.now) (trees_of blocks.now) }
-    ensures ended { IfOk result (λ end. (text : List ℕ)
-        × Ends (design_tree machine.now) (trees_of blocks.now) script.now text end
+    ensures halted { IfOk result (λ halt. (text : List ℕ)
+        × Halts (design_tree machine.now) (trees_of blocks.now) script.now text halt
         × (IsTrue O.tells → O.written out.new ≡ O.written out.old ++ text)) }
     ensures cut { OnErr result ((text : List ℕ)
         × IsPart (design_tree machine.now) (trees_of blocks.now) script.now text
@@ -91,10 +91,10 @@ pub fn play<O: Sink>(
     ensures no_fewer_faults { O.faults out.old ≤ O.faults out.new }
 {
     let Some(mut position) = first_position(alloc, machine, &script.start)? else {
-        return Ok(PlayEnd::Stopped {
+        return Ok(PlayHalt::Ended(PlayEnd::Stopped {
             step: 0,
             why: StopWhy::Illegal,
-        });
+        }));
     };
     put_position(alloc, machine, 0, None, &position, out)?;
     for (index, turn) in script.turns.iter().enumerate() {
@@ -104,8 +104,17 @@ pub fn play<O: Sink>(
                 put_position(alloc, machine, number, Some(&action), &next, out)?;
                 position = next;
             }
-            TurnOutcome::Stop(why) => return Ok(PlayEnd::Stopped { step: number, why }),
+            TurnOutcome::Stop(why) => {
+                return Ok(PlayHalt::Ended(PlayEnd::Stopped { step: number, why }));
+            }
+            TurnOutcome::Stuck(action) => {
+                return Ok(PlayHalt::Stuck {
+                    step: number,
+                    state: position.state,
+                    action,
+                });
+            }
         }
     }
-    Ok(PlayEnd::Played(script.turns.len() as u64))
+    Ok(PlayHalt::Ended(PlayEnd::Played(script.turns.len() as u64)))
 }

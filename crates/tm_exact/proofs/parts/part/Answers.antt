@@ -50,20 +50,28 @@ returns-clause-follows c =
     (follows_then c.stay.ensures.follows (follows_then c.either.ensures.follows c.either-2.ensures.follows)))
 
 pub returns-clause-grows : goal.returns-clause-grows
-returns-clause-grows c = grows_trans _ _ _ (grows_trans _ _ _ (grows_trans _ _ _ (grows_trans _ _ _ c.wait.ensures.grows c.reach.ensures.grows) c.stay.ensures.grows) c.either.ensures.grows) c.either-2.ensures.grows
+returns-clause-grows c =
+    let far = grows_trans _ _ _ c.wait.ensures.grows c.reach.ensures.grows in
+    let near = grows_trans _ _ _ far c.stay.ensures.grows in
+    grows_trans _ _ _ (grows_trans _ _ _ near c.either.ensures.grows) c.either-2.ensures.grows
 
 pub returns-in_err-reaches-clause-follows : goal.returns-in_err-reaches-clause-follows
 returns-in_err-reaches-clause-follows c = follows_then c.wait.ensures.follows c.reach.ensures.follows
 
 pub returns-in_err-near-clause-follows : goal.returns-in_err-near-clause-follows
-returns-in_err-near-clause-follows c = follows_then c.wait.ensures.follows (follows_then c.reach.ensures.follows c.stay.ensures.follows)
+returns-in_err-near-clause-follows c =
+    follows_then c.wait.ensures.follows (follows_then c.reach.ensures.follows c.stay.ensures.follows)
 
 pub returns-in_err-near-clause-grows : goal.returns-in_err-near-clause-grows
-returns-in_err-near-clause-grows c = grows_trans _ _ _ (grows_trans _ _ _ c.wait.ensures.grows c.reach.ensures.grows) c.stay.ensures.grows
+returns-in_err-near-clause-grows c =
+    grows_trans _ _ _ (grows_trans _ _ _ c.wait.ensures.grows c.reach.ensures.grows) c.stay.ensures.grows
 
 pub returns-in_err-some-clause-follows : goal.returns-in_err-some-clause-follows
 returns-in_err-some-clause-follows c =
-    follows_then c.wait.ensures.follows (follows_then c.reach.ensures.follows (follows_then c.stay.ensures.follows c.either.ensures.follows))
+    follows_then c.wait.ensures.follows
+    (follows_then c.reach.ensures.follows (follows_then c.stay.ensures.follows c.either.ensures.follows))
 
 pub returns-in_err-some-clause-grows : goal.returns-in_err-some-clause-grows
-returns-in_err-some-clause-grows c = grows_trans _ _ _ (grows_trans _ _ _ (grows_trans _ _ _ c.wait.ensures.grows c.reach.ensures.grows) c.stay.ensures.grows) c.either.ensures.grows
+returns-in_err-some-clause-grows c =
+    let far = grows_trans _ _ _ c.wait.ensures.grows c.reach.ensures.grows in
+    grows_trans _ _ _ (grows_trans _ _ _ far c.stay.ensures.grows) c.either.ensures.grows

@@ -19,7 +19,8 @@ goal-holds-requires c =
 pub both-requires-clause-a : goal.both-requires-clause-a
 both-requires-clause-a c =
     ∥∥₁_elim c.stay.ensures.of (set_prop _ _)
-    (λ x. states_set x.0 c.stay.new.game x.1 (λ s. goal_holds x.0 s c.args.goal ≡ true) c.goal-holds.result (c.goal-holds.ensures.states x.0 x.1.ordered.of))
+    (λ x. states_set x.0 c.stay.new.game x.1 (λ s. goal_holds x.0 s c.args.goal ≡ true) c.goal-holds.result
+    (c.goal-holds.ensures.states x.0 x.1.ordered.of))
 
 pub both-requires-clause-b : goal.both-requires-clause-b
 both-requires-clause-b c = c.in_ok-near.ensures.value.known

@@ -20,7 +20,8 @@ fair-holds-requires c =
 pub rest-requires-clause-b : goal.rest-requires-clause-b
 rest-requires-clause-b c =
     ∥∥₁_elim c.stay.ensures.of (set_prop _ _)
-    (λ x. states_set x.0 c.stay.new.game x.1 (λ s. IsFair x.0 s c.args.fair) c.fair-holds.result (c.fair-holds.ensures.states x.0 x.1.ordered.of))
+    (λ x. states_set x.0 c.stay.new.game x.1 (λ s. IsFair x.0 s c.args.fair) c.fair-holds.result
+    (c.fair-holds.ensures.states x.0 x.1.ordered.of))
 
 pub rest-requires-clause-a : goal.rest-requires-clause-a
 rest-requires-clause-a c = c.in_ok-near.ensures.value.known
@@ -35,7 +36,8 @@ returns-clause-value c =
     let first = ap (λ i. set_of c.stay.new.game i s) (c.fair-holds.ensures.value FALSE)
     ∙ fair_same c.args.game.now c.stay.new.game c.requires.of c.stay.ensures.grows c.args.fair s in
     let second = c.in_ok-near.ensures.value.means.same s among in
-    (λ k. second k && not (first k)) ∙ and_comm ((exact_operator c.args.game.now).stay (set_of c.args.game.now c.args.x) s)
+    (λ k. second k && not (first k))
+    ∙ and_comm ((exact_operator c.args.game.now).stay (set_of c.args.game.now c.args.x) s)
     (not ((exact_operator c.args.game.now).fair c.args.fair s)))) c.rest.ensures.value
 
 pub returns-clause-follows : goal.returns-clause-follows

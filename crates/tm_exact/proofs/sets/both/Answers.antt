@@ -11,8 +11,8 @@ returns-clause-value c =
     (λ x.
     IfOk-weaker c.and-answer.result _ _
     (λ id function.
-    both_told x.0 c.args.game.now c.and-answer.new.self x.1 c.and-answer.ensures.grows c.args.a c.args.b c.requires.a c.requires.b id
-    function) c.and-answer.ensures.answer)
+    both_told x.0 c.args.game.now c.and-answer.new.self x.1 c.and-answer.ensures.grows c.args.a c.args.b
+    c.requires.a c.requires.b id function) c.and-answer.ensures.answer)
 
 pub returns-clause-follows : goal.returns-clause-follows
 returns-clause-follows c = follows_any c.args.game.now c.and-answer.new.self c.requires.of c.and-answer.ensures.grows

@@ -11,8 +11,8 @@ returns-clause-value c =
     (λ x.
     IfOk-weaker c.or-answer.result _ _
     (λ id function.
-    either_told x.0 c.args.game.now c.or-answer.new.self x.1 c.or-answer.ensures.grows c.args.a c.args.b c.requires.a c.requires.b id
-    function) c.or-answer.ensures.answer)
+    either_told x.0 c.args.game.now c.or-answer.new.self x.1 c.or-answer.ensures.grows c.args.a c.args.b
+    c.requires.a c.requires.b id function) c.or-answer.ensures.answer)
 
 pub returns-clause-follows : goal.returns-clause-follows
 returns-clause-follows c = follows_any c.args.game.now c.or-answer.new.self c.requires.of c.or-answer.ensures.grows

@@ -4,7 +4,8 @@ use Rattle.tm_commands.specs.Inputs.{TellsCert, NoCert}
 use Rattle.tm_commands.specs.Migrate.{no_spec, no_cert}
 use Rattle.tm_commands.specs.World.{files_data}
 use Rattle.tm_commands.proofs.Loading.{reads_none, reads_on, stops_later}
-use Rattle.tm_commands.proofs.Migrating.{faulty_spec_refuses, specified, text_of}
+use Rattle.tm_commands.proofs.Migrating.{faulty_spec_refuses}
+use Rattle.tm_commands.proofs.Specifying.{specified, text_of}
 use Rattle.tm_commands.proofs.input.migration.load_migration.Goals as goal
 
 pub returns-in-Err-clause-stopped : goal.returns-in-Err-clause-stopped
@@ -19,14 +20,14 @@ cert_shape-requires g c = record { sound = c.in-Ok.ensures.read.is.sound; read =
 
 pub returns-in-Ok-load_cert-clause-loaded : goal.returns-in-Ok-load_cert-clause-loaded
 returns-in-Ok-load_cert-clause-loaded g c = record {
-  design = design_tree c.in-Ok.read.design;
+  design = design_tree c.in-Ok.design;
   shaped = c.in_ok-shape.ensures;
   specified = λ tells. specified c.in-Ok.ensures.read tells;
   certified = λ tells. subst
       (λ (f : List ℕ → Option (List ℕ)).
-      TellsCert f c.args.cert.now (design_tree c.in-Ok.read.design) c.in-Ok-load_cert.cert)
+      TellsCert f c.args.cert.now (design_tree c.in-Ok.design) c.in-Ok-load_cert.cert)
       c.load_specification.ensures.files.same_contents
-      (c.in-Ok-load_cert.ensures.told (design_tree c.in-Ok.read.design) c.in_ok-shape.ensures tells);
+      (c.in-Ok-load_cert.ensures.told (design_tree c.in-Ok.design) c.in_ok-shape.ensures tells);
 }
 
 pub returns-clause-stopped : goal.returns-clause-stopped
@@ -35,10 +36,10 @@ returns-clause-stopped g c =
     (c.args.spec.now ∷ c.args.cert.now ∷ []) c.args.cert.now c.in-Err-load_cert.no_cert (1, omega arith, refl)
     c.load_specification.ensures.files
     (λ e told none. no_cert (specified c.in-Ok.ensures.read told)
-    (subst (λ (f : List ℕ → Option (List ℕ)). NoCert f c.args.cert.now (design_tree c.in-Ok.read.design) e)
+    (subst (λ (f : List ℕ → Option (List ℕ)). NoCert f c.args.cert.now (design_tree c.in-Ok.design) e)
     c.load_specification.ensures.files.same_contents none))
     (λ e named. named)
-    (c.in-Err-load_cert.ensures.stopped (design_tree c.in-Ok.read.design) c.in_ok-shape.ensures)
+    (c.in-Err-load_cert.ensures.stopped (design_tree c.in-Ok.design) c.in_ok-shape.ensures)
 
 pub returns-clause-files : goal.returns-clause-files
 returns-clause-files g c = reads_on c.load_specification.ensures.files c.load_cert.ensures.files

@@ -32,7 +32,7 @@ returns-in-Ok-clause-read g c =
     text_is_read (files_data g.F.Files c.args.files.now) (files_data g.F.Files c.read_file.new.files)
     c.args.spec.now c.in-Some.text.items c.deref.result.now (rw c.in-Some.is at c.in_ok-text.ensures.whole)
     (rw c.in-Some.is at c.in_ok-text.ensures.within) same c.in-Ok.ensures.read.0 (design_tree c.in-Ok.read.design)
-    c.in-Ok.read.assumes c.in-Ok.ensures.read.1 c.in-Ok.ensures.read.2
+    c.in-Ok.ensures.read.1
 
 pub returns-clause-stopped : goal.returns-clause-stopped
 returns-clause-stopped g c =

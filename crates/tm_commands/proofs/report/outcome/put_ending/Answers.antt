@@ -18,13 +18,6 @@ returns-in_ok-line-in-Generated-clause-err g c =
     (rw c.in-Generated.is (c.deref-in-Generated.ensures.value ∙ c.in_ok-line-in-Generated.ensures))
     c.put_line-in-Generated.ensures.err
 
-pub returns-in_ok-line-in-Unbuilt-clause-err : goal.returns-in_ok-line-in-Unbuilt-clause-err
-returns-in_ok-line-in-Unbuilt-clause-err g c =
-    err_as c.put_line-in-Unbuilt.result (IsTrue g.O.Sink.tells) c.deref-in-Unbuilt.result.now
-    (ending_text c.args.ending.now) (g.O.Sink.written c.args.out.now) (g.O.Sink.written c.put_line-in-Unbuilt.new.out)
-    (rw c.in-Unbuilt.is (c.deref-in-Unbuilt.ensures.value ∙ c.in_ok-line-in-Unbuilt.ensures))
-    c.put_line-in-Unbuilt.ensures.err
-
 pub returns-in-Migrated-clause-ok : goal.returns-in-Migrated-clause-ok
 returns-in-Migrated-clause-ok g c =
     ok_as c.put_line-in-Migrated.result (IsTrue g.O.Sink.tells) c.migrated_line.result.now

@@ -3,7 +3,7 @@ use Rattle.tm_blast.specs.Memory.{Made}
 use Rattle.tm_flat.specs.Flat.{flat_terms}
 use Rattle.tm_forcing.specs.Diagrams.{game_of}
 use Rattle.tm_game.proofs.Extending.{made_kept}
-use Rattle.tm_game.proofs.FlatGrowth.{flat_kept}
+use Rattle.tm_flat.proofs.Growth.{flat_kept}
 use Rattle.tm_game.proofs.game.Game.with_order.Goals as goal
 use Rattle.tm_game.specs.Shape.{IsShape}
 use Rattle.tm_game.specs.Start.{state_bits_in}

@@ -4,7 +4,7 @@ use Rattle.std.proofs.lemmas.Option.{slice_get-get_or}
 use Rattle.tm_syntax.specs.declared.design.Item.{Item}
 use Rattle.tm_syntax.specs.Design.View.{design_tree}
 use Rattle.tm_sem.specs.Play.{goal_expr}
-use Rattle.tm_marks.specs.Markable.{cells_of}
+use Rattle.tm_flatten.specs.Tables.{cells_of}
 use Rattle.tm_marks.proofs.StatedTerms.{inputs_along, more_stated}
 use Rattle.tm_marks.proofs.marker.Marker.goal_terms.Goals as goal
 

@@ -6,7 +6,7 @@ use Rattle.tm_flatten.specs.Made.{IsTruth}
 use Rattle.tm_flows.specs.Flows.{IsFlow}
 use Rattle.tm_moves.specs.declared.arrivals.Arrived.{Arrived}
 use Rattle.tm_moves.specs.Ended.{MakesArrived, MakesNowhere}
-use Rattle.tm_moves.specs.Tables.{cells_of}
+use Rattle.tm_flatten.specs.Tables.{cells_of}
 use Rattle.tm_moves.proofs.mover.Mover.arrived.Goals as goal
 
 pub nowhere-requires-clause-sound : goal.nowhere-requires-clause-sound

@@ -1,7 +1,7 @@
 use Rattle.std.proofs.Common.{◌∙◌, length}
 use Rattle.tm_syntax.specs.Design.View.{design_tree}
 use Rattle.tm_flows.proofs.Flowing.{ends_along}
-use Rattle.tm_moves.specs.Tables.{cells_of}
+use Rattle.tm_flatten.specs.Tables.{cells_of}
 use Rattle.tm_moves.proofs.Finishing.{finishes}
 use Rattle.tm_moves.proofs.mover.Mover.finish.Goals as goal
 

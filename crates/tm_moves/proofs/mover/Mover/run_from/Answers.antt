@@ -4,7 +4,7 @@ use Rattle.tm_syntax.specs.Design.View.{design_tree}
 use Rattle.tm_moves.specs.Ended.{EndsBehind}
 use Rattle.tm_moves.specs.Items.{ItemsLead}
 use Rattle.tm_moves.specs.Movable.{tables_by}
-use Rattle.tm_moves.specs.Tables.{cells_of}
+use Rattle.tm_flatten.specs.Tables.{cells_of}
 use Rattle.tm_moves.proofs.Running.{NoneEnded, none_ended, process_has_run, work_walks}
 use Rattle.tm_moves.proofs.mover.Mover.run_from.Goals as goal
 

@@ -1,7 +1,7 @@
 use Rattle.std.proofs.Common.{◌≡◌, Option, Some, None, sym, ◌∙◌}
 use Rattle.tm_scope.specs.declared.cells.site_body.SiteBody.{SiteBody}
 use Rattle.tm_scope.specs.declared.context.BodyName.TheVariants.{Outside}
-use Rattle.tm_moves.specs.Tables.{cells_of}
+use Rattle.tm_flatten.specs.Tables.{cells_of}
 use Rattle.tm_moves.proofs.Lists.{get_within}
 use Rattle.tm_moves.proofs.ReadTerms.{is_read}
 use Rattle.tm_moves.proofs.mover.Mover.variable.Goals as goal

@@ -9,8 +9,8 @@ returns-in_default-clause-cut g c = ([], nothing, λ told. cut_nothing (g.O.Sink
 pub new-requires : goal.new-requires
 new-requires g c = record { sound = c.requires.playable.sound; read = c.requires.playable.of_text }
 
-pub returns-clause-ended : goal.returns-clause-ended
-returns-clause-ended g c = rw (sym c.in-Ok.ensures) c.play_by_tables.ensures.ended
+pub returns-clause-halted : goal.returns-clause-halted
+returns-clause-halted g c = rw (sym c.in-Ok.ensures) c.play_by_tables.ensures.halted
 
 pub returns-clause-cut : goal.returns-clause-cut
 returns-clause-cut g c = rw (sym c.in-Ok.ensures) c.play_by_tables.ensures.cut

@@ -4,7 +4,7 @@ use Rattle.tm_syntax.specs.Design.View.{design_tree}
 use Rattle.tm_cir.specs.View.{trees_of}
 use Rattle.tm_play.specs.Report.{state_line}
 use Rattle.tm_play.specs.Played.{nothing, part, begins_badly}
-use Rattle.tm_play.proofs.Playing.{none_begins, begun, begun_position, led_on, led_nowhere, played_all}
+use Rattle.tm_play.proofs.Playing.{none_begins, begun, begun_position, led_on, led_nowhere, led_stuck, played_all}
 use Rattle.tm_play.proofs.Putting.{on_err, cut_nothing, cut_whole, cut_more}
 use Rattle.tm_play.proofs.play.turns.play.Goals as goal
 
@@ -12,8 +12,8 @@ pub returns-in_err-position-clause-cut : goal.returns-in_err-position-clause-cut
 returns-in_err-position-clause-cut g c =
     on_err c.from_residual.result ([], nothing, λ told. cut_nothing (g.O.Sink.written c.args.out.now))
 
-pub returns-in_default-clause-ended : goal.returns-in_default-clause-ended
-returns-in_default-clause-ended g c =
+pub returns-in_default-clause-halted : goal.returns-in_default-clause-halted
+returns-in_default-clause-halted g c =
     let start : c.deref.result.now ≡ c.args.script.now.start = search rules in (
       [],
       begins_badly (none_begins (design_tree c.args.machine.now) c.deref.result.now c.args.script.now.start
@@ -59,14 +59,26 @@ returns-in_err-put_position-in-To-clause-cut g c =
           (c.loop-index.invariant.written told) (c.in_err-put_position-in-To.ensures.err told),
     )
 
-pub returns-in-Stop-clause-ended : goal.returns-in-Stop-clause-ended
-returns-in-Stop-clause-ended g c =
+pub returns-in-Stop-clause-halted : goal.returns-in-Stop-clause-halted
+returns-in-Stop-clause-halted g c =
     let turns : c.deref-turn-items.result.now ≡ c.args.script.now.turns = search rules in (
       c.loop-index.invariant.text,
       led_nowhere (design_tree c.args.machine.now) (trees_of c.args.blocks.now) c.args.script.now c.loop-index.index
           c.loop-index.position c.loop-index.invariant.text
           c.deref-turn-items.result.now c.turn-item.result c.in_ok-action.field-0 c.in-Stop.why
           c.loop-index.invariant.reaches turns (omega arith) c.turn-item.is c.in_ok-action.ensures c.in-Stop.is,
+      c.loop-index.invariant.written,
+    )
+
+pub returns-in-Stuck-clause-halted : goal.returns-in-Stuck-clause-halted
+returns-in-Stuck-clause-halted g c =
+    let turns : c.deref-turn-items.result.now ≡ c.args.script.now.turns = search rules in (
+      c.loop-index.invariant.text,
+      led_stuck (design_tree c.args.machine.now) (trees_of c.args.blocks.now) c.args.script.now c.loop-index.index
+          c.loop-index.position c.loop-index.invariant.text
+          c.deref-turn-items.result.now c.turn-item.result c.in_ok-action.field-0 c.in-Stuck.action
+          c.loop-index.invariant.reaches turns (omega arith) c.turn-item.is c.in_ok-action.ensures c.in-Stuck.is
+          c.loop-index.invariant.valid,
       c.loop-index.invariant.written,
     )
 
@@ -108,8 +120,8 @@ loop-index-preserved g c =
       faults = omega (arith, c.loop-index.invariant.faults, c.in_ok-put_position-in-To.ensures.no_fewer_faults);
     }
 
-pub returns-clause-ended : goal.returns-clause-ended
-returns-clause-ended g c =
+pub returns-clause-halted : goal.returns-clause-halted
+returns-clause-halted g c =
     let turns : c.deref-turn-items.result.now ≡ c.args.script.now.turns = search rules in
     let counted : c.len.result ≡ length c.args.script.now.turns = search rules in (
       c.loop-index.invariant.text,

@@ -5,7 +5,7 @@ use Rattle.tm_flat.specs.Inputs.{first_choice, input_widths, room}
 use Rattle.tm_flows.specs.Flows.{IsFlow}
 use Rattle.tm_locations.specs.Locations.{table_of}
 use Rattle.tm_moves.specs.Movable.{tables_by}
-use Rattle.tm_moves.specs.Tables.{cells_of}
+use Rattle.tm_flatten.specs.Tables.{cells_of}
 use Rattle.tm_turns.specs.Arguments.{ReadsArguments, params_of}
 use Rattle.tm_turns.specs.Inner.Reading.{IsReadable}
 use Rattle.tm_turns.proofs.Entering.{entered}

@@ -7,7 +7,7 @@ use Rattle.tm_syntax.specs.Tree.View.{spec_tree}
 use Rattle.tm_flat.specs.Inputs.{first_choice, room}
 use Rattle.tm_scope.specs.declared.cells.site_body.CellNumber.TheVariants.{State}
 use Rattle.tm_walk.proofs.Passed.{param_here}
-use Rattle.tm_moves.specs.Tables.{cells_of}
+use Rattle.tm_flatten.specs.Tables.{cells_of}
 use Rattle.tm_turns.specs.Arguments.{params_of}
 use Rattle.tm_turns.proofs.Parameters.{ReadSoFar, as_many, parameter_by, position_by, read_begins, read_by, read_ends, sized_by}
 use Rattle.tm_turns.proofs.tasks.Tasks.read_all.Goals as goal

@@ -1,5 +1,5 @@
 use Rattle.tm_syntax.specs.Design.View.{design_tree}
-use Rattle.tm_moves.specs.Tables.{cells_of}
+use Rattle.tm_flatten.specs.Tables.{cells_of}
 use Rattle.tm_turns.proofs.Parameters.{ReadSoFar}
 use Rattle.tm_turns.proofs.tasks.Tasks.read_all.Given as goal
 

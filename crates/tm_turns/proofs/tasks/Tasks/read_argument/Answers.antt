@@ -4,7 +4,7 @@ use Rattle.tm_syntax.specs.Design.View.{design_tree}
 use Rattle.tm_syntax.specs.Tree.View.{spec_tree}
 use Rattle.tm_flat.specs.Inputs.{first_choice, room}
 use Rattle.tm_flatten.proofs.Later.{term_along}
-use Rattle.tm_moves.specs.Tables.{cells_of}
+use Rattle.tm_flatten.specs.Tables.{cells_of}
 use Rattle.tm_turns.proofs.Parameters.{argument_within, asked_is, cell_typed}
 use Rattle.tm_turns.proofs.ReadingArguments.{argument_inputs, first_argument, reads_by}
 use Rattle.tm_turns.proofs.tasks.Tasks.read_argument.Goals as goal

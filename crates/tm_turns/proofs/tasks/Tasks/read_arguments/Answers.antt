@@ -4,7 +4,7 @@ use Rattle.tm_syntax.specs.Design.View.{design_tree}
 use Rattle.tm_scope.specs.Cells.{ScopedCells}
 use Rattle.tm_scope.specs.declared.cells.site_body.CellNumber.{CellNumber}
 use Rattle.tm_operands.specs.Parameters.{AreCalledCells, task_at}
-use Rattle.tm_moves.specs.Tables.{cells_of}
+use Rattle.tm_flatten.specs.Tables.{cells_of}
 use Rattle.tm_turns.specs.Inner.Reading.{AreParameters}
 use Rattle.tm_turns.proofs.Parameters.{task_parameters}
 use Rattle.tm_turns.proofs.tasks.Tasks.read_arguments.Goals as goal

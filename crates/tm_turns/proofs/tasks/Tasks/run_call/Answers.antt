@@ -2,7 +2,7 @@ use Rattle.std.proofs.Common.{◌+◌, ◌<◌, ◌^◌, sym, ◌∙◌, subst, 
 use Rattle.tm_syntax.specs.declared.design.Design.{Design}
 use Rattle.tm_syntax.specs.Design.View.{design_tree}
 use Rattle.tm_flat.specs.Inputs.{first_choice, room}
-use Rattle.tm_moves.specs.Tables.{cells_of}
+use Rattle.tm_flatten.specs.Tables.{cells_of}
 use Rattle.tm_turns.proofs.Standing.{site_there}
 use Rattle.tm_turns.proofs.tasks.Tasks.run_call.Goals as goal
 

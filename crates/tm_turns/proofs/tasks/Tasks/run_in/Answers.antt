@@ -6,7 +6,7 @@ use Rattle.tm_locations.specs.Locations.{table_of}
 use Rattle.tm_walk.specs.Walks.{BodyLeads, BodyWalks, WalkTables}
 use Rattle.tm_moves.specs.Ended.{EndsBehind}
 use Rattle.tm_moves.specs.Movable.{tables_by}
-use Rattle.tm_moves.specs.Tables.{cells_of}
+use Rattle.tm_flatten.specs.Tables.{cells_of}
 use Rattle.tm_turns.proofs.Entering.{body_led, body_walks, call_ran}
 use Rattle.tm_turns.proofs.tasks.Tasks.run_in.Goals as goal
 

@@ -1,0 +1,10 @@
+pub mod FirstAtoms
+pub mod HeldAtoms
+pub mod MarkedBits
+pub mod MarkedVariables
+pub mod Places
+pub mod PredicateTerms
+pub mod PushedBits
+pub mod StateWidths
+pub mod TruthTerms
+pub mod VariablePaths

@@ -1,0 +1,4 @@
+-- What contracts of private functions alone cite.
+pub mod Bits
+pub mod Holding
+pub mod Marks
