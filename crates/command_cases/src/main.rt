@@ -1,13 +1,16 @@
 //! Cases of the commands: obeys each line of the input in its folder, and tells what it wrote and its exit code.
 //!
-//! The words of a line stand apart by single blanks. Two kinds of lines are no words of a command: `show NAME` writes
-//! what a file holds, and `fill NAME N` makes a file of N blanks.
+//! The words of a line stand apart by single blanks. Three kinds of lines are no words of a command: `show NAME` writes
+//! what a file holds, `fill NAME N` makes a file of N blanks, and `fail CALL PUT WORDS` obeys the words over files in
+//! memory (`s`, `d`, `c` and `k` hold the specification, the driver, the played choices and the certificate of `flag`),
+//! where the call of the files and the put of these numbers fail (0 is none), and tells also whether there is a file
+//! `o` afterwards.
 #![tactic(auto)]
 
-#[cfg(test)]
 mod failing;
 
 use anyhow::{Context, Result};
+use failing::fail;
 use std::alloc::{AllocError, Global};
 use tm_base::{DiskFiles, Files, Sink, StdSink};
 use tm_commands::obey_and_report;
@@ -58,6 +61,9 @@ fn fill<R: std::rt::Files + AllocGlobal>(rt: &R, name: &str, count: &str) -> Res
 
 /// Does what a line says.
 fn answer<R: std::rt::Files + Print + AllocGlobal>(rt: &R, line: &str) -> Result<()> {
+    if let Some(failing) = line.strip_prefix("fail ") {
+        return fail(rt, failing);
+    }
     let words = words_of(rt.alloc(), line)?;
     match words.as_slice() {
         [verb, name] if verb.as_str() == "show" => show(rt, name.as_str()),

@@ -84,14 +84,24 @@ fn register(k: u8) -> u32
     REGISTERS + BITS * u32::from(k)
 }
 
-/// What a request to register `k` of `n` changes: the register takes the argument, and nothing is wanted any more
-/// where that was the turn of the register and the argument was required.
-fn request_to(alloc: Global, bench: &mut Workbench, n: u8, k: u8) -> Result<Request, Failure> {
+/// How many levels a device of `n` registers has.
+pub fn levels_of(n: u8) -> u32 {
+    register(n) + BITS
+}
+
+/// What is wanted after a request to register `k` of `n`: nothing any more where that was the turn of the register and
+/// the argument was required.
+fn wanted_after(bench: &mut Workbench, n: u8, k: u8) -> Result<Function, Failure> {
     let turn = is_number(bench, TURN, TURN_BITS, u32::from(k))?;
     let equal = are_equal(bench, register(n), REQ)?;
     let served = bench.and(turn, equal)?;
     let unserved = bench.not(served)?;
-    let wanted = bench.and(bench.literal(WANT), unserved)?;
+    bench.and(bench.literal(WANT), unserved)
+}
+
+/// What a request to register `k` of `n` changes: what is wanted, and the register, which takes the argument.
+fn request_to(alloc: Global, bench: &mut Workbench, n: u8, k: u8) -> Result<Request, Failure> {
+    let wanted = wanted_after(bench, n, k)?;
     let mut parts = vec![in alloc; (WANT, wanted)]?;
     for i in 0..BITS {
         parts.push((register(k) + i, bench.literal(register(n) + i)))?;
@@ -149,7 +159,7 @@ fn add_round(
     for _ in 0..u64::MAX {
         let next = next(bench, device, goal, set)?;
         counts.rounds = counts.rounds.saturating_add(1);
-        if bench.are_same(next, set)? {
+        if next == set {
             break;
         }
         set = next;
@@ -159,16 +169,20 @@ fn add_round(
 }
 
 /// The fixpoints of so many rounds of a device of `n` registers.
-pub fn mailbox(alloc: Global, n: u8, rounds: u32) -> Result<Counts, Failure> {
-    let mut bench = Workbench::new(alloc, register(n) + BITS)?;
-    let device = device_of(alloc, &mut bench, n)?;
+pub fn mailbox(
+    alloc: Global,
+    bench: &mut Workbench,
+    n: u8,
+    rounds: u32,
+) -> Result<Counts, Failure> {
+    let device = device_of(alloc, bench, n)?;
     let mut counts = Counts {
         rounds: 0,
         sizes: 0,
         requests: 0,
     };
     for round in 0..rounds {
-        add_round(&mut bench, &device, round, &mut counts)?;
+        add_round(bench, &device, round, &mut counts)?;
     }
     counts.requests = bench.requests();
     Ok(counts)

@@ -3,10 +3,9 @@ ghost use Rattle.std.specs.Prelude.{◌<◌};
 
 use crate::failure::Failure;
 use crate::workbench::{FALSE, Function, TRUE, Workbench};
-use std::alloc::Global;
 
 /// The number of levels.
-const LEVELS: u32 = 24;
+pub const LEVELS: u32 = 24;
 /// The number of functions.
 const FUNCTIONS: usize = 16;
 
@@ -81,26 +80,30 @@ fn mix_two(
     Ok(())
 }
 
-/// The sizes of 16 functions that are drawn and then mixed in so many rounds.
-pub fn mix(alloc: Global, seed: u64, rounds: u32) -> Result<Counts, Failure> {
-    let mut bench = Workbench::new(alloc, LEVELS)?;
-    let mut draws = Draws { state: seed };
-    let mut functions = [FALSE; FUNCTIONS];
-    for i in 0..FUNCTIONS {
-        functions[i] = drawn(&mut bench, &mut draws)?;
-    }
-    for _ in 0..rounds {
-        mix_two(&mut bench, &mut draws, &mut functions)?;
-    }
-    let mut sizes = Counts {
+/// What the diagrams of functions cost.
+fn counts_of(bench: &Workbench, functions: &[Function]) -> Result<Counts, Failure> {
+    let mut counts = Counts {
         sum: 0,
         most: 0,
         requests: bench.requests(),
     };
-    for function in &functions {
+    for function in functions {
         let size = bench.size(*function)?;
-        sizes.sum = sizes.sum.saturating_add(size);
-        sizes.most = sizes.most.max(size);
+        counts.sum = counts.sum.saturating_add(size);
+        counts.most = counts.most.max(size);
     }
-    Ok(sizes)
+    Ok(counts)
+}
+
+/// The sizes of 16 functions that are drawn and then mixed in so many rounds.
+pub fn mix(bench: &mut Workbench, seed: u64, rounds: u32) -> Result<Counts, Failure> {
+    let mut draws = Draws { state: seed };
+    let mut functions = [FALSE; FUNCTIONS];
+    for i in 0..FUNCTIONS {
+        functions[i] = drawn(bench, &mut draws)?;
+    }
+    for _round in 0..rounds {
+        mix_two(bench, &mut draws, &mut functions)?;
+    }
+    counts_of(bench, &functions)
 }

@@ -61,9 +61,8 @@ pub fn bits(alloc: Global, bench: &mut Workbench, width: u8) -> Result<Vec<Funct
 }
 
 /// The bits of a product of two factors of this width.
-pub fn product(alloc: Global, width: u8) -> Result<Counts, Failure> {
-    let mut bench = Workbench::new(alloc, 2 * u32::from(width))?;
-    let sum = bits(alloc, &mut bench, width)?;
+pub fn product(alloc: Global, bench: &mut Workbench, width: u8) -> Result<Counts, Failure> {
+    let sum = bits(alloc, bench, width)?;
     let middle = match sum.get(usize::from(width).saturating_sub(1)) {
         Some(bit) => *bit,
         None => FALSE,

@@ -104,21 +104,16 @@ fn quantify_each(
 ) -> Result<Counts, Failure> {
     let levels = fourth_levels(alloc, count)?;
     let parts = parts(alloc, bench, count)?;
-    let exists = exists_size(alloc, bench, functions, &levels)?;
-    let forall = forall_size(alloc, bench, functions, &levels)?;
-    let composed = composed_size(alloc, bench, functions, &parts)?;
     Ok(Counts {
-        exists,
-        forall,
-        composed,
+        exists: exists_size(alloc, bench, functions, &levels)?,
+        forall: forall_size(alloc, bench, functions, &levels)?,
+        composed: composed_size(alloc, bench, functions, &parts)?,
         requests: bench.requests(),
     })
 }
 
 /// Quantifies and substitutes in each bit of a product of two factors of this width.
-pub fn quantify(alloc: Global, width: u8) -> Result<Counts, Failure> {
-    let count = 2 * u32::from(width);
-    let mut bench = Workbench::new(alloc, count)?;
-    let sum = bits(alloc, &mut bench, width)?;
-    quantify_each(alloc, &mut bench, &sum, count)
+pub fn quantify(alloc: Global, bench: &mut Workbench, width: u8) -> Result<Counts, Failure> {
+    let sum = bits(alloc, bench, width)?;
+    quantify_each(alloc, bench, &sum, 2 * u32::from(width))
 }

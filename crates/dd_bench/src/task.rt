@@ -2,11 +2,12 @@
 ghost use Rattle.std.specs.Prelude.{◌≤◌, IfSome};
 
 use crate::failure::Failure;
-use crate::mailbox::mailbox;
-use crate::mix::mix;
+use crate::mailbox::{levels_of, mailbox};
+use crate::mix::{LEVELS, mix};
 use crate::product::product;
 use crate::quantify::quantify;
 use crate::queens::queens;
+use crate::workbench::Workbench;
 use std::alloc::Global;
 
 /// The greatest size of a board, the greatest width of a factor and the greatest number of registers.
@@ -67,42 +68,77 @@ impl Task {
         }
     }
 
+    /// How many levels the functions of the task have.
+    fn levels(self) -> u32 {
+        match self {
+            Task::Queens(n) => u32::from(n) * u32::from(n),
+            Task::Product(width) | Task::Quantify(width) => 2 * u32::from(width),
+            Task::Mix(..) => LEVELS,
+            Task::Mailbox(n, _) => levels_of(n),
+        }
+    }
+
     /// What the task counts.
     pub fn answer(self, alloc: Global) -> Result<String, Failure> {
-        let line = match self {
-            Task::Queens(n) => {
-                let counts = queens(alloc, n)?;
-                format!(in alloc; "queens {n}: {}, {} requests", counts.size, counts.requests)
-            }
-            Task::Product(w) => {
-                let counts = product(alloc, w)?;
-                format!(in alloc;
-                    "product {w}: {} {}, {} requests",
-                    counts.together, counts.middle, counts.requests
-                )
-            }
-            Task::Mix(seed, rounds) => {
-                let counts = mix(alloc, seed, rounds)?;
-                format!(in alloc;
-                    "mix {seed} {rounds}: {} {}, {} requests",
-                    counts.sum, counts.most, counts.requests
-                )
-            }
-            Task::Quantify(w) => {
-                let counts = quantify(alloc, w)?;
-                format!(in alloc;
-                    "quantify {w}: {} {} {}, {} requests",
-                    counts.exists, counts.forall, counts.composed, counts.requests
-                )
-            }
-            Task::Mailbox(n, rounds) => {
-                let counts = mailbox(alloc, n, rounds)?;
-                format!(in alloc;
-                    "mailbox {n} {rounds}: {} {}, {} requests",
-                    counts.rounds, counts.sizes, counts.requests
-                )
-            }
-        };
-        Ok(line?)
+        let mut bench = Workbench::new(alloc, self.levels())?;
+        match self {
+            Task::Queens(n) => queens_text(alloc, &mut bench, n),
+            Task::Product(width) => product_text(alloc, &mut bench, width),
+            Task::Mix(seed, rounds) => mix_text(alloc, &mut bench, seed, rounds),
+            Task::Quantify(width) => quantify_text(alloc, &mut bench, width),
+            Task::Mailbox(n, rounds) => mailbox_text(alloc, &mut bench, n, rounds),
+        }
     }
+}
+
+/// What boards of this size count.
+fn queens_text(alloc: Global, bench: &mut Workbench, n: u8) -> Result<String, Failure> {
+    let counts = queens(alloc, bench, n)?;
+    Ok(format!(in alloc; "queens {n}: {}, {} requests", counts.size, counts.requests)?)
+}
+
+/// What a product of this width counts.
+fn product_text(alloc: Global, bench: &mut Workbench, width: u8) -> Result<String, Failure> {
+    let counts = product(alloc, bench, width)?;
+    Ok(format!(in alloc;
+        "product {width}: {} {}, {} requests",
+        counts.together, counts.middle, counts.requests
+    )?)
+}
+
+/// What functions that are drawn from a seed count.
+fn mix_text(
+    alloc: Global,
+    bench: &mut Workbench,
+    seed: u64,
+    rounds: u32,
+) -> Result<String, Failure> {
+    let counts = mix(bench, seed, rounds)?;
+    Ok(format!(in alloc;
+        "mix {seed} {rounds}: {} {}, {} requests",
+        counts.sum, counts.most, counts.requests
+    )?)
+}
+
+/// What quantification over the bits of a product of this width counts.
+fn quantify_text(alloc: Global, bench: &mut Workbench, width: u8) -> Result<String, Failure> {
+    let counts = quantify(alloc, bench, width)?;
+    Ok(format!(in alloc;
+        "quantify {width}: {} {} {}, {} requests",
+        counts.exists, counts.forall, counts.composed, counts.requests
+    )?)
+}
+
+/// What the fixpoints of a device of so many registers count.
+fn mailbox_text(
+    alloc: Global,
+    bench: &mut Workbench,
+    n: u8,
+    rounds: u32,
+) -> Result<String, Failure> {
+    let counts = mailbox(alloc, bench, n, rounds)?;
+    Ok(format!(in alloc;
+        "mailbox {n} {rounds}: {} {}, {} requests",
+        counts.rounds, counts.sizes, counts.requests
+    )?)
 }

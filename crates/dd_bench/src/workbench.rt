@@ -1,68 +1,75 @@
-//! Functions by number, in a manager of their own.
-ghost use Rattle.std.specs.Prelude.{All, IfOk};
+//! Operations on functions, with a count of the requests for nodes.
+ghost use Rattle.std.specs.Prelude.{All, Contains, IsTrue, map};
 ghost use Rattle.tm_dd.specs.Table.{Knows};
+ghost use Rattle.tm_dd.specs.declared.node.NodeId.{NodeId as Id};
 
 use crate::failure::Failure;
 use std::alloc::{AllocError, Global};
 use std::collections::HashSet;
-use std::marker::Model;
 use tm_base::Steps;
 use tm_dd::{NodeId, Store};
+pub use tm_dd::{FALSE, NodeId as Function, TRUE};
 use tm_ddops::Manager;
 
-/// The number of a function on a workbench.
-#[derive(Clone, Copy)]
-pub struct Function(usize);
-
-/// The function that is always false.
-pub const FALSE: Function = Function(0);
-/// The function that is always true.
-pub const TRUE: Function = Function(1);
-
-/// A manager, with all functions that were made in it. One that was not made here is refused.
+/// A manager, with the value of each level and the requests that were made. A function that it does not know is
+/// refused.
 #[derive(Drop)]
 pub struct Workbench {
     alloc: Global,
     manager: Manager,
     steps: Steps<()>,
-    ids: Vec<NodeId>,
+    literals: Vec<Function>,
 }
 
-impl Model for Workbench {
-    ghost use Rattle.tm_ddops.specs.Manager.{Diagrams};
+/// Whether a manager knows a function.
+fn knows(manager: &Manager, f: Function) -> bool
+    ensures { IsTrue result → Knows manager.now.table f }
+{
+    manager.store().knows(f)
+}
 
-    ghost Value = { Diagrams };
+/// The value of a level, if there is such a level.
+fn variable(manager: &mut Manager, level: u32, steps: &mut Steps<()>) -> Result<Function, Failure> {
+    let store = manager.store();
+    if !store.knows(FALSE) || !store.knows(TRUE) || level >= store.levels() {
+        return Err(Failure::UnknownFunction);
+    }
+    if level >= store.level(FALSE) || level >= store.level(TRUE) {
+        return Err(Failure::UnknownFunction);
+    }
+    Ok(manager.make(level, FALSE, TRUE, steps)?)
+}
 
-    ghost use Rattle.std.specs.Prelude.{All};
-    ghost use Rattle.tm_dd.specs.Table.{Knows};
-
-    ghost view = { λ w. w.manager };
-
-    ghost invariant = { λ w. All (Knows w.manager.table) w.ids.items };
+/// The values of all levels.
+fn variables(
+    alloc: Global,
+    manager: &mut Manager,
+    steps: &mut Steps<()>,
+) -> Result<Vec<Function>, Failure> {
+    let mut literals = Vec::new(alloc);
+    for level in 0..manager.store().levels() {
+        literals.push(variable(manager, level, steps)?)?;
+    }
+    Ok(literals)
 }
 
 impl Workbench {
-    /// A workbench with the constants and the value of each level.
+    /// A workbench with the value of each level.
     pub fn new(alloc: Global, levels: u32) -> Result<Workbench, Failure> {
-        let mut manager = Manager::new(alloc, levels)?;
         let mut steps = Steps::new(());
-        let mut ids = Vec::new(alloc);
-        ids.push(tm_dd::FALSE)?;
-        ids.push(tm_dd::TRUE)?;
-        for level in 0..levels {
-            ids.push(manager.make(level, tm_dd::FALSE, tm_dd::TRUE, &mut steps)?)?;
-        }
+        let mut manager = Manager::new(alloc, levels)?;
+        let literals = variables(alloc, &mut manager, &mut steps)?;
         Ok(Workbench {
             alloc,
             manager,
             steps,
-            ids,
+            literals,
         })
     }
 
-    /// The value of a level.
+    /// The value of a level, and `FALSE` where there is no such level.
     pub fn literal(&self, level: u32) -> Function {
-        Function(level as usize + 2)
+        self.literals.get(level as usize).copied().unwrap_or(FALSE)
     }
 
     /// How many requests were made.
@@ -72,105 +79,107 @@ impl Workbench {
 
     /// Both of two functions.
     pub fn and(&mut self, f: Function, g: Function) -> Result<Function, Failure> {
-        let f = self.id(f)?;
-        let g = self.id(g)?;
-        let both = self.manager.and(f, g, &mut self.steps)?;
-        self.number(both)
+        if !knows(&self.manager, f) || !knows(&self.manager, g) {
+            return Err(Failure::UnknownFunction);
+        }
+        Ok(self.manager.and(f, g, &mut self.steps)?)
     }
 
     /// At least one of two functions.
     pub fn or(&mut self, f: Function, g: Function) -> Result<Function, Failure> {
-        let f = self.id(f)?;
-        let g = self.id(g)?;
-        let some = self.manager.or(f, g, &mut self.steps)?;
-        self.number(some)
+        if !knows(&self.manager, f) || !knows(&self.manager, g) {
+            return Err(Failure::UnknownFunction);
+        }
+        Ok(self.manager.or(f, g, &mut self.steps)?)
     }
 
     /// Exactly one of two functions.
     pub fn xor(&mut self, f: Function, g: Function) -> Result<Function, Failure> {
-        let f = self.id(f)?;
-        let g = self.id(g)?;
-        let one = self.manager.xor(f, g, &mut self.steps)?;
-        self.number(one)
+        if !knows(&self.manager, f) || !knows(&self.manager, g) {
+            return Err(Failure::UnknownFunction);
+        }
+        Ok(self.manager.xor(f, g, &mut self.steps)?)
     }
 
     /// The complement of a function.
     pub fn not(&mut self, f: Function) -> Result<Function, Failure> {
-        let f = self.id(f)?;
-        let opposite = self.manager.not(f)?;
-        self.number(opposite)
+        if !knows(&self.manager, f) {
+            return Err(Failure::UnknownFunction);
+        }
+        Ok(self.manager.not(f)?)
     }
 
     /// The function that is true where `f` is true for some values of the levels.
     pub fn exists(&mut self, f: Function, levels: &[u32]) -> Result<Function, Failure> {
-        let f = self.id(f)?;
-        let some = self.manager.exists(f, levels)?;
-        self.number(some)
+        if !knows(&self.manager, f) {
+            return Err(Failure::UnknownFunction);
+        }
+        Ok(self.manager.exists(f, levels)?)
     }
 
     /// The function that is true where `f` is true for all values of the levels.
     pub fn forall(&mut self, f: Function, levels: &[u32]) -> Result<Function, Failure> {
-        let f = self.id(f)?;
-        let all = self.manager.forall(f, levels)?;
-        self.number(all)
+        if !knows(&self.manager, f) {
+            return Err(Failure::UnknownFunction);
+        }
+        Ok(self.manager.forall(f, levels)?)
     }
 
     /// The function `f` with each part's function in the place of its level.
     pub fn compose(&mut self, f: Function, parts: &[(u32, Function)]) -> Result<Function, Failure> {
-        let parts = self.parts(parts)?;
-        let f = self.id(f)?;
-        let composed = self.manager.compose(f, &parts)?;
-        self.number(composed)
-    }
-
-    /// Whether two functions are the same.
-    pub fn are_same(&self, f: Function, g: Function) -> Result<bool, Failure> {
-        Ok(self.id(f)? == self.id(g)?)
+        if !knows_parts(&self.manager, parts) {
+            return Err(Failure::UnknownFunction);
+        }
+        composed(&mut self.manager, f, parts)
     }
 
     /// How many ids of inner nodes are reached from a function.
     pub fn size(&self, f: Function) -> Result<u64, Failure> {
-        Ok(self.manager.size(self.id(f)?)?)
+        if !knows(&self.manager, f) {
+            return Err(Failure::UnknownFunction);
+        }
+        Ok(self.manager.size(f)?)
     }
 
     /// How many ids of inner nodes are reached from some of these functions.
     pub fn size_together(&self, functions: &[Function]) -> Result<u64, Failure> {
         let mut inner = HashSet::new(self.alloc);
         for f in functions {
-            gather(self.manager.store(), self.id(*f)?, &mut inner)?;
+            if !knows(&self.manager, *f) {
+                return Err(Failure::UnknownFunction);
+            }
+            gather(self.manager.store(), *f, &mut inner)?;
         }
         Ok(inner.len() as u64)
     }
+}
 
-    // The id of a function.
-    fn id(&self, f: Function) -> Result<NodeId, Failure>
-        ensures { IfOk result (Knows self.now.table) }
-    {
-        match self.ids.get(f.0) {
-            Some(id) => Ok(*id),
-            None => Err(Failure::UnknownFunction),
-        }
-    }
+/// Whether a manager knows the function of each part of a substitution.
+fn knows_each(manager: &Manager, parts: &[(u32, Function)]) -> bool
+    ensures { IsTrue result → All (λ p. Knows manager.now.table p.1) parts.now }
+{
+    parts.iter().all(|part| knows(manager, part.1))
+}
 
-    // The number of a function that was made.
-    fn number(&mut self, id: NodeId) -> Result<Function, Failure>
-        requires { Knows self.old.table id }
-    {
-        let function = Function(self.ids.len());
-        self.ids.push(id)?;
-        Ok(function)
-    }
+/// The same, as a substitution asks for it.
+fn knows_parts(manager: &Manager, parts: &[(u32, Function)]) -> bool
+    ensures { IsTrue result → (g : Id) → Contains (map (λ p. p.1) parts.now) g → Knows manager.now.table g }
+{
+    knows_each(manager, parts)
+}
 
-    // The ids of the parts of a substitution.
-    fn parts(&self, parts: &[(u32, Function)]) -> Result<Vec<(u32, NodeId)>, Failure>
-        ensures { IfOk result (λ ids. All (λ p. Knows self.now.table p.1) ids.items) }
-    {
-        let mut ids = Vec::new(self.alloc);
-        for (level, f) in parts {
-            ids.push((*level, self.id(*f)?))?;
-        }
-        Ok(ids)
+/// The function `f` with known functions in the places of levels.
+fn composed(
+    manager: &mut Manager,
+    f: Function,
+    parts: &[(u32, Function)],
+) -> Result<Function, Failure>
+    requires { (g : Id) → Contains (map (λ p. p.1) parts.now) g → Knows manager.old.table g }
+{
+    if !knows(manager, f) {
+        return Err(Failure::UnknownFunction);
     }
+    Ok(manager.compose(f, parts)?)
 }
 
 /// Adds the ids of inner nodes that are reached from `f`.

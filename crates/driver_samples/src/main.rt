@@ -1,29 +1,37 @@
 //! Prints drivers that are drawn, as C text, and what they answer at drawn states: what C compilers are tried on.
 //!
-//! Each line of the input is a seed, and its driver is always the same.
+//! Each line of the input is a seed, and its driver is always the same; or it is `back N`, which tells how many of the
+//! drivers of the first N seeds are read back as what was printed.
 #![tactic(auto)]
 
 mod answers;
+mod back;
 mod draw;
 mod sample;
 mod specification;
-#[cfg(test)]
-mod tests;
 
 use anyhow::{Context, Result};
 use std::alloc::Global;
 
-/// The sample of a line.
-fn sample_of(alloc: Global, line: &str) -> Result<String> {
-    let seed = line
-        .parse::<u64>()
-        .with_context(|| "a line that is no seed")?;
-    Ok(sample::sample(alloc, seed)?)
+/// The number of a seed, or of drivers.
+fn number(word: &str) -> Result<u64> {
+    Ok(
+        word.parse::<u64>()
+            .with_context(|| "a line that is no seed")?,
+    )
+}
+
+/// The answer to a line.
+fn answer(alloc: Global, line: &str) -> Result<String> {
+    match line.strip_prefix("back ") {
+        Some(drivers) => back::told_back(alloc, number(drivers)?),
+        None => sample::sample(alloc, number(line)?),
+    }
 }
 
 fn main(rt: HostRuntime) -> Result<()> {
     for line in rt.lines(rt.alloc()) {
-        let text = sample_of(rt.alloc(), line?.as_str())?;
+        let text = answer(rt.alloc(), line?.as_str())?;
         print!(rt; "{text}")?;
     }
     Ok(())

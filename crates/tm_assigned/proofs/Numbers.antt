@@ -45,7 +45,7 @@ length-bits_of zero n = refl
 length-bits_of (suc w) n = omega (arith, length-bits_of w n)
 
 -- the bits of the number of bits are these
-bits_back : (w : ℕ) (bits : List Bool) → length bits ≡ w → bits_of w (number_of bits) ≡ bits
+pub bits_back : (w : ℕ) (bits : List Bool) → length bits ≡ w → bits_of w (number_of bits) ≡ bits
 bits_back w bits long =
     let power : 2 ^ length bits ≡ 2 ^ w = ap (λ k. 2 ^ k) long in
     same_bits (bits_of w (number_of bits)) bits (length-bits_of w (number_of bits) ∙ sym long)

@@ -1,5 +1,5 @@
--- A command has one end.
-use Rattle.std.proofs.Common.{◌≡◌, ℕ, Option, None, Some, Ok, Err, List, refl, sym, ap}
+-- What files tell is one, or why they tell none; so `run` has one end.
+use Rattle.std.proofs.Common.{◌≡◌, ℕ, Option, Ok, Err, List, refl, sym, ap}
 use Rattle.std.proofs.Common.{subst, ◌∙◌}
 use Rattle.tm_syntax.specs.Limits.{file_limit}
 use Rattle.tm_base.specs.Files.{IsLonger}
@@ -15,21 +15,18 @@ use Rattle.tm_commands.specs.declared.ending.Ending.TheVariants.{Play, BadText}
 use Rattle.tm_commands.specs.declared.ending.Bad.TheVariants.{Driver, Choices}
 use Rattle.tm_play.specs.declared.ending.PlayEnd.{PlayEnd}
 use Rattle.tm_play.specs.Script.{ScriptData}
-use Rattle.tm_commands.specs.Words.{Command, run, generate, migrate}
 use Rattle.tm_play.specs.Choices.{reading_of}
 use Rattle.tm_commands.specs.Inputs.{TellsSpecification, TellsBlocks, TellsBadDriver, TellsScript, TellsBadLine}
 use Rattle.tm_commands.specs.Inputs.{NoBlocks, long_driver, bad_driver, NoScript, long_choices, bad_choices}
 use Rattle.tm_commands.specs.Run.{Loads, Refused, no_design, no_blocks, no_script, RunEnds, refused, ended}
-use Rattle.tm_commands.specs.Commands.{CommandEnds}
 use Rattle.tm_play.specs.Played.{Ends}
-use Rattle.tm_commands.proofs.Migrating.{one_migrate_end}
 use Rattle.tm_play.proofs.OneEnd.{one_end}
 use Rattle.tm_commands.proofs.Telling.{not_longer, one_no_specification, one_text, specification_read}
 use Rattle.tm_commands.proofs.Telling.{told_specification}
 use Rattle.tm_commands.proofs.Texts.{design_names}
 
 module _ (contents : List ℕ → Option (List ℕ)) where
-  told_blocks : (driver : List ℕ) (d : DesignTree) (bs cs : List BlockTree) → TellsBlocks contents driver d bs →
+  pub told_blocks : (driver : List ℕ) (d : DesignTree) (bs cs : List BlockTree) → TellsBlocks contents driver d bs →
       TellsBlocks contents driver d cs → bs ≡ cs
   told_blocks driver d bs cs p q =
       one_driver d p.text bs cs p.is.is
@@ -67,7 +64,7 @@ module _ (contents : List ℕ → Option (List ℕ)) where
       (subst (λ (t : List ℕ). IsDriverFile d t bs) (one_text contents driver p.text q.text p.told q.told) q.is) p.fault
 
   -- a file that tells something is no reason to stop
-  blocks_read : (driver : List ℕ) (spec : List ℕ) (d : DesignTree) (bs : List BlockTree) (ending : Ending) →
+  pub blocks_read : (driver : List ℕ) (spec : List ℕ) (d : DesignTree) (bs : List BlockTree) (ending : Ending) →
       TellsSpecification contents spec d → TellsBlocks contents driver d bs → NoBlocks contents driver d ending → ⊥
   blocks_read driver spec d bs ending design blocks (bad_driver {bad = bad} fault) =
       no_bad_told driver spec d bs bad design fault blocks
@@ -80,7 +77,7 @@ module _ (contents : List ℕ → Option (List ℕ)) where
   script_read choices d c ending script (bad_choices {n = n} line) = no_bad_line choices d c n script line
 
   -- a file is refused for one cause
-  one_no_blocks : (driver : List ℕ) (d : DesignTree) (one other : Ending) → NoBlocks contents driver d one →
+  pub one_no_blocks : (driver : List ℕ) (d : DesignTree) (one other : Ending) → NoBlocks contents driver d one →
       NoBlocks contents driver d other → one ≡ other
   one_no_blocks driver d one other (bad_driver {bad = bad} p) (bad_driver {bad = found} q) =
       ap (λ (b : BadDriver). BadText driver (Driver b))
@@ -104,12 +101,12 @@ module _ (contents : List ℕ → Option (List ℕ)) where
 
   module _ (spec driver choices : List ℕ) where
     -- what files tell over the design that SPEC tells, they tell over any other that it tells
-    blocks_of : (d e : DesignTree) (bs : List BlockTree) → TellsSpecification contents spec d → TellsSpecification contents spec e →
+    pub blocks_of : (d e : DesignTree) (bs : List BlockTree) → TellsSpecification contents spec d → TellsSpecification contents spec e →
         TellsBlocks contents driver e bs → TellsBlocks contents driver d bs
     blocks_of d e bs p q blocks =
         subst (λ (x : DesignTree). TellsBlocks contents driver x bs) (told_specification contents spec e d q p) blocks
 
-    no_blocks_of : (d e : DesignTree) (ending : Ending) → TellsSpecification contents spec d → TellsSpecification contents spec e →
+    pub no_blocks_of : (d e : DesignTree) (ending : Ending) → TellsSpecification contents spec d → TellsSpecification contents spec e →
         NoBlocks contents driver e ending → NoBlocks contents driver d ending
     no_blocks_of d e ending p q blocks =
         subst (λ (x : DesignTree). NoBlocks contents driver x ending) (told_specification contents spec e d q p) blocks
@@ -169,7 +166,7 @@ module _ (contents : List ℕ → Option (List ℕ)) where
         (one_end d bs c text other_text one other ends moved).1
 
     -- `run` has one end
-    one_run_end : (text other_text : List ℕ) (one other : Ending) → RunEnds contents spec driver choices text one →
+    pub one_run_end : (text other_text : List ℕ) (one other : Ending) → RunEnds contents spec driver choices text one →
         RunEnds contents spec driver choices other_text other → one ≡ other
     one_run_end text other_text one other (refused p) (refused q) = one_refusal one other p q
     one_run_end text other_text one _ (refused p) (ended {d = d} {bs = bs} {c = c} loads ends) =
@@ -179,13 +176,3 @@ module _ (contents : List ℕ → Option (List ℕ)) where
     one_run_end text other_text _ _ (ended {d = d} {bs = bs} {c = c} {end = one} p ends)
         (ended {d = e} {bs = cs} {c = f} {end = other} q others) =
         ap Play (same_end d e bs cs c f text other_text one other p ends q others)
-
-  -- a command has one end
-  pub one_command_end : (command : Option Command) (text other_text : List ℕ) (one other : Ending) →
-      CommandEnds contents command text one → CommandEnds contents command other_text other → one ≡ other
-  one_command_end None text other_text one other p q = p.1 ∙ sym q.1
-  one_command_end (Some (run spec driver choices)) text other_text one other p q =
-      one_run_end spec driver choices text other_text one other p q
-  one_command_end (Some (generate registers out)) text other_text one other p q = p.1 ∙ sym q.1
-  one_command_end (Some (migrate spec cert out)) text other_text one other p q =
-      one_migrate_end contents spec cert one other p.1 q.1

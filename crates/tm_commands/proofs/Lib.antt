@@ -1,9 +1,17 @@
+mod Accepting
+mod Certifying
+mod Checking
+mod CheckingLevels
 mod Completing
+mod Counting
 mod Halting
+mod Judging
 mod Loading
 mod Migrating
 mod Options
 mod PutLines
+mod Putting
+mod Reading
 mod Reporting
 mod Running
 mod Specifying

@@ -42,7 +42,7 @@ long_spec contents spec long = of_told (contents spec) refl long
     of_told (Some text) is long = record { text = text; told = is; fault = too_long long }
 
 -- a list of one element holds it alone
-only : (one name : List ℕ) → Contains (one ∷ []) name → one ≡ name
+pub only : (one name : List ℕ) → Contains (one ∷ []) name → one ≡ name
 only one name (zero, below, is) = is
 only one name (suc k, below, is) = absurd (omega arith)
 

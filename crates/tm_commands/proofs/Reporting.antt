@@ -18,7 +18,6 @@ use Rattle.tm_commands.specs.Headline.{write_report, part_report, IsCut, Takes, 
 use Rattle.tm_commands.specs.Headline.{KeepsFiles}
 use Rattle.tm_commands.specs.Inner.Stopping.{IsSinkFailure}
 use Rattle.tm_commands.specs.Inner.Obeying.{PutBefore, Obeys}
-use Rattle.tm_commands.proofs.Completing.{one_command_end}
 use Rattle.tm_commands.proofs.Loading.{rose_later}
 use Rattle.tm_play.proofs.Putting.{cut_more}
 
@@ -85,9 +84,7 @@ module _ (command : Option Command) (old new : FilesData) {B : Type 0} (O : Sink
       Keeps command old new (sink_data O x) (sink_data O z) outcome
   keeps_whole (Ok ending) obeys lines le = record {
     cause = λ told. ((obeys.ends told).0, (obeys.ends told).1);
-    complete =
-        λ told text other ends.
-        one_command_end old.contents command (obeys.ends told).0 text ending other (obeys.ends told).1 ends;
+    complete = obeys.complete;
     possible = obeys.may_end;
     long = obeys.long;
     fault = tt;

@@ -1,5 +1,6 @@
 -- How a command is obeyed.
-use Rattle.std.proofs.Common.{◌≡◌, ℕ, ◌≤◌, Option, None, Some, Result, Ok, Err, List, [], ◌∷◌, ◌++◌, take, refl, sym}
+use Rattle.std.proofs.Common.{◌≡◌, inl, ℕ, ◌≤◌, Option, None, Some, Result, Ok, Err, List, [], ◌∷◌, ◌++◌, take, refl}
+use Rattle.std.proofs.Common.{sym}
 use Rattle.std.proofs.Common.{ap, subst, arith}
 use Rattle.std.specs.Prelude.{IsTrue, IfOk, IfErr, IsErrAnd, OnErr}
 use Rattle.std.proofs.lemmas.List.{append-nil}
@@ -13,17 +14,18 @@ use Rattle.tm_commands.specs.declared.ending.Stop.{Stop}
 use Rattle.tm_commands.specs.declared.ending.Stop.TheVariants as stops_at
 use Rattle.tm_commands.specs.declared.ending.Failure.TheVariants.{ReadFault, WriteFault, Memory}
 use Rattle.tm_play.specs.Script.{ScriptData}
-use Rattle.tm_commands.specs.Words.{Command, run, generate, migrate}
+use Rattle.tm_commands.specs.Words.{Command, run, check_driver, check_environment, generate, migrate}
 use Rattle.tm_commands.specs.World.{FilesData, SinkData, OnlyReads, OnlyTouches}
 use Rattle.tm_play.specs.declared.ending.PlayEnd.{PlayEnd}
 use Rattle.tm_play.specs.Played.{Ends, IsPart}
 use Rattle.tm_commands.specs.Inputs.{RefusesOne}
-use Rattle.tm_commands.specs.Run.{Loads, Refused, refused, ended, IsRunPart, some_lines, no_line, may_refuse, may_play}
+use Rattle.tm_commands.specs.Run.{Loads, Refused, refused, ended, some_lines, no_line, may_refuse, may_play}
 use Rattle.tm_commands.specs.Commands.{read_names, write_names, CommandEnds, IsCommandPart, MayEnd, CommandLeaves}
-use Rattle.tm_commands.specs.Headline.{AreTold, IsShown, Leaves}
+use Rattle.tm_commands.specs.Headline.{AreTold, IsLongShown, IsShown, Leaves}
 use Rattle.tm_commands.specs.Inner.Stopping.{StopsBy, stop_outcome, IsReadFailure, IsSinkFailure, IsRefusal}
 use Rattle.tm_commands.specs.Inner.Obeying.{PutBefore, Obeys}
 use Rattle.tm_play.proofs.Putting.{cut_nothing}
+use Rattle.tm_commands.proofs.Completing.{one_run_end}
 
 -- nothing was put
 pub grows_none : (before : List ℕ) → (text : List ℕ) × (before ≡ before ++ text)
@@ -33,6 +35,8 @@ grows_none before = ([], sym (append-nil before))
 pub nothing_put : (contents : List ℕ → Option (List ℕ)) (command : Option Command) → IsCommandPart contents command []
 nothing_put contents None = refl
 nothing_put contents (Some (run spec driver choices)) = no_line
+nothing_put contents (Some (check_driver spec driver cert)) = inl refl
+nothing_put contents (Some (check_environment spec cert)) = inl refl
 nothing_put contents (Some (generate registers out)) = refl
 nothing_put contents (Some (migrate spec cert out)) = refl
 
@@ -65,6 +69,7 @@ pub usage_obeys : (command : Option Command) (files : FilesData) (out : SinkData
     Obeys command files files out out (Ok Usage)
 usage_obeys command files out is = subst (λ (c : Option Command). Obeys c files files out out (Ok Usage)) is (record {
   ends = λ told. ([], (refl, refl), λ sink. sym (append-nil out.written));
+  complete = λ told text other ends. sym ends.1;
   cut = λ told sink. tt;
   grows = λ sink. grows_none out.written;
   may_end = refl;
@@ -82,6 +87,7 @@ unread_words_obey command files out (Ok ending) failed = absurd failed
 unread_words_obey command files out (Err failure) failed =
     subst (λ (f : Failure). Obeys command files files out out (Err f)) (sym failed) (record {
       ends = λ told. tt;
+      complete = λ told. tt;
       cut = λ told sink. ([], nothing_put files.contents command, cut_nothing out.written);
       grows = λ sink. grows_none out.written;
       may_end = tt;
@@ -108,6 +114,8 @@ sink_shown command old new out after (ReadFault name) failed = elim failed [ ]
 module _ (command : Option Command) (Cause Named : Ending → Type 0) (old new : FilesData)
     (read : AreTold old (read_names command) → IsTrue old.tells) (reads : read_names command ≡ [] → ⊥)
     (ends : (ending : Ending) → Cause ending → CommandEnds old.contents command [] ending)
+    (only : (ending : Ending) → Cause ending → (text : List ℕ) (other : Ending) →
+    CommandEnds old.contents command text other → ending ≡ other)
     (may : (ending : Ending) → Named ending → MayEnd command ending)
     (leaves : (ending : Ending) → Named ending → new.contents ≡ old.contents →
     CommandLeaves old.contents new.contents command ending) where
@@ -115,6 +123,7 @@ module _ (command : Option Command) (Cause Named : Ending → Type 0) (old new :
       Obeys command old new out out (Ok ending)
   refused_obeys out ending left refusal = record {
     ends = λ told. ([], ends ending (refusal.cause (read told)), λ sink. sym (append-nil out.written));
+    complete = λ told. only ending (refusal.cause (read told));
     cut = λ told sink. tt;
     grows = λ sink. grows_none out.written;
     may_end = may ending refusal.named;
@@ -150,6 +159,7 @@ module _ (command : Option Command) (Cause Named : Ending → Type 0) (old new :
       IsReadFailure (read_names command) old new failure → Obeys command old new out out (Err failure)
   unread_obeys out failure left failed = record {
     ends = λ told. tt;
+    complete = λ told. tt;
     cut = λ told sink. put_none out.written failure failed;
     grows = λ sink. grows_none out.written;
     may_end = tt;
@@ -172,6 +182,63 @@ module _ (command : Option Command) (Cause Named : Ending → Type 0) (old new :
       subst (λ (o : Result Ending Failure). Obeys command old new out out o) (sym is)
       (unread_obeys out failure left failed)
 
+-- a command that reads files, writes none, and puts lines on the way
+module _ (command : Option Command) (old new : FilesData) (out after : SinkData)
+    (read : AreTold old (read_names command) → IsTrue old.tells) (reads : read_names command ≡ [] → ⊥)
+    (leaves : (ending : Ending) → new.contents ≡ old.contents →
+    CommandLeaves old.contents new.contents command ending)
+    (left : OnlyReads old new) (faults : out.faults ≤ after.faults) where
+  touched : OnlyTouches (read_names command) (write_names command) old new
+  touched = touches_read (read_names command) (write_names command) old new reads left
+
+  -- it came to an end
+  pub put_obeys : (ending : Ending) (text : List ℕ) →
+      (IsTrue old.tells → CommandEnds old.contents command text ending) →
+      (IsTrue old.tells → (t : List ℕ) (other : Ending) → CommandEnds old.contents command t other →
+      ending ≡ other) →
+      MayEnd command ending → IsLongShown old new ending →
+      (IsTrue out.tells → after.written ≡ out.written ++ text) → Obeys command old new out after (Ok ending)
+  put_obeys ending text ends only may long put = record {
+    ends = λ told. (text, ends (read told), put);
+    complete = λ told. only (read told);
+    cut = λ told sink. tt;
+    grows = λ sink. (text, put sink);
+    may_end = may;
+    shown = tt;
+    long = long;
+    files = record { touched = touched; left = λ tells. leaves ending left.same_contents };
+    no_fewer_faults = faults;
+  }
+
+  put_part : (text : List ℕ) (failure : Failure) → IsCommandPart old.contents command text →
+      AppendsPrefix text out.written after.written → IsSinkFailure out after failure →
+      PutBefore (IsCommandPart old.contents command) out.written after.written failure
+  put_part text Memory so_put part failed = (text, so_put, part)
+  put_part text (WriteFault []) so_put part failed = (text, so_put, part)
+  put_part text (WriteFault (b ∷ bs)) so_put part failed = let none : b ∷ bs ≡ [] = failed.0 in cc
+  put_part text (ReadFault name) so_put part failed = elim failed [ ]
+
+  cut_leaves : (failure : Failure) → IsSinkFailure out after failure → Leaves command old new (Err failure)
+  cut_leaves Memory failed = tt
+  cut_leaves (WriteFault name) failed = tt
+  cut_leaves (ReadFault name) failed = elim failed [ ]
+
+  -- it failed
+  pub cut_obeys : (failure : Failure) (text : List ℕ) → (IsTrue old.tells → IsCommandPart old.contents command text) →
+      (IsTrue out.tells → AppendsPrefix text out.written after.written) → IsSinkFailure out after failure →
+      Obeys command old new out after (Err failure)
+  cut_obeys failure text so_put cut failed = record {
+    ends = λ told. tt;
+    complete = λ told. tt;
+    cut = λ told sink. put_part text failure (so_put (read told)) (cut sink) failed;
+    grows = λ sink. grows_part text out.written after.written (cut sink);
+    may_end = tt;
+    shown = sink_shown command old new out after failure failed;
+    long = tt;
+    files = record { touched = touched; left = λ tells. cut_leaves failure failed };
+    no_fewer_faults = faults;
+  }
+
 module _ (spec driver choices : List ℕ) (old new : FilesData) where
   -- `run` was stopped before its play
   pub stopped_running : (out : SinkData) (stop : Stop) (outcome : Result Ending Failure) →
@@ -182,61 +249,27 @@ module _ (spec driver choices : List ℕ) (old new : FilesData) where
   stopped_running =
       stopped_obeys (Some (run spec driver choices)) (Refused old.contents spec driver choices)
       (RefusesOne (spec ∷ driver ∷ choices ∷ [])) old new (λ tells. tells) (λ is. cc) (λ ending cause. refused cause)
+      (λ ending cause text other ends. one_run_end old.contents spec driver choices [] text ending other
+      (refused cause) ends)
       (λ ending named. may_refuse named) (λ ending named same. same)
 
-  module _ (out after : SinkData) (d : DesignTree) (bs : List BlockTree) (c : ScriptData) where
-    put_part : (loads : Loads old.contents spec driver choices d bs c) (text : List ℕ) (failure : Failure) →
-        IsPart d bs c text → AppendsPrefix text out.written after.written → IsSinkFailure out after failure →
-        PutBefore (IsRunPart old.contents spec driver choices) out.written after.written failure
-    put_part loads text Memory so_put part failed = (text, some_lines loads so_put, part)
-    put_part loads text (WriteFault []) so_put part failed = (text, some_lines loads so_put, part)
-    put_part loads text (WriteFault (b ∷ bs)) so_put part failed = let none : b ∷ bs ≡ [] = failed.0 in cc
-    put_part loads text (ReadFault name) so_put part failed = elim failed [ ]
-
-    play_leaves : (failure : Failure) → IsSinkFailure out after failure →
-        Leaves (Some (run spec driver choices)) old new (Err failure)
-    play_leaves Memory failed = tt
-    play_leaves (WriteFault name) failed = tt
-    play_leaves (ReadFault name) failed = elim failed [ ]
-
-    touches_run : OnlyReads old new → OnlyTouches (spec ∷ driver ∷ choices ∷ []) [] old new
-    touches_run = touches_read (spec ∷ driver ∷ choices ∷ []) [] old new (λ is. cc)
-
-    -- the choices were played to an end
-    ended_obeys : (end : PlayEnd) (text : List ℕ) → OnlyReads old new →
-        (IsTrue old.tells → Loads old.contents spec driver choices d bs c) → Ends d bs c text end →
-        (IsTrue out.tells → after.written ≡ out.written ++ text) → out.faults ≤ after.faults →
-        Obeys (Some (run spec driver choices)) old new out after (Ok (Play end))
-    ended_obeys end text reads loads ends put faults = record {
-      ends = λ told. (text, ended (loads told) ends, put);
-      cut = λ told sink. tt;
-      grows = λ sink. (text, put sink);
-      may_end = may_play;
-      shown = tt;
-      long = record { specification = λ is. cc; file = λ name is. cc };
-      files = record { touched = touches_run reads; left = λ tells. reads.same_contents };
-      no_fewer_faults = faults;
-    }
-
-    -- the choices were played, to an end or to a failure
-    pub played_obeys : (outcome : Result Ending Failure) → OnlyReads old new →
-        (IsTrue old.tells → Loads old.contents spec driver choices d bs c) →
-        IfOk outcome (λ ending. (end : PlayEnd) × (text : List ℕ) × (ending ≡ Play end) × Ends d bs c text end
-        × (IsTrue out.tells → after.written ≡ out.written ++ text)) →
-        OnErr outcome ((text : List ℕ) × IsPart d bs c text
-        × (IsTrue out.tells → AppendsPrefix text out.written after.written)) →
-        IfErr outcome (IsSinkFailure out after) → out.faults ≤ after.faults →
-        Obeys (Some (run spec driver choices)) old new out after outcome
-    played_obeys (Ok ending) reads loads ends cut failed faults =
-        subst (λ (e : Ending). Obeys (Some (run spec driver choices)) old new out after (Ok e)) (sym ends.2)
-        (ended_obeys ends.0 ends.1 reads loads ends.3 ends.4 faults)
-    played_obeys (Err failure) reads loads ends cut failed faults = record {
-      ends = λ told. tt;
-      cut = λ told sink. put_part (loads told) cut.0 failure cut.1 (cut.2 sink) failed;
-      grows = λ sink. grows_part cut.0 out.written after.written (cut.2 sink);
-      may_end = tt;
-      shown = sink_shown (Some (run spec driver choices)) old new out after failure failed;
-      long = tt;
-      files = record { touched = touches_run reads; left = λ tells. play_leaves failure failed };
-      no_fewer_faults = faults;
-    }
+  -- the choices were played, to an end or to a failure
+  pub played_obeys : (out after : SinkData) (d : DesignTree) (bs : List BlockTree) (c : ScriptData)
+      (outcome : Result Ending Failure) → OnlyReads old new →
+      (IsTrue old.tells → Loads old.contents spec driver choices d bs c) →
+      IfOk outcome (λ ending. (end : PlayEnd) × (text : List ℕ) × (ending ≡ Play end) × Ends d bs c text end
+      × (IsTrue out.tells → after.written ≡ out.written ++ text)) →
+      OnErr outcome ((text : List ℕ) × IsPart d bs c text
+      × (IsTrue out.tells → AppendsPrefix text out.written after.written)) →
+      IfErr outcome (IsSinkFailure out after) → out.faults ≤ after.faults →
+      Obeys (Some (run spec driver choices)) old new out after outcome
+  played_obeys out after d bs c (Ok ending) left loads ends cut failed faults =
+      subst (λ (e : Ending). Obeys (Some (run spec driver choices)) old new out after (Ok e)) (sym ends.2)
+      (put_obeys (Some (run spec driver choices)) old new out after (λ tells. tells) (λ is. cc)
+      (λ ending same. same) left faults (Play ends.0) ends.1 (λ told. ended (loads told) ends.3)
+      (λ told text other also. one_run_end old.contents spec driver choices ends.1 text (Play ends.0) other
+      (ended (loads told) ends.3) also)
+      may_play (record { specification = λ is. cc; file = λ name is. cc }) ends.4)
+  played_obeys out after d bs c (Err failure) left loads ends cut failed faults =
+      cut_obeys (Some (run spec driver choices)) old new out after (λ tells. tells) (λ is. cc)
+      (λ ending same. same) left faults failure cut.0 (λ told. some_lines (loads told) cut.1) cut.2 failed

@@ -10,7 +10,7 @@ use Rattle.tm_syntax.specs.Design.{DesignTree}
 use Rattle.tm_syntax.specs.Faults.{FaultOf, IsOfText}
 use Rattle.tm_commands.specs.declared.ending.Ending.{Ending}
 use Rattle.tm_commands.specs.declared.ending.Ending.TheVariants.{Usage, Faulty, Play, Generated, Migrated}
-use Rattle.tm_commands.specs.declared.ending.Ending.TheVariants.{BadText}
+use Rattle.tm_commands.specs.declared.ending.Ending.TheVariants.{BadText, Accepted, AcceptedEnvironment, Refused}
 use Rattle.tm_commands.specs.declared.ending.Stop.{Stop}
 use Rattle.tm_commands.specs.World.{FilesData}
 use Rattle.tm_commands.specs.Headline.{long_fault}
@@ -86,6 +86,9 @@ pub faulty_refuses : (spec : List ℕ) (ending : Ending) → IsFaulty ending →
 faulty_refuses spec (Faulty f) faulty = faulty_one {file = spec} (0, omega arith, refl)
 faulty_refuses spec Usage faulty = elim faulty [ ]
 faulty_refuses spec (Play end) faulty = elim faulty [ ]
+faulty_refuses spec (Accepted ranks) faulty = elim faulty [ ]
+faulty_refuses spec (AcceptedEnvironment levels conditions chain) faulty = elim faulty [ ]
+faulty_refuses spec (Refused condition goal s) faulty = elim faulty [ ]
 faulty_refuses spec (Generated n) faulty = elim faulty [ ]
 faulty_refuses spec Migrated faulty = elim faulty [ ]
 faulty_refuses spec (BadText file why) faulty = elim faulty [ ]

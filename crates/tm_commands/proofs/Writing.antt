@@ -25,6 +25,7 @@ use Rattle.tm_commands.specs.Inner.Stopping.{IsWriteFailure}
 use Rattle.tm_commands.specs.Inner.Reading.{IsMigration}
 use Rattle.tm_commands.specs.Inner.Obeying.{PutBefore, Obeys}
 use Rattle.tm_commands.proofs.Loading.{reads_none}
+use Rattle.tm_commands.proofs.Migrating.{one_migrate_end}
 use Rattle.tm_play.proofs.Putting.{cut_nothing}
 use Rattle.tm_commands.proofs.Running.{grows_none, nothing_put}
 
@@ -82,6 +83,7 @@ module _ (command : Option Command) (name : List ℕ) (named : name ≡ [] → �
       Obeys command (files_data F x) (files_data F z) out out (Err failure)
   unwritten_obeys out failure failed = record {
     ends = λ told. tt;
+    complete = λ told. tt;
     cut = λ told sink. put_none out.written failure failed;
     grows = λ sink. grows_none out.written;
     may_end = tt;
@@ -112,6 +114,7 @@ module _ (registers : ℕ) (name : List ℕ) {A : Type 0} (F : FilesGhosts A) (x
       Obeys (Some (generate registers name)) (files_data F x) (files_data F z) out out (Ok (Generated registers))
   generated_obeys holds = record {
     ends = λ told. ([], (refl, refl), λ sink. sym (append-nil out.written));
+    complete = λ told text other ends. sym ends.1;
     cut = λ told sink. tt;
     grows = λ sink. grows_none out.written;
     may_end = refl;
@@ -150,6 +153,8 @@ module _ (spec cert name : List ℕ) {A : Type 0} (F : FilesGhosts A) (x y z : A
       (refl, migrates (m.specified told) (m.certified told)),
       λ sink. sym (append-nil out.written),
     );
+    complete = λ told text other ends.
+        one_migrate_end (F.contents x) spec cert Migrated other (migrates (m.specified told) (m.certified told)) ends.1;
     cut = λ told sink. tt;
     grows = λ sink. grows_none out.written;
     may_end = may_migrate;

@@ -1,9 +1,10 @@
 -- The commands: what each reads and writes, how it ends, what it puts on the way, and what its end leaves in the files.
-use Rattle.std.specs.Prelude.{◌≡◌, ℕ, Option, None, Some, List, [], ◌∷◌}
+use Rattle.std.specs.Prelude.{◌≡◌, ◌⊎◌, ℕ, Option, None, Some, List, [], ◌∷◌}
 use Rattle.tm_gen.specs.Generated.{generated_text}
 use Rattle.tm_commands.specs.declared.ending.Ending.{Ending}
 use Rattle.tm_commands.specs.declared.ending.Ending.TheVariants.{Usage, Generated}
-use Rattle.tm_commands.specs.Words.{Command, run, generate, migrate}
+use Rattle.tm_commands.specs.Words.{Command, run, check_driver, check_environment, generate, migrate}
+use Rattle.tm_commands.specs.Check.{CheckDriverEnds, CheckDriverMayEnd, CheckEnvironmentEnds, CheckEnvironmentMayEnd}
 use Rattle.tm_commands.specs.Inputs.{Tells}
 use Rattle.tm_commands.specs.Run.{RunEnds, IsRunPart, RunMayEnd}
 use Rattle.tm_commands.specs.Migrate.{MigrateEnds, MigrateLeaves, MigrateMayEnd}
@@ -12,6 +13,8 @@ use Rattle.tm_commands.specs.Migrate.{MigrateEnds, MigrateLeaves, MigrateMayEnd}
 abbrev pub read_names : Option Command → List (List ℕ)
 read_names None = []
 read_names (Some (run spec driver choices)) = spec ∷ driver ∷ choices ∷ []
+read_names (Some (check_driver spec driver cert)) = spec ∷ driver ∷ cert ∷ []
+read_names (Some (check_environment spec cert)) = spec ∷ cert ∷ []
 read_names (Some (generate registers out)) = []
 read_names (Some (migrate spec cert out)) = spec ∷ cert ∷ []
 
@@ -19,6 +22,8 @@ read_names (Some (migrate spec cert out)) = spec ∷ cert ∷ []
 abbrev pub write_names : Option Command → List (List ℕ)
 write_names None = []
 write_names (Some (run spec driver choices)) = []
+write_names (Some (check_driver spec driver cert)) = []
+write_names (Some (check_environment spec cert)) = []
 write_names (Some (generate registers out)) = out ∷ []
 write_names (Some (migrate spec cert out)) = out ∷ []
 
@@ -27,6 +32,10 @@ write_names (Some (migrate spec cert out)) = out ∷ []
 abbrev pub CommandEnds : (List ℕ → Option (List ℕ)) → Option Command → List ℕ → Ending → Type 0
 CommandEnds contents None text ending = (text ≡ []) × (ending ≡ Usage)
 CommandEnds contents (Some (run spec driver choices)) text ending = RunEnds contents spec driver choices text ending
+CommandEnds contents (Some (check_driver spec driver cert)) text ending =
+    CheckDriverEnds contents spec driver cert text ending
+CommandEnds contents (Some (check_environment spec cert)) text ending =
+    CheckEnvironmentEnds contents spec cert text ending
 CommandEnds contents (Some (generate registers out)) text ending = (text ≡ []) × (ending ≡ Generated registers)
 CommandEnds contents (Some (migrate spec cert out)) text ending =
     (text ≡ []) × MigrateEnds contents spec cert ending
@@ -34,12 +43,18 @@ CommandEnds contents (Some (migrate spec cert out)) text ending =
 -- what a command has put so far
 abbrev pub IsCommandPart : (List ℕ → Option (List ℕ)) → Option Command → List ℕ → Type 0
 IsCommandPart contents (Some (run spec driver choices)) text = IsRunPart contents spec driver choices text
+IsCommandPart contents (Some (check_driver spec driver cert)) text =
+    (text ≡ []) ⊎ ((ending : Ending) × CheckDriverEnds contents spec driver cert text ending)
+IsCommandPart contents (Some (check_environment spec cert)) text =
+    (text ≡ []) ⊎ ((ending : Ending) × CheckEnvironmentEnds contents spec cert text ending)
 IsCommandPart contents _ text = text ≡ []
 
 -- the ends that a command may have, whatever its files hold
 abbrev pub MayEnd : Option Command → Ending → Type 0
 MayEnd None ending = ending ≡ Usage
 MayEnd (Some (run spec driver choices)) ending = RunMayEnd (spec ∷ driver ∷ choices ∷ []) ending
+MayEnd (Some (check_driver spec driver cert)) ending = CheckDriverMayEnd (spec ∷ driver ∷ cert ∷ []) ending
+MayEnd (Some (check_environment spec cert)) ending = CheckEnvironmentMayEnd (spec ∷ cert ∷ []) ending
 MayEnd (Some (generate registers out)) ending = ending ≡ Generated registers
 MayEnd (Some (migrate spec cert out)) ending = MigrateMayEnd cert ending
 

@@ -12,7 +12,7 @@ use Rattle.tm_cparse.specs.declared.bad.BadDriver.{BadDriver}
 use Rattle.tm_cparse.specs.Faults.{IsDriverFile, HasFault}
 use Rattle.tm_cert.specs.declared.cert.Cert.{Cert as Certificate}
 use Rattle.tm_cert.specs.declared.refusal.BadCert.{BadCert}
-use Rattle.tm_cert.specs.declared.shape.Kind.TheVariants.{Either}
+use Rattle.tm_cert.specs.declared.shape.Kind.{Kind}
 use Rattle.tm_cert.specs.CertValue.{IsCertText}
 use Rattle.tm_cert.specs.Judge.{judge_text}
 use Rattle.tm_shape.specs.Shape.{shape_of}
@@ -71,21 +71,21 @@ pub record TellsBadLine
   pub short : length text ≤ file_limit
   pub reads : reading_of d.processes text ≡ Err n
 
--- CERT tells this certificate of either kind, for the numbers of a design
-pub record TellsCert
-    (contents : List ℕ → Option (List ℕ)) (cert : List ℕ) (d : DesignTree) (c : Certificate) : Type 0 where
+-- CERT tells this certificate of a wanted kind, for the numbers of a design
+pub record TellsCert (contents : List ℕ → Option (List ℕ)) (cert : List ℕ) (d : DesignTree) (wanted : Kind)
+    (c : Certificate) : Type 0 where
   pub text : List ℕ
   pub told : Tells contents cert text
   pub short : length text ≤ file_limit
-  pub is : IsCertText (shape_of d Either) text c
+  pub is : IsCertText (shape_of d wanted) text c
 
 -- CERT is within its limit, and has this first fault for the numbers of a design
-pub record TellsBadCert
-    (contents : List ℕ → Option (List ℕ)) (cert : List ℕ) (d : DesignTree) (bad : BadCert) : Type 0 where
+pub record TellsBadCert (contents : List ℕ → Option (List ℕ)) (cert : List ℕ) (d : DesignTree) (wanted : Kind)
+    (bad : BadCert) : Type 0 where
   pub text : List ℕ
   pub told : Tells contents cert text
   pub short : length text ≤ file_limit
-  pub fault : judge_text (shape_of d Either) text ≡ Err bad
+  pub fault : judge_text (shape_of d wanted) text ≡ Err bad
 
 -- one of these files is refused
 pub data RefusesOne (names : List (List ℕ)) : Ending → Type 0 where
@@ -107,8 +107,9 @@ pub data NoScript (contents : List ℕ → Option (List ℕ)) (choices : List �
   long_choices : IsLonger (contents choices) file_limit → NoScript contents choices d (BadText choices TooLong)
   bad_choices : {n : ℕ} → TellsBadLine contents choices d n → NoScript contents choices d (BadText choices (Choices n))
 
--- why CERT tells no certificate for the numbers of a design
-pub data NoCert (contents : List ℕ → Option (List ℕ)) (cert : List ℕ) (d : DesignTree) : Ending → Type 0 where
-  long_cert : IsLonger (contents cert) file_limit → NoCert contents cert d (BadText cert TooLong)
-  bad_cert : {bad : BadCert} → TellsBadCert contents cert d bad →
-      NoCert contents cert d (BadText cert (Cert bad))
+-- why CERT tells no certificate of a wanted kind for the numbers of a design
+pub data NoCert (contents : List ℕ → Option (List ℕ)) (cert : List ℕ) (d : DesignTree) (wanted : Kind) :
+    Ending → Type 0 where
+  long_cert : IsLonger (contents cert) file_limit → NoCert contents cert d wanted (BadText cert TooLong)
+  bad_cert : {bad : BadCert} → TellsBadCert contents cert d wanted bad →
+      NoCert contents cert d wanted (BadText cert (Cert bad))

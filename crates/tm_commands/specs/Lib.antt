@@ -1,3 +1,4 @@
+pub mod Check
 pub mod Commands
 pub mod Headline
 pub mod Inner
@@ -6,5 +7,6 @@ pub mod Migrate
 pub mod Report
 pub mod Run
 pub mod Status
+pub mod Synthesis
 pub mod Words
 pub mod World

@@ -16,9 +16,9 @@ use Rattle.tm_commands.specs.Inputs.{Tells, TellsSpecification, TellsCert, NoSpe
 pub data MigrateEnds (contents : List ℕ → Option (List ℕ)) (spec cert : List ℕ) : Ending → Type 0 where
   no_spec : {ending : Ending} → NoSpecification contents spec ending → MigrateEnds contents spec cert ending
   no_cert : {d : DesignTree} {ending : Ending} →
-      TellsSpecification contents spec d → NoCert contents cert d ending → MigrateEnds contents spec cert ending
+      TellsSpecification contents spec d → NoCert contents cert d Either ending → MigrateEnds contents spec cert ending
   migrates : {d : DesignTree} {c : Cert} →
-      TellsSpecification contents spec d → TellsCert contents cert d c → MigrateEnds contents spec cert Migrated
+      TellsSpecification contents spec d → TellsCert contents cert d Either c → MigrateEnds contents spec cert Migrated
 
 -- one of the files of `migrate` is refused
 pub data MigrateRefuses (cert : List ℕ) : Ending → Type 0 where
@@ -35,7 +35,7 @@ pub record IsMigrated (old new : List ℕ → Option (List ℕ)) (spec cert out 
   pub design : DesignTree
   pub certificate : Cert
   pub specified : TellsSpecification old spec design
-  pub told : TellsCert old cert design certificate
+  pub told : TellsCert old cert design Either certificate
   pub written : Tells new out (cert_text (shape_of design Either).bits certificate)
   pub same : IsCertText (shape_of design Either) (cert_text (shape_of design Either).bits certificate) certificate
 

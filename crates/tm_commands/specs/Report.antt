@@ -1,6 +1,7 @@
 -- The lines of reports. A line ends in a line feed.
-use Rattle.std.specs.Prelude.{ℕ, Result, Ok, Err, List, [], ◌∷◌, ◌++◌, codes}
+use Rattle.std.specs.Prelude.{ℕ, Result, Ok, Err, List, [], ◌∷◌, ◌++◌, codes, length, slice_index}
 use Rattle.std.specs.Fmt.{decimal}
+use Rattle.std.specs.List.{flat_map, range_with_len}
 use Rattle.tm_base.specs.declared.place.Place.{Place}
 use Rattle.tm_syntax.specs.declared.fault.FaultKind.{FaultKind}
 use Rattle.tm_syntax.specs.declared.fault.FaultKind.TheVariants as kind
@@ -15,10 +16,12 @@ use Rattle.tm_cert.specs.declared.refusal.BadCert.{BadCert}
 use Rattle.tm_cert.specs.declared.refusal.BadCert.TheVariants as cert
 use Rattle.tm_commands.specs.declared.ending.Bad.{Bad}
 use Rattle.tm_commands.specs.declared.ending.Bad.TheVariants.{TooLong, Driver, Cert, Choices}
-use Rattle.tm_play.specs.Report.{end_text}
+use Rattle.tm_play.specs.Report.{end_text, path_at, state_text}
+use Rattle.tm_sem.specs.State.{StateData}
+use Rattle.tm_syntax.specs.Design.{DesignTree}
 use Rattle.tm_commands.specs.declared.ending.Ending.{Ending}
 use Rattle.tm_commands.specs.declared.ending.Ending.TheVariants.{Usage, Faulty, Play, Generated, Migrated}
-use Rattle.tm_commands.specs.declared.ending.Ending.TheVariants.{BadText}
+use Rattle.tm_commands.specs.declared.ending.Ending.TheVariants.{BadText, Accepted, AcceptedEnvironment, Refused}
 use Rattle.tm_commands.specs.declared.ending.Failure.{Failure}
 use Rattle.tm_commands.specs.declared.ending.Failure.TheVariants.{ReadFault, WriteFault, Memory}
 
@@ -89,6 +92,34 @@ bad_text (Driver bad) = bad_driver_text bad
 bad_text (Cert bad) = bad_cert_text bad
 bad_text (Choices n) = codes "line " ++ decimal n
 
+-- the line of a goal of a driver that is accepted: its number, its path, and how many ranked regions it has
+abbrev pub goal_line : DesignTree → List ℕ → ℕ → List ℕ
+goal_line d ranks goal =
+    codes "goal " ++ decimal goal ++ codes " " ++ path_at d.goals goal ++ codes " rank "
+    ++ decimal (slice_index ranks goal) ++ codes "\n"
+
+-- the lines of a driver that is accepted
+abbrev pub accepted_text : DesignTree → List ℕ → List ℕ
+accepted_text d ranks =
+    codes "accepted driver\n" ++ flat_map (goal_line d ranks) (range_with_len 0 (length ranks))
+
+-- the line of the numbers of an environment that is accepted: of levels, of fairness conditions, and of sets in the
+-- longest chain
+abbrev pub numbers_line : (levels conditions chain : ℕ) → List ℕ
+numbers_line levels conditions chain =
+    codes "levels " ++ decimal levels ++ codes " conditions " ++ decimal conditions ++ codes " chain "
+    ++ decimal chain ++ codes "\n"
+
+-- the lines of an environment that is accepted
+abbrev pub levels_text : (levels conditions chain : ℕ) → List ℕ
+levels_text levels conditions chain = codes "accepted environment\n" ++ numbers_line levels conditions chain
+
+-- the line of a condition that fails, with its letter: its number, the goal, and the state that are reported
+abbrev pub refused_text : DesignTree → (letter : List ℕ) (condition goal : ℕ) → StateData → List ℕ
+refused_text d letter condition goal s =
+    codes "refused " ++ letter ++ decimal condition ++ codes " goal " ++ decimal goal ++ codes " "
+    ++ state_text d s ++ codes "\n"
+
 -- the usage text
 abbrev pub usage_text : List ℕ
 usage_text =
@@ -99,11 +130,14 @@ usage_text =
     ++ codes "       termite gen N OUT\n"
     ++ codes "       termite migrate SPEC CERT OUT\n"
 
--- the lines that tell an end
+-- the lines that tell an end; those of `check` on a certificate, which speak of the design, are put on the way
 abbrev pub ending_text : Ending → List ℕ
 ending_text Usage = usage_text
 ending_text (Faulty f) = fault_line f
 ending_text (Play end) = end_text end
+ending_text (Accepted ranks) = []
+ending_text (AcceptedEnvironment levels conditions chain) = []
+ending_text (Refused condition goal s) = []
 ending_text (Generated registers) = codes "generated " ++ decimal registers ++ codes "\n"
 ending_text Migrated = codes "migrated\n"
 ending_text (BadText file why) = codes "bad " ++ file ++ codes " " ++ bad_text why ++ codes "\n"

@@ -12,6 +12,8 @@ use Rattle.tm_play.specs.Numbers.{digits_after}
 -- a command, with the names of its files
 pub data Command : Type 0 where
   run : (spec driver choices : List ℕ) → Command
+  check_driver : (spec driver cert : List ℕ) → Command
+  check_environment : (spec cert : List ℕ) → Command
   generate : (registers : ℕ) (out : List ℕ) → Command
   migrate : (spec cert out : List ℕ) → Command
 
@@ -52,6 +54,11 @@ abbrev pub run_of : List (List ℕ) → Option Command
 run_of (spec ∷ driver ∷ choices ∷ []) = Some (run spec driver choices)
 run_of _ = None
 
+abbrev pub check_of : List (List ℕ) → Option Command
+check_of (spec ∷ cert ∷ []) = Some (check_environment spec cert)
+check_of (spec ∷ driver ∷ cert ∷ []) = Some (check_driver spec driver cert)
+check_of _ = None
+
 abbrev pub generate_of : List (List ℕ) → Option Command
 generate_of (registers ∷ out ∷ []) = option_map (λ n. generate n out) (registers_of registers)
 generate_of _ = None
@@ -64,6 +71,7 @@ migrate_of _ = None
 abbrev pub command_with : List ℕ → List (List ℕ) → Option Command
 command_with command words =
     if bytes_eq command (codes "run") then run_of words
+    else if bytes_eq command (codes "check") then check_of words
     else if bytes_eq command (codes "gen") then generate_of words
     else if bytes_eq command (codes "migrate") then migrate_of words
     else None
@@ -76,5 +84,7 @@ command_of (command ∷ words) = option_and_then (command_with command) (positio
 -- a command as the code has it
 abbrev pub command_view : Words → Command
 command_view (words.Run spec driver choices) = run spec.now driver.now choices.now
+command_view (words.CheckDriver spec driver cert) = check_driver spec.now driver.now cert.now
+command_view (words.CheckEnvironment spec cert) = check_environment spec.now cert.now
 command_view (words.Generate registers out) = generate registers out.now
 command_view (words.Migrate spec cert out) = migrate spec.now cert.now out.now

@@ -1,5 +1,7 @@
 //! The commands.
 
+pub mod check_driver;
+pub mod check_environment;
 pub mod generate;
 pub mod migrate;
 pub mod run;

@@ -9,7 +9,7 @@ mod report;
 mod status;
 mod words;
 
-pub use ending::{Bad, Ending, Failure};
+pub use ending::{Bad, Ending, Failure, Ranks};
 pub use obeying::obey_and_report;
 pub use status::Status;
 pub use tm_play::{PlayEnd, StopWhy};

@@ -7,8 +7,11 @@ ghost use Rattle.tm_commands.specs.World.{files_data, sink_data};
 ghost use Rattle.tm_commands.specs.Status.{outcome_of};
 ghost use Rattle.tm_commands.specs.Headline.{HasCause, IsComplete, IsShown, IsLongShown, Reports, EndsWithLines};
 ghost use Rattle.tm_commands.specs.Headline.{KeepsFiles};
+ghost use Rattle.tm_commands.specs.Synthesis.{AcceptsGood, AcceptsLost};
 ghost use Rattle.tm_commands.specs.Inner.Obeying.{IsSpelled, Obeys};
 
+use crate::commands::check_driver::check_driver;
+use crate::commands::check_environment::check_environment;
 use crate::commands::generate::generate;
 use crate::commands::migrate::migrate;
 use crate::commands::run::run;
@@ -38,6 +41,12 @@ fn obey<F: Files, O: Sink>(
             driver,
             choices,
         } => run(alloc, files, out, spec, driver, choices),
+        Command::CheckDriver { spec, driver, cert } => {
+            check_driver(alloc, files, out, spec, driver, cert)
+        }
+        Command::CheckEnvironment { spec, cert } => {
+            check_environment(alloc, files, out, spec, cert)
+        }
         Command::Generate {
             registers,
             out: name,
@@ -79,11 +88,18 @@ pub fn obey_and_report<F: Files, O: Sink>(
     out: &mut O,
 ) -> Status
     // Which end comes is what the words and the files determine, where the files tell; so `Faulty` comes wherever the
-    // specification has a fault, `BadText` wherever the first text without a reading is another one, and `Played`
-    // wherever each step has a next state.
+    // specification has a fault, `BadText` wherever the first text without a reading is another one, `Accepted`
+    // wherever all conditions hold, and `Played` wherever each step has a next state.
     ensures cause { HasCause (files_data ⟦<F as Files>⟧ files.old)
         (command_of (map string_bytes words.now)) (outcome_of result) }
     ensures complete { IsComplete (files_data ⟦<F as Files>⟧ files.old)
+        (command_of (map string_bytes words.now)) (outcome_of result) }
+
+    // The synthesis theorem. A driver that is accepted is a good one with the ranks that are answered, and a design
+    // whose environment is accepted is lost, where the files tell.
+    ensures good { AcceptsGood (files_data ⟦<F as Files>⟧ files.old)
+        (command_of (map string_bytes words.now)) (outcome_of result) }
+    ensures lost { AcceptsLost (files_data ⟦<F as Files>⟧ files.old)
         (command_of (map string_bytes words.now)) (outcome_of result) }
 
     // What is known of an end in any case: `Usage` comes exactly where the words have no reading, a file that is

@@ -3,3 +3,4 @@
 pub mod fault_text;
 pub mod outcome;
 pub mod put;
+pub mod verdict;

@@ -2,9 +2,10 @@
 ghost use Rattle.std.specs.Prelude.{◌≡◌};
 ghost use Rattle.tm_commands.specs.Status.{outcome_of};
 
-use crate::ending::{Bad, Ending, Failure};
+use crate::ending::{Bad, Ending, Failure, Ranks};
 use tm_base::Name;
 use tm_play::{PlayEnd, StopWhy};
+use tm_sem::state::State;
 use tm_syntax::fault::Faulty;
 
 /// How a command ended. A name is a file's; that of a failed write is empty where the output failed.
@@ -12,6 +13,23 @@ use tm_syntax::fault::Faulty;
 pub enum Status {
     /// The choices were read to their end and are a play of so many steps.
     Played(u64),
+    /// The driver has its certificate, with so many ranked regions for each goal.
+    Accepted {
+        ranks: Ranks,
+    },
+    /// The environment has its certificate: so many levels, with a chain for each of so many fairness conditions; the
+    /// longest chain has so many sets.
+    AcceptedEnvironment {
+        levels: u64,
+        conditions: u64,
+        chain: u64,
+    },
+    /// A condition of the certificate fails: the first, by number, with the goal and the state that are reported.
+    Refused {
+        condition: u8,
+        goal: u32,
+        state: State,
+    },
     /// The specification of so many registers was written.
     Generated(u32),
     /// The certificate was written in format 2.
@@ -24,9 +42,15 @@ pub enum Status {
     WriteFault(Name),
     /// Memory ran out.
     Memory,
-    BadText { file: Name, why: Bad },
+    BadText {
+        file: Name,
+        why: Bad,
+    },
     /// The step of this number has no next state.
-    Stopped { step: u64, why: StopWhy },
+    Stopped {
+        step: u64,
+        why: StopWhy,
+    },
 }
 
 impl Status {
@@ -38,8 +62,11 @@ impl Status {
     {
         match self {
             Status::Played(_) => 0,
+            Status::Accepted { .. } => 0,
+            Status::AcceptedEnvironment { .. } => 0,
             Status::Generated(_) => 0,
             Status::Migrated => 0,
+            Status::Refused { .. } => 1,
             Status::Usage => 2,
             Status::Faulty(_) => 3,
             Status::ReadFault(_) => 5,
@@ -60,6 +87,29 @@ pub fn status_of(outcome: Result<Ending, Failure>) -> Status
         Ok(Ending::Faulty(fault)) => Status::Faulty(fault),
         Ok(Ending::Play(PlayEnd::Played(steps))) => Status::Played(steps),
         Ok(Ending::Play(PlayEnd::Stopped { step, why })) => Status::Stopped { step, why },
+        Ok(Ending::Accepted { ranks }) => Status::Accepted { ranks },
+        Ok(
+            Ending::AcceptedEnvironment {
+                levels,
+                conditions,
+                chain,
+            },
+        ) => Status::AcceptedEnvironment {
+            levels,
+            conditions,
+            chain,
+        },
+        Ok(
+            Ending::Refused {
+                condition,
+                goal,
+                state,
+            },
+        ) => Status::Refused {
+            condition,
+            goal,
+            state,
+        },
         Ok(Ending::Generated(registers)) => Status::Generated(registers),
         Ok(Ending::Migrated) => Status::Migrated,
         Ok(Ending::BadText { file, why }) => Status::BadText { file, why },

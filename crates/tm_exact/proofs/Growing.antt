@@ -12,15 +12,14 @@ use Rattle.tm_dd.specs.declared.node.NodeId.{NodeId}
 use Rattle.tm_dd.specs.declared.node.TheConstants.{FALSE, TRUE}
 use Rattle.tm_dd.specs.Reduced.{IsReduced}
 use Rattle.tm_dd.specs.Table.{Knows, Table, means}
-use Rattle.tm_flat.specs.Flat.{FlatTerms}
 use Rattle.tm_flat.specs.IsFlat.{IsFlat}
 use Rattle.tm_flat.specs.Steps.{IsTerm}
 use Rattle.tm_forcing.specs.Functions.{Assignment, Function}
 use Rattle.tm_forcing.specs.States.{ReadsState}
-use Rattle.tm_forcing.proofs.Extended.{IsSetOf-Extends, Knows-Extends, means-Extends}
+use Rattle.tm_forcing.proofs.Extended.{Knows-Extends, means-Extends}
 use Rattle.tm_game.specs.Game.{GameData, Grows, IsStates}
-use Rattle.tm_game.specs.Start.{state_bits_in}
-use Rattle.tm_flat.proofs.Growth.{flat_kept}
+use Rattle.tm_game.proofs.Growing.{of_kept, order_kept, states_kept}
+use Rattle.tm_game.proofs.Ordered.{order_is}
 use Rattle.tm_levels.specs.Order.{IsOrder}
 use Rattle.tm_sem.specs.Fairness.{IsFair}
 use Rattle.tm_sem.specs.Play.{goal_holds}
@@ -38,7 +37,7 @@ use Rattle.tm_term.proofs.Valued.{value_of-below}
 use Rattle.tm_told.specs.Told.{inputs_at}
 use Rattle.tm_exact.specs.Coding.{coding_in}
 use Rattle.tm_exact.specs.Exact.{IsExactOf, IsStateSet, bit_set, coding, exact_game, exact_ids, exact_operator, functions, set_of, states_of, stays_out, valid_set}
-use Rattle.tm_exact.proofs.Coded.{coding_is, order_is, state_is}
+use Rattle.tm_exact.proofs.Coded.{coding_is, state_is}
 use Rattle.tm_exact.proofs.Staying.{bit_set_reads, iff_same, stays_same, told_among}
 use Rattle.tm_exact.proofs.Telling.{is_game}
 
@@ -142,23 +141,14 @@ module _ (d : DesignTree) (g : GameData) (is : IsExactOf d g) where
     kept_states : (IsSuch : StateData → Type 0) (id other : NodeId) → other ≡ id →
         IsStates d g.order g.diagrams.table IsSuch id → IsStates d h.order h.diagrams.table IsSuch other
     kept_states IsSuch id other same set =
-        subst (λ (o : List ℕ). IsStates d o h.diagrams.table IsSuch other) (sym grows.order)
-        (subst (λ (i : NodeId). IsStates d g.order h.diagrams.table IsSuch i) (sym same)
-        (IsSetOf-Extends g.diagrams.table h.diagrams.table grows.diagrams
-        (λ v. IsState d (state_of d g.order v) × IsSuch (state_of d g.order v)) id set))
+        subst (IsStates d h.order h.diagrams.table IsSuch) (sym same)
+        (states_kept g h grows d IsSuch id set)
 
     pub kept_exact : IsExactOf d h
     kept_exact = record {
       ordered = record {
-        of = record {
-          flat = subst (IsFlat h.terms d) (sym grows.flat)
-              (flat_kept g.terms h.terms grows.terms d g.flat is.ordered.of.flat);
-          room = is.ordered.of.room;
-          small = is.ordered.of.small;
-          design = is.ordered.of.design;
-        };
-        order = subst (λ (o : List ℕ). IsOrder (state_bits_in h.flat) o) (sym grows.order)
-            (subst (λ (f : FlatTerms). IsOrder (state_bits_in f) g.order) (sym grows.flat) is.ordered.order);
+        of = of_kept g h grows d is.ordered.of;
+        order = order_kept g h grows is.ordered.order;
         goals = ap length grows.goals ∙ is.ordered.goals;
         fairs = ap length grows.fairs ∙ is.ordered.fairs;
       };

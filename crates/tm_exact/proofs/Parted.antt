@@ -3,8 +3,8 @@ use Rattle.std.proofs.Common.{◌≡◌, ℕ, Bool, ◌&&◌, ◌||◌, not, Lis
 use Rattle.std.proofs.Math.Logic.{∥∥₁_elim}
 use Rattle.std.proofs.Props.{props}
 use Rattle.tm_dd.specs.declared.node.NodeId.{NodeId}
-use Rattle.tm_dd.proofs.CallerLaws.{Extends-trans}
 use Rattle.tm_game.specs.Game.{GameData, Grows}
+use Rattle.tm_game.proofs.Growing.{grows_then}
 use Rattle.tm_sem.specs.State.{StateData}
 use Rattle.tm_solve.specs.Game.{Game}
 use Rattle.tm_solve.specs.Ids.{Follows, Ids, Is}
@@ -13,26 +13,6 @@ use Rattle.tm_solve.specs.Sets.{IsAmong, StateSet}
 use Rattle.tm_exact.proofs.Following.{is_at, is_kept}
 use Rattle.tm_exact.specs.Exact.{HasDesign, IsStateSet, exact_game, exact_ids, exact_operator, set_of}
 use Rattle.tm_exact.proofs.Growing.{same_coding, same_fair, same_goal, same_told, stay_told}
-
-pub grows_trans : (g h k : GameData) → Grows g h → Grows h k → Grows g k
-grows_trans g h k a b = record {
-  flat = b.flat ∙ a.flat;
-  terms = record {
-    inputs = b.terms.inputs ∙ a.terms.inputs;
-    known = λ id known. b.terms.known id (a.terms.known id known);
-    terms = λ id known. b.terms.terms id (a.terms.known id known) ∙ a.terms.terms id known;
-    widths = λ id known. b.terms.widths id (a.terms.known id known) ∙ a.terms.widths id known;
-    values = λ values id known.
-        b.terms.values values id (a.terms.known id known) ∙ a.terms.values values id known;
-  };
-  order = b.order ∙ a.order;
-  diagrams = Extends-trans _ _ _ a.diagrams b.diagrams;
-  goals = b.goals ∙ a.goals;
-  fairs = b.fairs ∙ a.fairs;
-  initial = b.initial ∙ a.initial;
-  valid = b.valid ∙ a.valid;
-  turn = b.turn ∙ a.turn;
-}
 
 bool_prop : (a b : Bool) → IsProp (a ≡ b)
 bool_prop a b = hlevel props
@@ -94,7 +74,7 @@ module _ (g h k l m n : GameData) (of : HasDesign g) (first : Grows g h) (second
       (is_at (two.game ∙ one.game) near_is).means.same s among
       ∙ ap (λ a. (exact_operator k).stay a s)
       (two.extends.same y (one.extends.known y in_y) ∙ one.extends.same y in_y)
-      ∙ stay_same g k of (grows_trans g h k first second) (set_of g y) s
+      ∙ stay_same g k of (grows_then g h k first second) (set_of g y) s
 
   pub part_told : Is (exact_game g).states (exact_ids n) id
       (part_of (exact_operator g) (set_of g z) (set_of g y) (set_of g x) goal fair)

@@ -42,7 +42,8 @@ use Rattle.tm_told.proofs.Games.{is_game_of}
 use Rattle.tm_told.proofs.Tables.{magic_is}
 use Rattle.tm_exact.specs.Bits.{functions_in, idle_in, inputs_in, is_magic, listed_below, locations_in, next_in, passed_in, picks_in, stands_in, step_in, step_of_sort, steps_of_sort, tasks_in, truth_in}
 use Rattle.tm_exact.specs.Coding.{levels_of}
-use Rattle.tm_exact.proofs.Coded.{state_is, widths_are}
+use Rattle.tm_exact.proofs.Coded.{state_is}
+use Rattle.tm_game.proofs.Ordered.{widths_are}
 use Rattle.tm_exact.specs.Listed.{and_both, and_parts}
 
 -- ---- truths

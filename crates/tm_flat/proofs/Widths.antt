@@ -1,10 +1,21 @@
 -- The bits of a number, of a type and of a choice hold every value.
-use Rattle.std.proofs.Common.{◌≡◌, ℕ, zero, suc, ◌+◌, ◌-◌, ◌^◌, ◌<◌, ◌≤◌, Bool, true, false, not, cond, length, refl, ap, subst, arith, nat_lt, ltb-true}
+use Rattle.std.proofs.Common.{◌≡◌, ℕ, zero, suc, ◌+◌, ◌-◌, ◌^◌, ◌<◌, ◌≤◌, ◌∷◌, [], ◌++◌, Bool, true, false, not, cond, length, map}
+use Rattle.std.proofs.Common.{refl, ap, subst, arith, nat_lt, ltb-true}
+use Rattle.std.specs.Prelude.{sum, sum_by}
 use Rattle.std.specs.List.{position_or_len, range_with_len}
+use Rattle.std.proofs.lemmas.List.FromFn.{length-range_with_len}
+use Rattle.std.proofs.lemmas.List.Sums.{prefix_len-le-length, sum-map, sum_by-append, sum_by-le}
+use Rattle.tm_bits.specs.Arithmetic.{IsWidth}
+use Rattle.tm_sem.specs.StateBits.{state_widths}
+use Rattle.tm_syntax.proofs.Limits as limits
 use Rattle.tm_syntax.specs.declared.design.Ty.{Ty}
 use Rattle.tm_syntax.specs.declared.design.Ty.TheVariants as types
+use Rattle.tm_syntax.specs.declared.design.Var.{Var}
 use Rattle.tm_syntax.specs.Tree.{BlockRow, blocks_of, SpecTree}
+use Rattle.tm_syntax.specs.Design.{DesignTree}
+use Rattle.tm_syntax.specs.Design.Locations.{end_number}
 use Rattle.tm_syntax.specs.Design.Sizes.{bits_of_number, type_size, type_bits}
+use Rattle.tm_syntax.specs.Faults.{IsSound}
 use Rattle.tm_flat.specs.Fitting.{ChoiceFits}
 
 -- the first of so many counts with a power above a number, or the count behind them where that has one
@@ -44,3 +55,32 @@ type_has_bits spec (types.Enum name) small = size_has_bits (type_size spec (type
 
 pub choice_has_bits : (blocks : BlockRow) → length (blocks_of blocks) ≤ 2 ^ 64 → ChoiceFits blocks
 choice_has_bits blocks small = size_has_bits (length (blocks_of blocks)) small
+
+-- the bits of a number are a width
+pub number_wide : (n : ℕ) → IsWidth (bits_of_number n)
+number_wide n =
+    let within : position_or_len (λ count. nat_lt n (2 ^ count)) (range_with_len 1 63) ≤ length (range_with_len 1 63) =
+    prefix_len-le-length (λ count. not (nat_lt n (2 ^ count))) (range_with_len 1 63) in
+    (omega arith, omega (arith, within, length-range_with_len 1 63))
+
+-- a state of a sound design has few bits
+pub few_state_bits : (d : DesignTree) → IsSound d → sum (state_widths d) ≤ 2240
+few_state_bits d sound =
+    let variables = map (λ (v : Var). type_bits d.spec v.ty) d.vars in
+    let processes = range_with_len 0 (length d.processes) in
+    let places = map (λ p. bits_of_number (end_number d p)) processes in
+    let last = bits_of_number (1 + length d.processes) in
+    let whole : sum (state_widths d) ≡ sum_by (λ (n : ℕ). n) ((variables ++ places) ++ last ∷ []) = refl in
+    omega (
+      arith,
+      whole,
+      sum_by-append (λ (n : ℕ). n) (variables ++ places) (last ∷ []),
+      sum_by-append (λ (n : ℕ). n) variables places,
+      sum-map (λ (v : Var). type_bits d.spec v.ty) d.vars,
+      limits.few_bits d sound,
+      sum-map (λ p. bits_of_number (end_number d p)) processes,
+      sum_by-le (λ p. bits_of_number (end_number d p)) 64 processes (λ k p below. (number_wide (end_number d _)).1),
+      length-range_with_len 0 (length d.processes),
+      limits.few_processes d sound,
+      (number_wide (1 + length d.processes)).1,
+    )

@@ -1,25 +1,22 @@
 -- The numbers that certificates speak of, by the guarded updates of a design and by the design.
-use Rattle.std.proofs.Common.{◌≡◌, ℕ, ◌+◌, ◌-◌, ◌^◌, ◌<◌, ◌≤◌, List, [], ◌∷◌, ◌++◌, map, length, take, replicate, refl, ap, ◌∙◌, arith, not, nat_lt, append_assoc, length-append}
-use Rattle.std.specs.Prelude.{sum, sum_by}
-use Rattle.std.specs.List.{position_or_len, range_with_len}
+use Rattle.std.proofs.Common.{◌≡◌, ℕ, ◌+◌, ◌-◌, ◌^◌, ◌<◌, ◌≤◌, List, ◌++◌, map, length, take, replicate, refl, ap, ◌∙◌, arith, not, append_assoc, length-append}
+use Rattle.std.specs.Prelude.{sum}
+use Rattle.std.specs.List.{range_with_len}
 use Rattle.std.proofs.lemmas.List.{length-map, length-replicate}
 use Rattle.std.proofs.lemmas.List.Filters.{length-filter_both}
 use Rattle.std.proofs.lemmas.List.FromFn.{length-range_with_len}
-use Rattle.std.proofs.lemmas.List.Sums.{prefix_len-le-length, sum-map, sum_by-append, sum_by-le}
 use Rattle.std.proofs.lemmas.Slice.Zip.{AllZip-long}
 use Rattle.std.proofs.Math.Seq.{take-append_seam}
 use Rattle.tm_cert.specs.declared.shape.Kind.{Kind}
 use Rattle.tm_flat.specs.Flat.{FlatTerms}
 use Rattle.tm_flat.specs.Inputs.{room, input_widths}
 use Rattle.tm_flat.specs.IsFlat.{IsFairTerm, IsFlat, IsGoalTerm}
+use Rattle.tm_flat.proofs.Widths.{few_state_bits}
 use Rattle.tm_flat_cert.specs.Shape.{capped, design_shape, flat_shape, flat_bits}
 use Rattle.tm_sem.specs.Fairness.{conditions, is_owed, of_process, of_text, owed}
 use Rattle.tm_sem.specs.StateBits.{state_widths}
 use Rattle.tm_syntax.proofs.Limits as limits
-use Rattle.tm_syntax.specs.declared.design.Var.{Var}
 use Rattle.tm_syntax.specs.Design.{DesignTree}
-use Rattle.tm_syntax.specs.Design.Locations.{end_number}
-use Rattle.tm_syntax.specs.Design.Sizes.{bits_of_number, type_bits}
 use Rattle.tm_syntax.specs.Faults.{IsSound}
 use Rattle.tm_term.specs.Table.{Table}
 
@@ -46,33 +43,7 @@ unfolding room
 states_cut widths cut count is same =
     ap (λ (ws : List ℕ). capped (sum ws)) (same ∙ ap (λ k. take k widths) is)
 
--- a number has at most 64 bits
-number_small : (n : ℕ) → bits_of_number n ≤ 64
-number_small n =
-    let within : position_or_len (λ count. nat_lt n (2 ^ count)) (range_with_len 1 63) ≤ length (range_with_len 1 63) =
-    prefix_len-le-length (λ count. not (nat_lt n (2 ^ count))) (range_with_len 1 63) in
-    let all = length-range_with_len 1 63 in
-    omega (arith, within, all)
-
 module _ (d : DesignTree) (sound : IsSound d) where
-  few_bits : sum (state_widths d) ≤ 2240
-  few_bits =
-      let bits = λ (p : ℕ). bits_of_number (end_number d p) in
-      let processes = range_with_len 0 (length d.processes) in
-      let last = bits_of_number (1 + length d.processes) in
-      let variables = map (λ (v : Var). type_bits d.spec v.ty) d.vars in
-      let whole : sum (state_widths d) ≡ sum_by (λ n. n) ((variables ++ map bits processes) ++ last ∷ []) = refl in
-      let all = sum_by-append (λ n. n) (variables ++ map bits processes) (last ∷ []) in
-      let behind = sum_by-append (λ n. n) variables (map bits processes) in
-      let first = sum-map (λ (v : Var). type_bits d.spec v.ty) d.vars in
-      let second = sum-map bits processes in
-      let places = sum_by-le bits 64 processes (λ k e within. number_small (end_number d _)) in
-      let count = length-range_with_len 0 (length d.processes) in
-      let mover = number_small (1 + length d.processes) in
-      let few_processes = limits.few_processes d sound in
-      let few_variables = limits.few_bits d sound in
-      omega (arith, whole, all, behind, first, second, places, count, mover, few_processes, few_variables)
-
   few_conditions : length (conditions d) ≤ 63
   few_conditions =
       let all = length-append (map of_process (owed d)) (map of_text d.fairs) in
@@ -95,7 +66,7 @@ pub shapes_agree : (t : Table) (d : DesignTree) (f : FlatTerms) (wanted : Kind) 
 shapes_agree t d f wanted flat sound =
     let bits : capped (flat_bits f) ≡ sum (state_widths d) =
     kept (flat_bits f) (sum (state_widths d)) (bits_are d f.widths flat.widths)
-    (let few = few_bits d sound in omega (arith, few)) in
+    (let few = few_state_bits d sound in omega (arith, few)) in
     let goals : capped (length f.goals) ≡ length d.goals =
     kept (length f.goals) (length d.goals)
     (AllZip-long (IsGoalTerm t d) (range_with_len 0 (length d.goals)) f.goals flat.goals

@@ -7,8 +7,10 @@ pub mod DriverMoves
 pub mod Extending
 pub mod Flats
 pub mod GoodMoves
+pub mod Growing
 pub mod KeptSets
 pub mod LeastStates
+pub mod Ordered
 pub mod PermittedMoves
 pub mod Reading
 pub mod Restoring

@@ -1,5 +1,5 @@
 //! The symbolic game of a design.
-ghost use Rattle.std.specs.Prelude.{◌≡◌};
+ghost use Rattle.std.specs.Prelude.{◌≡◌, ◌+◌, ◌≤◌, length};
 ghost use Rattle.tm_flat.specs.Flat.{flat_terms};
 ghost use Rattle.tm_game.specs.Start.{state_bits_in};
 ghost use Rattle.tm_levels.specs.Order.{IsOrder};
@@ -46,6 +46,7 @@ impl Game {
     pub fn order(&self) -> &[u32]
         ensures value { result.now ≡ self.now.order }
         ensures places { IsOrder (state_bits_in self.now.flat) self.now.order }
+        ensures levels { length self.now.order + 128 ≤ self.now.diagrams.table.levels }
     {
         &self.order
     }

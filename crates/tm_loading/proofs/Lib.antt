@@ -1,3 +1,2 @@
-pub mod Growth
 pub mod Loading
 pub mod States

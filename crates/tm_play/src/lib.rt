@@ -15,3 +15,5 @@ pub use laws::ends_are_determined;
 pub use play::tables::play_script;
 pub use report::ending_text::end_line;
 pub use report::line_text::{push, push_number};
+pub use report::play_text::push_path;
+pub use report::state_text::push_state;

@@ -4,4 +4,4 @@ pub mod ending_text;
 pub mod line_text;
 pub mod play_text;
 pub mod put;
-mod state_text;
+pub mod state_text;

@@ -1,12 +1,10 @@
 -- The widths of the inputs of a design are widths.
-use Rattle.std.proofs.Common.{◌≡◌, ℕ, ◌+◌, ◌^◌, ◌≤◌, List, [], ◌∷◌, ◌++◌, length, map, replicate, sym, ap, ◌∙◌, subst, arith, not, nat_lt}
+use Rattle.std.proofs.Common.{◌≡◌, ℕ, ◌+◌, List, [], ◌∷◌, ◌++◌, length, map, replicate, sym, ap, ◌∙◌, subst, arith}
 use Rattle.std.specs.Prelude.{All}
 use Rattle.std.specs.declared.alloc.Global.{Global}
 use Rattle.std.specs.declared.vec.Vec.{Vec}
-use Rattle.std.specs.List.{AllByRecursion, position_or_len, range_with_len}
+use Rattle.std.specs.List.{AllByRecursion, range_with_len}
 use Rattle.std.proofs.lemmas.List.Elements.{All-append, All-cons, All-nil, All-replicate}
-use Rattle.std.proofs.lemmas.List.FromFn.{length-range_with_len}
-use Rattle.std.proofs.lemmas.List.Sums.{prefix_len-le-length}
 use Rattle.tm_bits.specs.Arithmetic.{IsWidth}
 use Rattle.tm_syntax.specs.declared.design.Design.{Design}
 use Rattle.tm_syntax.specs.declared.design.Ty.{Ty}
@@ -20,15 +18,9 @@ use Rattle.tm_syntax.specs.Design.View.{design_tree}
 use Rattle.tm_typing.specs.HasType.{IsSized}
 use Rattle.tm_settled.specs.Values.{HasValues, VarFits}
 use Rattle.tm_flat.specs.Inputs.{input_widths, room}
+use Rattle.tm_flat.proofs.Widths.{number_wide}
 
--- the bits of a number are 1 to 64
-number_wide : (n : ℕ) → IsWidth (bits_of_number n)
-number_wide n =
-    let within : position_or_len (λ count. nat_lt n (2 ^ count)) (range_with_len 1 63) ≤ length (range_with_len 1 63) =
-    prefix_len-le-length (λ count. not (nat_lt n (2 ^ count))) (range_with_len 1 63) in
-    let all = length-range_with_len 1 63 in (omega arith, omega (arith, within, all))
-
--- so are those of a type
+-- the bits of a type are a width
 type_wide : (spec : SpecTree) (ty : Ty) → IsSized ty → IsWidth (type_bits spec ty)
 type_wide spec types.Bool is = (omega arith, omega arith)
 type_wide spec (types.Uint w) is = (is.low, is.high)

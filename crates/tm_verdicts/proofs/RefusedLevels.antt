@@ -14,7 +14,7 @@ module _ (d : DesignTree) (levels : List Level) where
   neither (inr b) no_a no_b = no_b b
 
   -- a part that fails does not pass
-  fails_and_passes : (part : LevelPart) (s : StateData) → IsReported d levels part s → Passes d levels part → ⊥
+  pub fails_and_passes : (part : LevelPart) (s : StateData) → IsReported d levels part s → Passes d levels part → ⊥
   fails_and_passes (holds_before k) s r passes =
       true≢false (sym (passes r.here.0 r.here.1 s r.here.2).1 ∙ r.here.3)
   fails_and_passes (has_new k) s r passes = r.0 passes

@@ -6,7 +6,7 @@ use Rattle.tm_commands.specs.declared.ending.Failure.{Failure}
 use Rattle.tm_commands.specs.declared.ending.Failure.TheVariants.{ReadFault, WriteFault, Memory}
 use Rattle.tm_commands.specs.Words.{Command, command_of}
 use Rattle.tm_commands.specs.Commands.{read_names, CommandEnds, IsCommandPart, MayEnd}
-use Rattle.tm_commands.specs.Headline.{AreTold, IsShown, IsLongShown, KeepsFiles}
+use Rattle.tm_commands.specs.Headline.{AreTold, IsComplete, IsShown, IsLongShown, KeepsFiles}
 use Rattle.tm_commands.specs.World.{FilesData, SinkData}
 
 -- a command that some words spell
@@ -26,6 +26,7 @@ pub record Obeys (command : Option Command) (old new : FilesData) (out after : S
   pub ends : AreTold old (read_names command) → IfOk outcome (λ ending.
       (text : List ℕ) × CommandEnds old.contents command text ending
       × (IsTrue out.tells → after.written ≡ out.written ++ text))
+  pub complete : IsComplete old command outcome
   pub cut : AreTold old (read_names command) → IsTrue out.tells →
       IfErr outcome (PutBefore (IsCommandPart old.contents command) out.written after.written)
   pub grows : IsTrue out.tells → (text : List ℕ) × (after.written ≡ out.written ++ text)

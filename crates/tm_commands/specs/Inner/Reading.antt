@@ -33,7 +33,7 @@ pub record IsMigration (tells : Bool) (contents : List ℕ → Option (List ℕ)
   pub design : DesignTree
   pub shaped : shape ≡ shape_of design Either
   pub specified : IsTrue tells → TellsSpecification contents spec design
-  pub certified : IsTrue tells → TellsCert contents cert design c
+  pub certified : IsTrue tells → TellsCert contents cert design Either c
 
 -- what stops a command at a text that is not read: its fault, or want of memory
 abbrev pub refusal_of : FrontError → Stop

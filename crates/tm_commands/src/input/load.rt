@@ -28,7 +28,7 @@ pub struct Inputs {
 }
 
 /// The blocks that a file tells over a design.
-fn load_blocks<F: Files>(
+pub fn load_blocks<F: Files>(
     alloc: Global,
     files: &mut F,
     driver: &str,

@@ -161,6 +161,9 @@ fn put_ending<O: Sink>(alloc: Global, ending: &Ending, out: &mut O) -> Result<()
             let line = end_line(alloc, *end)?;
             put_line(alloc, out, &line)
         }
+        Ending::Accepted { .. } => Ok(()),
+        Ending::AcceptedEnvironment { .. } => Ok(()),
+        Ending::Refused { .. } => Ok(()),
         Ending::Generated(registers) => {
             let line = counted_line(alloc, b"generated ", *registers as u64)?;
             put_line(alloc, out, &line)

@@ -8,6 +8,15 @@ pub enum Command<'a> {
         driver: &'a str,
         choices: &'a str,
     },
+    CheckDriver {
+        spec: &'a str,
+        driver: &'a str,
+        cert: &'a str,
+    },
+    CheckEnvironment {
+        spec: &'a str,
+        cert: &'a str,
+    },
     Generate {
         registers: u32,
         out: &'a str,

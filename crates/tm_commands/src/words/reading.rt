@@ -2,8 +2,8 @@
 ghost use Rattle.std.specs.Prelude.{◌≡◌, map, IfOk};
 ghost use Rattle.std.specs.Option.{option_map};
 ghost use Rattle.std.specs.String.{string_bytes};
-ghost use Rattle.tm_commands.specs.Words.{command_of, command_view, command_with as command_behind, generate_of};
-ghost use Rattle.tm_commands.specs.Words.{migrate_of, registers_of, run_of};
+ghost use Rattle.tm_commands.specs.Words.{check_of, command_of, command_view, command_with as command_behind};
+ghost use Rattle.tm_commands.specs.Words.{generate_of, migrate_of, registers_of, run_of};
 
 use crate::words::command::Command;
 use crate::words::splitting::split;
@@ -25,6 +25,17 @@ fn run_with<'a>(words: &[&'a str]) -> Option<Command<'a>>
         driver,
         choices,
     })
+}
+
+/// The command `check` with its positional words: three for a driver, two for the environment.
+fn check_with<'a>(words: &[&'a str]) -> Option<Command<'a>>
+    ensures { option_map command_view result ≡ check_of (map (λ w. w.now) words.now) }
+{
+    match words {
+        [spec, cert] => Some(Command::CheckEnvironment { spec, cert }),
+        [spec, driver, cert] => Some(Command::CheckDriver { spec, driver, cert }),
+        _ => None,
+    }
 }
 
 /// The number of registers that a word asks for: decimal digits, of at most 12 in value.
@@ -69,6 +80,7 @@ fn command_with<'a>(command: &str, words: &[&'a str]) -> Option<Command<'a>>
 {
     match command {
         "run" => run_with(words),
+        "check" => check_with(words),
         "gen" => generate_with(words),
         "migrate" => migrate_with(words),
         _ => None,

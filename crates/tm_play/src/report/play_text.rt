@@ -11,7 +11,8 @@ use std::alloc::{AllocError, Global};
 use tm_sem::state::{Move, State};
 use tm_syntax::design::{Design, Item};
 
-fn push_path(line: &mut Vec<u8>, items: &[Item], number: u32) -> Result<(), AllocError>
+/// Puts the path of the item of a number behind the line; nothing where there is none.
+pub fn push_path(line: &mut Vec<u8>, items: &[Item], number: u32) -> Result<(), AllocError>
     ensures { OnOk result (line.new.items ≡ line.old.items ++ path_at items.now number) }
 {
     match items.get(number as usize) {

@@ -4,6 +4,7 @@ use Rattle.tm_commands.specs.declared.ending.Ending.{Ending}
 use Rattle.tm_commands.specs.declared.ending.Failure.{Failure}
 use Rattle.tm_commands.specs.Words.{command_of}
 use Rattle.tm_commands.specs.World.{files_data, sink_data}
+use Rattle.tm_commands.proofs.Accepting.{accepts_good, accepts_lost}
 use Rattle.tm_commands.proofs.Reporting.{Keeps, keeps_whole, keeps_cut}
 use Rattle.tm_commands.proofs.obeying.obey_and_report.Goals as goal
 
@@ -18,6 +19,10 @@ returns-in-Ok g c =
     c.put_outcome.ensures.no_fewer_faults) in record {
       cause = kept.cause;
       complete = kept.complete;
+      good = accepts_good (command_of (map string_bytes c.args.words.now)) (files_data g.F.Files c.args.files.now) _
+          kept.cause kept.possible;
+      lost = accepts_lost (command_of (map string_bytes c.args.words.now)) (files_data g.F.Files c.args.files.now) _
+          kept.cause kept.possible;
       possible = kept.possible;
       long = kept.long;
       fault = kept.fault;
@@ -37,6 +42,10 @@ returns-in-Err g c =
     c.in-Err.ensures.err c.in-Err.ensures.failure) in record {
       cause = kept.cause;
       complete = kept.complete;
+      good = accepts_good (command_of (map string_bytes c.args.words.now)) (files_data g.F.Files c.args.files.now) _
+          kept.cause kept.possible;
+      lost = accepts_lost (command_of (map string_bytes c.args.words.now)) (files_data g.F.Files c.args.files.now) _
+          kept.cause kept.possible;
       possible = kept.possible;
       long = kept.long;
       fault = kept.fault;

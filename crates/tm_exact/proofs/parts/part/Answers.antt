@@ -2,7 +2,8 @@ use Rattle.std.proofs.Common.{◌<◌, List, length, subst, sym}
 use Rattle.std.proofs.lemmas.Result.{IfOk-weaker}
 use Rattle.tm_dd.specs.declared.node.NodeId.{NodeId}
 use Rattle.tm_exact.proofs.Following.{follows_then}
-use Rattle.tm_exact.proofs.Parted.{grows_trans, part_told}
+use Rattle.tm_game.proofs.Growing.{grows_then}
+use Rattle.tm_exact.proofs.Parted.{part_told}
 use Rattle.tm_exact.proofs.parts.part.Goals as goal
 
 pub reach-requires-clause-z : goal.reach-requires-clause-z
@@ -51,9 +52,9 @@ returns-clause-follows c =
 
 pub returns-clause-grows : goal.returns-clause-grows
 returns-clause-grows c =
-    let far = grows_trans _ _ _ c.wait.ensures.grows c.reach.ensures.grows in
-    let near = grows_trans _ _ _ far c.stay.ensures.grows in
-    grows_trans _ _ _ (grows_trans _ _ _ near c.either.ensures.grows) c.either-2.ensures.grows
+    let far = grows_then _ _ _ c.wait.ensures.grows c.reach.ensures.grows in
+    let near = grows_then _ _ _ far c.stay.ensures.grows in
+    grows_then _ _ _ (grows_then _ _ _ near c.either.ensures.grows) c.either-2.ensures.grows
 
 pub returns-in_err-reaches-clause-follows : goal.returns-in_err-reaches-clause-follows
 returns-in_err-reaches-clause-follows c = follows_then c.wait.ensures.follows c.reach.ensures.follows
@@ -64,7 +65,7 @@ returns-in_err-near-clause-follows c =
 
 pub returns-in_err-near-clause-grows : goal.returns-in_err-near-clause-grows
 returns-in_err-near-clause-grows c =
-    grows_trans _ _ _ (grows_trans _ _ _ c.wait.ensures.grows c.reach.ensures.grows) c.stay.ensures.grows
+    grows_then _ _ _ (grows_then _ _ _ c.wait.ensures.grows c.reach.ensures.grows) c.stay.ensures.grows
 
 pub returns-in_err-some-clause-follows : goal.returns-in_err-some-clause-follows
 returns-in_err-some-clause-follows c =
@@ -73,5 +74,5 @@ returns-in_err-some-clause-follows c =
 
 pub returns-in_err-some-clause-grows : goal.returns-in_err-some-clause-grows
 returns-in_err-some-clause-grows c =
-    let far = grows_trans _ _ _ c.wait.ensures.grows c.reach.ensures.grows in
-    grows_trans _ _ _ (grows_trans _ _ _ far c.stay.ensures.grows) c.either.ensures.grows
+    let far = grows_then _ _ _ c.wait.ensures.grows c.reach.ensures.grows in
+    grows_then _ _ _ (grows_then _ _ _ far c.stay.ensures.grows) c.either.ensures.grows

@@ -8,7 +8,8 @@ use Rattle.tm_solve.specs.Game.{Game}
 use Rattle.tm_exact.proofs.Following.{follows_then}
 use Rattle.tm_exact.specs.Exact.{exact_game, exact_ids, set_of}
 use Rattle.tm_exact.proofs.Growing.{states_set}
-use Rattle.tm_exact.proofs.Parted.{changed, goal_same, grows_trans}
+use Rattle.tm_game.proofs.Growing.{grows_then}
+use Rattle.tm_exact.proofs.Parted.{changed, goal_same}
 use Rattle.tm_exact.proofs.Truncated.{set_prop}
 use Rattle.tm_exact.proofs.parts.reach.Goals as goal
 
@@ -42,4 +43,4 @@ returns-clause-follows c = follows_then c.stay.ensures.follows c.both.ensures.fo
 
 pub returns-clause-grows : goal.returns-clause-grows
 returns-clause-grows c =
-    grows_trans c.args.game.now c.stay.new.game c.both.new.game c.stay.ensures.grows c.both.ensures.grows
+    grows_then c.args.game.now c.stay.new.game c.both.new.game c.stay.ensures.grows c.both.ensures.grows

@@ -9,7 +9,8 @@ use Rattle.tm_solve.specs.Game.{Game}
 use Rattle.tm_exact.proofs.Following.{follows_then}
 use Rattle.tm_exact.specs.Exact.{exact_game, exact_ids, exact_operator, set_of}
 use Rattle.tm_exact.proofs.Growing.{states_set}
-use Rattle.tm_exact.proofs.Parted.{changed, fair_same, grows_trans}
+use Rattle.tm_game.proofs.Growing.{grows_then}
+use Rattle.tm_exact.proofs.Parted.{changed, fair_same}
 use Rattle.tm_exact.proofs.Truncated.{set_prop}
 use Rattle.tm_exact.proofs.parts.wait.Goals as goal
 
@@ -45,4 +46,4 @@ returns-clause-follows c = follows_then c.stay.ensures.follows c.rest.ensures.fo
 
 pub returns-clause-grows : goal.returns-clause-grows
 returns-clause-grows c =
-    grows_trans c.args.game.now c.stay.new.game c.rest.new.game c.stay.ensures.grows c.rest.ensures.grows
+    grows_then c.args.game.now c.stay.new.game c.rest.new.game c.stay.ensures.grows c.rest.ensures.grows

@@ -3,7 +3,7 @@ use Rattle.std.proofs.lemmas.Option.{slice_get-get_or}
 use Rattle.tm_dd.specs.declared.node.NodeId.{NodeId}
 use Rattle.tm_dd.specs.declared.node.TheConstants.{FALSE, TRUE}
 use Rattle.tm_loading.specs.Inner.Loading.{AreFirst}
-use Rattle.tm_loading.proofs.Growth.{grows_none, grows_then}
+use Rattle.tm_game.proofs.Growing.{grows_none, grows_then}
 use Rattle.tm_loading.proofs.Loading.{all_loaded, begun, first_kept, hi_before, hi_deeper, hi_is, level_below, lo_before, lo_deeper, lo_is, one_more}
 use Rattle.tm_loading.proofs.nodes.load_nodes.Goals as goal
 

@@ -1,7 +1,7 @@
 use Rattle.std.proofs.Common.{refl}
 use Rattle.tm_syntax.specs.Design.View.{design_tree}
 use Rattle.tm_cir.specs.View.{trees_of}
-use Rattle.tm_play.proofs.Putting.{cut_whole, on_err}
+use Rattle.tm_play.proofs.Putting.{cut_whole}
 use Rattle.tm_commands.proofs.Halting.{halted_part}
 use Rattle.tm_commands.proofs.commands.run.play_inputs.Goals as goal
 

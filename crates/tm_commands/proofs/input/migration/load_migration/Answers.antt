@@ -1,10 +1,11 @@
 use Rattle.std.proofs.Common.{ℕ, List, Option, [], ◌∷◌, refl, subst, arith}
+use Rattle.tm_cert.specs.declared.shape.Kind.TheVariants.{Either}
 use Rattle.tm_syntax.specs.Design.View.{design_tree}
 use Rattle.tm_commands.specs.Inputs.{TellsCert, NoCert}
 use Rattle.tm_commands.specs.Migrate.{no_spec, no_cert}
 use Rattle.tm_commands.specs.World.{files_data}
 use Rattle.tm_commands.proofs.Loading.{reads_none, reads_on, stops_later}
-use Rattle.tm_commands.proofs.Migrating.{faulty_spec_refuses}
+use Rattle.tm_commands.proofs.Migrating.{cert_refused, faulty_spec_refuses}
 use Rattle.tm_commands.proofs.Specifying.{specified, text_of}
 use Rattle.tm_commands.proofs.input.migration.load_migration.Goals as goal
 
@@ -25,9 +26,9 @@ returns-in-Ok-load_cert-clause-loaded g c = record {
   specified = λ tells. specified c.in-Ok.ensures.read tells;
   certified = λ tells. subst
       (λ (f : List ℕ → Option (List ℕ)).
-      TellsCert f c.args.cert.now (design_tree c.in-Ok.design) c.in-Ok-load_cert.cert)
+      TellsCert f c.args.cert.now (design_tree c.in-Ok.design) Either c.in-Ok-load_cert.cert)
       c.load_specification.ensures.files.same_contents
-      (c.in-Ok-load_cert.ensures.told (design_tree c.in-Ok.design) c.in_ok-shape.ensures tells);
+      (c.in-Ok-load_cert.ensures.told (design_tree c.in-Ok.design) Either c.in_ok-shape.ensures tells);
 }
 
 pub returns-clause-stopped : goal.returns-clause-stopped
@@ -36,10 +37,10 @@ returns-clause-stopped g c =
     (c.args.spec.now ∷ c.args.cert.now ∷ []) c.args.cert.now c.in-Err-load_cert.no_cert (1, omega arith, refl)
     c.load_specification.ensures.files
     (λ e told none. no_cert (specified c.in-Ok.ensures.read told)
-    (subst (λ (f : List ℕ → Option (List ℕ)). NoCert f c.args.cert.now (design_tree c.in-Ok.design) e)
+    (subst (λ (f : List ℕ → Option (List ℕ)). NoCert f c.args.cert.now (design_tree c.in-Ok.design) Either e)
     c.load_specification.ensures.files.same_contents none))
-    (λ e named. named)
-    (c.in-Err-load_cert.ensures.stopped (design_tree c.in-Ok.design) c.in_ok-shape.ensures)
+    (cert_refused c.args.cert.now)
+    (c.in-Err-load_cert.ensures.stopped (design_tree c.in-Ok.design) Either c.in_ok-shape.ensures)
 
 pub returns-clause-files : goal.returns-clause-files
 returns-clause-files g c = reads_on c.load_specification.ensures.files c.load_cert.ensures.files

@@ -1,4 +1,4 @@
-use Rattle.std.proofs.Common.{subst}
+use Rattle.std.proofs.Common.{◌+◌, ◌≤◌, length, subst}
 use Rattle.tm_flat.specs.Flat.{flat_terms}
 use Rattle.tm_game.specs.Game.{GameData}
 use Rattle.tm_game.specs.Start.{state_bits_in}
@@ -12,3 +12,7 @@ returns-clause-places c =
     subst (λ (g : GameData). IsOrder (state_bits_in g.flat) g.order) c.self.view_is
     (places_permuted (setting_of c.self.inside.encoding) (flat_terms c.self.inside.flat) c.self.inside.order.items
     c.self.invariant.shape)
+
+pub returns-clause-levels : goal.returns-clause-levels
+returns-clause-levels c =
+    subst (λ (g : GameData). length g.order + 128 ≤ g.diagrams.table.levels) c.self.view_is c.self.invariant.levels

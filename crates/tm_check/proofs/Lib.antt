@@ -1,0 +1,12 @@
+pub mod Checking
+pub mod Found
+pub mod Keeping
+pub mod LeavingRanks
+pub mod Looping
+pub mod Parts
+pub mod PartsInOrder
+pub mod Ranking
+pub mod Rows
+pub mod States
+pub mod Staying
+pub mod StepParts

@@ -1,0 +1,16 @@
+use Rattle.std.proofs.Common.{◌+◌, List}
+use Rattle.tm_check.specs.Leaving.{AreAnswers}
+use Rattle.tm_check.specs.Told.{IsTold}
+use Rattle.tm_check.proofs.LeavingRanks.{AreFirstLeaving}
+use Rattle.tm_cir.specs.Tree.{BlockTree}
+use Rattle.tm_game.specs.Game.{Grows}
+use Rattle.tm_sem.specs.Certificates.{DriverSets}
+use Rattle.tm_syntax.specs.Design.{DesignTree}
+use Rattle.tm_check.proofs.leaving.goal_leaving.Given as goal
+
+abbrev pub invariant-loop-index : goal.invariant-loop-index
+invariant-loop-index l = record {
+  grows : Grows l.fn.game l.game;
+  leaving : (d : DesignTree) (bs : List BlockTree) (c : DriverSets) → IsTold d bs c l.fn.game l.told →
+      AreAnswers d bs l.fn.game l.answers → AreFirstLeaving d bs c l.game l.goal (l.index + 1) l.sets.items;
+}

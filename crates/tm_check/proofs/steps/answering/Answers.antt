@@ -1,0 +1,69 @@
+use Rattle.std.proofs.Common.{[], ◌∷◌, length, subst, arith}
+use Rattle.tm_check.specs.Tried.{AreTried}
+use Rattle.tm_check.proofs.Keeping.{has_told_kept, told_kept, answers_kept}
+use Rattle.tm_check.proofs.PartsInOrder.{tried_all, tried_more, tried_none, tried_stops}
+use Rattle.tm_check.proofs.steps.answering.Goals as goal
+use Rattle.tm_cir.specs.Answer.{Answers}
+use Rattle.tm_verdicts.specs.Driver.{is_answered}
+use Rattle.tm_game.proofs.Growing.{grows_none, grows_then}
+
+pub loop-goal-init : goal.loop-goal-init
+loop-goal-init c = record {
+  grows = grows_none c.args.game.now;
+  tried = λ d bs cs is are. tried_none d (Answers bs) cs (λ goal. is_answered goal ∷ []) (length cs.goals);
+}
+
+pub goal_answering-requires-clause-told : goal.goal_answering-requires-clause-told
+goal_answering-requires-clause-told c =
+    has_told_kept c.args.game.now c.loop-goal.game c.loop-goal.invariant.grows c.args.told.now c.requires.told
+
+pub returns-in_err-verdict-clause-grows : goal.returns-in_err-verdict-clause-grows
+returns-in_err-verdict-clause-grows c =
+    grows_then c.args.game.now c.loop-goal.game c.goal_answering.new.game c.loop-goal.invariant.grows
+    c.goal_answering.ensures.grows
+
+pub returns-in_default-clause-grows : goal.returns-in_default-clause-grows
+returns-in_default-clause-grows c =
+    grows_then c.args.game.now c.loop-goal.game c.goal_answering.new.game c.loop-goal.invariant.grows
+    c.goal_answering.ensures.grows
+
+pub returns-in_default-clause-tried : goal.returns-in_default-clause-tried
+returns-in_default-clause-tried c = λ d bs cs is are.
+    tried_stops d (Answers bs) cs (λ goal. is_answered goal ∷ []) (length cs.goals) c.loop-goal.goal
+    c.in_ok-verdict.verdict (omega (arith, is.diagrams.count))
+    c.in_default.not-Accepted (c.loop-goal.invariant.tried d bs cs is are)
+    (c.in_ok-verdict.ensures.tried d bs cs (told_kept d c.args.game.now c.loop-goal.game c.loop-goal.invariant.grows
+    bs cs c.args.told.now is)
+    (answers_kept d c.args.game.now c.loop-goal.game c.loop-goal.invariant.grows bs c.args.answers.now are))
+
+pub loop-goal-preserved : goal.loop-goal-preserved
+loop-goal-preserved c = record {
+  grows = grows_then c.args.game.now c.loop-goal.game c.goal_answering.new.game c.loop-goal.invariant.grows
+      c.goal_answering.ensures.grows;
+  tried = λ d bs cs is are.
+      tried_more d (Answers bs) cs (λ goal. is_answered goal ∷ []) (length cs.goals) c.loop-goal.goal (omega (
+        arith,
+        is.diagrams.count,
+      )) (c.loop-goal.invariant.tried d bs cs is are)
+      (subst (AreTried d (Answers bs) cs (is_answered c.loop-goal.goal ∷ [])) c.in-Accepted.is
+      (c.in_ok-verdict.ensures.tried d bs cs (told_kept d c.args.game.now c.loop-goal.game
+      c.loop-goal.invariant.grows bs cs c.args.told.now is)
+      (answers_kept d c.args.game.now c.loop-goal.game c.loop-goal.invariant.grows bs c.args.answers.now are)));
+}
+
+pub returns-clause-tried : goal.returns-clause-tried
+returns-clause-tried c = λ d bs cs is are.
+    tried_all d (Answers bs) cs (λ goal. is_answered goal ∷ []) (length cs.goals) c.loop-goal.goal (omega (
+      arith,
+      is.diagrams.count,
+    )) (c.loop-goal.invariant.tried d bs cs is are)
+
+pub goal_answering-requires-clause-answers : goal.goal_answering-requires-clause-answers
+goal_answering-requires-clause-answers c =
+    let has = c.requires.answers in (
+      has.0,
+      has.1,
+      has.2,
+      told_kept has.0 c.args.game.now c.loop-goal.game c.loop-goal.invariant.grows has.1 has.2 c.args.told.now has.3,
+      answers_kept has.0 c.args.game.now c.loop-goal.game c.loop-goal.invariant.grows has.1 c.args.answers.now has.4,
+    )

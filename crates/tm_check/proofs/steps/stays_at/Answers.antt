@@ -1,0 +1,146 @@
+use Rattle.std.proofs.Common.{◌<◌, Some, length, get_or, sym, ap, ◌∙◌, subst, arith}
+use Rattle.std.specs.Prelude.{vec_len}
+use Rattle.std.proofs.lemmas.Option.{slice_get-get_or}
+use Rattle.tm_answers.proofs.Growth.{and_before, or_before}
+use Rattle.tm_check.specs.declared.leaving.Leaving.{Leaving}
+use Rattle.tm_check.proofs.LeavingRanks.{leave_at, leave_known, leaving_long}
+use Rattle.tm_check.proofs.StepParts.{fair_below, fair_states, staying_more}
+use Rattle.tm_check.proofs.steps.stays_at.Goals as goal
+use Rattle.tm_dd.specs.declared.node.TheConstants.{FALSE}
+use Rattle.tm_game.proofs.Growing.{grows_then, known_kept, of_kept}
+
+pub bounds-fairs-rank : goal.bounds-fairs-rank
+bounds-fairs-rank c =
+    let has = c.requires.told in
+    omega (
+      arith,
+      fair_below has.0 has.1 has.2 c.args.game.now c.args.told.now has.3 c.args.goal c.requires.goal c.args.index
+          c.ranked_at-rank.result c.ranked_at-rank.ensures,
+      c.fairs.ensures.count has.0 (of_kept c.args.game.now c.of_rank.new.game c.of_rank.ensures.grows has.0 has.3.of),
+      ap length c.fairs.ensures.value,
+    )
+
+pub and-requires-clause-f : goal.and-requires-clause-f
+and-requires-clause-f c =
+    let has = c.requires.told in (c.in_ok-own.ensures.states has.0 has.1 has.2 has.3).known
+
+pub and-requires-clause-g : goal.and-requires-clause-g
+and-requires-clause-g c =
+    let has = c.requires.told in
+    let of = of_kept c.args.game.now c.of_rank.new.game c.of_rank.ensures.grows has.0 has.3.of in
+    (fair_states has.0 c.of_rank.new.game (c.fairs.ensures.states has.0 of) c.fairs.result.now c.fairs.ensures.value
+    c.ranked_at-rank.result.fair
+    (omega (
+      arith,
+      fair_below has.0 has.1 has.2 c.args.game.now c.args.told.now has.3 c.args.goal c.requires.goal c.args.index
+          c.ranked_at-rank.result c.ranked_at-rank.ensures,
+      c.fairs.ensures.count has.0 of,
+    ))).known
+
+pub returns-in_err-waiting-clause-grows : goal.returns-in_err-waiting-clause-grows
+returns-in_err-waiting-clause-grows c =
+    grows_then c.args.game.now c.of_rank.new.game c.and.new.self c.of_rank.ensures.grows c.and.ensures.grows
+
+pub index-requires : goal.index-requires
+index-requires c =
+    let has = c.requires.leaving in
+    let leaving = c.index-leaving-goal.result in
+    let this = slice_get-get_or c.args.leaving.now c.args.goal leaving (omega (
+      arith,
+      c.requires.goal,
+      has.3.diagrams.count,
+      has.4.count,
+    ))
+    ∙ ap (λ (l : Leaving). Some l) (sym c.index-leaving-goal.is) in
+    let long = leaving_long has.0 has.1 has.2 c.args.game.now c.args.told.now has.3 c.args.goal c.requires.goal
+    c.args.leaving.now has.4 leaving this in
+    subst (λ (l : Leaving). c.args.index < vec_len l.sets) c.index-leaving-goal.is
+    (omega (arith, long, c.requires.index, leaving.sets.ok.0))
+
+pub and-requires-2-clause-g : goal.and-requires-2-clause-g
+and-requires-2-clause-g c =
+    let has = c.requires.leaving in
+    let leaving = c.index-leaving-goal.result in
+    let this = slice_get-get_or c.args.leaving.now c.args.goal leaving (omega (
+      arith,
+      c.requires.goal,
+      has.3.diagrams.count,
+      has.4.count,
+    ))
+    ∙ ap (λ (l : Leaving). Some l) (sym c.index-leaving-goal.is) in
+    let long = leaving_long has.0 has.1 has.2 c.args.game.now c.args.told.now has.3 c.args.goal c.requires.goal
+    c.args.leaving.now has.4 leaving this in
+    known_kept c.args.game.now c.and.new.self
+    (grows_then c.args.game.now c.of_rank.new.game c.and.new.self c.of_rank.ensures.grows c.and.ensures.grows)
+    c.index.result.now
+    (leave_known has.0 has.1 has.2 c.args.game.now c.args.told.now has.3 c.args.goal c.requires.goal
+    c.args.leaving.now has.4 leaving this c.args.index c.index.result.now
+    (leave_at leaving _ c.args.index c.index.result.now c.index-leaving-goal.is
+    (omega (arith, long, c.requires.index)) c.index.ensures))
+
+pub returns-in_err-staying-clause-grows : goal.returns-in_err-staying-clause-grows
+returns-in_err-staying-clause-grows c =
+    grows_then c.args.game.now c.and.new.self c.and-2.new.self
+    (grows_then c.args.game.now c.of_rank.new.game c.and.new.self c.of_rank.ensures.grows c.and.ensures.grows)
+    c.and-2.ensures.grows
+
+pub returns-in_err-all-clause-grows : goal.returns-in_err-all-clause-grows
+returns-in_err-all-clause-grows c =
+    grows_then c.args.game.now c.and-2.new.self c.or.new.self
+    (grows_then c.args.game.now c.and.new.self c.and-2.new.self
+    (grows_then c.args.game.now c.of_rank.new.game c.and.new.self c.of_rank.ensures.grows c.and.ensures.grows)
+    c.and-2.ensures.grows) c.or.ensures.grows
+
+pub returns-clause-grows : goal.returns-clause-grows
+returns-clause-grows c =
+    grows_then c.args.game.now c.and-2.new.self c.or.new.self
+    (grows_then c.args.game.now c.and.new.self c.and-2.new.self
+    (grows_then c.args.game.now c.of_rank.new.game c.and.new.self c.of_rank.ensures.grows c.and.ensures.grows)
+    c.and-2.ensures.grows) c.or.ensures.grows
+
+pub returns-clause-states : goal.returns-clause-states
+returns-clause-states c = λ d bs cs is are set_is.
+    let leaving = c.index-leaving-goal.result in
+    let this = slice_get-get_or c.args.leaving.now c.args.goal leaving (omega (
+      arith,
+      c.requires.goal,
+      is.diagrams.count,
+      are.count,
+    ))
+    ∙ ap (λ (l : Leaving). Some l) (sym c.index-leaving-goal.is) in
+    let long = leaving_long d bs cs c.args.game.now c.args.told.now is c.args.goal c.requires.goal c.args.leaving.now
+    are
+    leaving this in
+    let found = leave_at leaving _ c.args.index c.index.result.now c.index-leaving-goal.is
+    (omega (arith, long, c.requires.index)) c.index.ensures in
+    let own_is = c.in_ok-own.ensures.states d bs cs is in
+    let two = grows_then c.args.game.now c.of_rank.new.game c.and.new.self c.of_rank.ensures.grows
+    c.and.ensures.grows in
+    let three = grows_then c.args.game.now c.and.new.self c.and-2.new.self two c.and-2.ensures.grows in
+    let leave = known_kept c.args.game.now c.and.new.self two c.index.result.now
+    (leave_known d bs cs c.args.game.now c.args.told.now is c.args.goal c.requires.goal c.args.leaving.now are leaving
+    this c.args.index c.index.result.now found) in
+    let of = of_kept c.args.game.now c.of_rank.new.game c.of_rank.ensures.grows d is.of in
+    let fair_is = fair_states d c.of_rank.new.game (c.fairs.ensures.states d of) c.fairs.result.now
+    c.fairs.ensures.value c.ranked_at-rank.result.fair
+    (omega (
+      arith,
+      fair_below d bs cs c.args.game.now c.args.told.now is c.args.goal c.requires.goal c.args.index
+          c.ranked_at-rank.result c.ranked_at-rank.ensures,
+      c.fairs.ensures.count d of,
+    )) in
+    let fair = get_or c.fairs.result.now c.ranked_at-rank.result.fair FALSE in
+    staying_more d bs cs c.args.told.now c.args.goal c.args.game.now is c.requires.goal c.args.leaving.now are leaving
+    this c.args.index c.ranked_at-rank.result c.ranked_at-rank.ensures c.of_rank.new.game c.and.new.self
+    c.and-2.new.self c.or.new.self c.of_rank.ensures.grows c.and.ensures.grows c.and-2.ensures.grows
+    c.or.ensures.grows c.in_ok-own.own fair c.in_ok-waiting.waiting c.index.result.now c.in_ok-staying.staying
+    c.args.set c.in_ok-all.all found own_is fair_is
+    (and_before c.of_rank.new.game.diagrams.table c.and.new.self.diagrams.table c.and.ensures.grows.diagrams
+    c.in_ok-own.own fair c.in_ok-waiting.waiting own_is.known fair_is.known c.in_ok-waiting.ensures.answer)
+    (and_before c.and.new.self.diagrams.table c.and-2.new.self.diagrams.table c.and-2.ensures.grows.diagrams
+    c.in_ok-waiting.waiting c.index.result.now c.in_ok-staying.staying c.in_ok-waiting.ensures.answer.known leave
+    c.in_ok-staying.ensures.answer)
+    (or_before c.and-2.new.self.diagrams.table c.or.new.self.diagrams.table c.or.ensures.grows.diagrams c.args.set
+    c.in_ok-staying.staying c.in_ok-all.all
+    (known_kept c.args.game.now c.and-2.new.self three c.args.set c.requires.set)
+    c.in_ok-staying.ensures.answer.known c.in_ok-all.ensures.answer) set_is

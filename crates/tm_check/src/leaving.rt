@@ -1,0 +1,106 @@
+//! The states from which not every step stays within some ranks.
+ghost use Rattle.std.specs.Prelude.{◌≡◌, ◌<◌, ℕ, Bool, true, IfOk, List, length};
+ghost use Rattle.tm_answers.specs.Good.{HasReplies};
+ghost use Rattle.tm_answers.specs.Replies.{AreReplies};
+ghost use Rattle.tm_check.specs.Leaving.{AreAnswers, AreLeaving, AreLeavingRanks, HasAnswers, Plays};
+ghost use Rattle.tm_check.specs.Loaded.{row_at};
+ghost use Rattle.tm_check.specs.Told.{HasTold, IsTold};
+ghost use Rattle.tm_cir.specs.Answer.{Answers};
+ghost use Rattle.tm_cir.specs.Tree.{BlockTree};
+ghost use Rattle.tm_failures.specs.Found.{MayLeave};
+ghost use Rattle.tm_game.specs.Game.{Grows, IsOf, IsSet, IsStates};
+ghost use Rattle.tm_sem.specs.Certificates.{DriverSets};
+ghost use Rattle.tm_sem.specs.State.{StateData};
+ghost use Rattle.tm_syntax.specs.Design.{DesignTree};
+
+use crate::loaded::{DriverDiagrams, rank_count, ranked_at};
+use crate::trying::without;
+use std::alloc::{AllocError, Global};
+use tm_answers::{Replies, good_answers};
+use tm_dd::{FALSE, NodeId};
+use tm_game::Game;
+
+/// For each number of ranks, from none on, the states from which not every step stays within the first ones of a goal:
+/// one of the environment's, or at the driver's turn the answer while the goal is pending.
+#[derive(Drop)]
+pub(crate) struct Leaving {
+    pub(crate) sets: Vec<NodeId>,
+}
+
+/// These states for each goal.
+pub(crate) fn leaving_sets(
+    alloc: Global,
+    game: &mut Game,
+    told: &DriverDiagrams,
+    answers: &[Replies],
+) -> Result<Vec<Leaving>, AllocError>
+    requires told { HasTold game.old told.now }
+    requires answers { HasAnswers game.old told.now answers.now }
+
+    ensures grows { Grows game.old game.new }
+    ensures leaving { IfOk result (λ all. (d : DesignTree) (bs : List BlockTree) (c : DriverSets)
+        → IsTold d bs c game.old told.now → AreAnswers d bs game.old answers.now
+        → AreLeaving d bs c game.new all.items) }
+{
+    let mut all = Vec::new(alloc);
+    for goal in 0..told.goals.len() {
+        let sets = goal_leaving(alloc, game, told, answers, goal)?;
+        all.push(sets)?;
+    }
+    Ok(all)
+}
+
+// These states for a goal.
+fn goal_leaving(
+    alloc: Global,
+    game: &mut Game,
+    told: &DriverDiagrams,
+    answers: &[Replies],
+    goal: usize,
+) -> Result<Leaving, AllocError>
+    requires told { HasTold game.old told.now }
+    requires answers { HasAnswers game.old told.now answers.now }
+    requires goal { goal < length told.now.goals.items }
+
+    ensures grows { Grows game.old game.new }
+    ensures leaving { IfOk result (λ leaving. (d : DesignTree) (bs : List BlockTree) (c : DriverSets)
+        → IsTold d bs c game.old told.now → AreAnswers d bs game.old answers.now
+        → AreLeavingRanks d bs c game.new goal leaving) }
+{
+    let mut sets = Vec::new(alloc);
+    let none = may_leave(alloc, game, &answers[goal], FALSE)?;
+    sets.push(none)?;
+    let count = rank_count(told, goal);
+    for index in 0..count {
+        let rank = ranked_at(told, goal, index);
+        let leaving = may_leave(alloc, game, &answers[goal], rank.within)?;
+        sets.push(leaving)?;
+    }
+    Ok(Leaving { sets })
+}
+
+// The states from which not every step stays in a set.
+fn may_leave(
+    alloc: Global,
+    game: &mut Game,
+    replies: &Replies,
+    set: NodeId,
+) -> Result<NodeId, AllocError>
+    requires set { IsSet game.old set }
+    requires replies { HasReplies game.old replies.now }
+
+    ensures grows { Grows game.old game.new }
+    ensures leaving { IfOk result (λ id. (d : DesignTree) (bs : List BlockTree) (goal : ℕ) (test : StateData → Bool)
+        → Plays d bs goal game.old replies.now
+        → IsStates d game.old.order game.old.diagrams.table (λ s. test s ≡ true) set
+        → IsStates d game.old.order game.new.diagrams.table (MayLeave d (Answers bs) test goal) id) }
+{
+    let valid = game.valid();
+    let turn = game.turn();
+    let calm = game.calm(set)?;
+    let stirring = without(game, valid, calm)?;
+    let good = good_answers(alloc, game, replies, set)?;
+    let bad = without(game, turn, good)?;
+    let leaving = game.or(stirring, bad)?;
+    Ok(leaving)
+}

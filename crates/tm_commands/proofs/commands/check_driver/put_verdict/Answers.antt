@@ -1,0 +1,19 @@
+use Rattle.std.proofs.Common.{sym, subst}
+use Rattle.tm_syntax.specs.Design.View.{design_tree}
+use Rattle.tm_verdicts.specs.declared.verdict.Verdict.{Verdict}
+use Rattle.tm_commands.specs.Check.{driver_text}
+use Rattle.tm_commands.specs.World.{sink_data}
+use Rattle.tm_commands.specs.Inner.Putting.{HasPut}
+use Rattle.tm_commands.proofs.commands.check_driver.put_verdict.Goals as goal
+
+pub returns-in-Accepted : goal.returns-in-Accepted
+returns-in-Accepted g c =
+    subst (λ (v : Verdict). HasPut (driver_text (design_tree c.args.design.now) c.args.ranks.now v)
+    (sink_data g.O.Sink c.args.out.now) (sink_data g.O.Sink c.put_accepted.new.out) c.put_accepted.result)
+    (sym c.in-Accepted.is) c.put_accepted.ensures
+
+pub returns-in-Refused : goal.returns-in-Refused
+returns-in-Refused g c =
+    subst (λ (v : Verdict). HasPut (driver_text (design_tree c.args.design.now) c.args.ranks.now v)
+    (sink_data g.O.Sink c.args.out.now) (sink_data g.O.Sink c.put_refused.new.out) c.put_refused.result)
+    (sym c.in-Refused.is) c.put_refused.ensures

@@ -1,0 +1,124 @@
+//! The command `check` with a driver.
+ghost use Rattle.std.specs.Prelude.{◌≡◌, ◌<◌, ◌≤◌, ◌^◌, IfErr, IfOk, OnErr, Some, length, map};
+ghost use Rattle.tm_cir.specs.View.{trees_of};
+ghost use Rattle.tm_commands.specs.Check.{driver_end, driver_text};
+ghost use Rattle.tm_commands.specs.Inner.Judging.{HasCutDriver, HasJudgedDriver};
+ghost use Rattle.tm_commands.specs.Inner.Obeying.{Obeys};
+ghost use Rattle.tm_commands.specs.Inner.Putting.{HasPut};
+ghost use Rattle.tm_commands.specs.Inner.Stopping.{IsSinkFailure};
+ghost use Rattle.tm_commands.specs.Words.{check_driver as check_words};
+ghost use Rattle.tm_commands.specs.World.{files_data, sink_data};
+ghost use Rattle.tm_judging.specs.Judged.{CanJudgeDriver};
+ghost use Rattle.tm_syntax.specs.Design.View.{design_tree};
+
+use crate::ending::{Ending, Failure, Ranks};
+use crate::input::driver::{DriverInputs, load_driver};
+use crate::report::verdict::{put_accepted, put_refused};
+use std::alloc::{AllocError, Global};
+use tm_base::{Files, Sink};
+use tm_cert::{DriverCert, Rank};
+use tm_judging::judge_driver;
+use tm_syntax::design::Design;
+use tm_verdicts::Verdict;
+
+/// The numbers of ranked regions of goals.
+fn lengths(alloc: Global, goals: &[Vec<Rank>]) -> Result<Vec<u64>, AllocError>
+    ensures { IfOk result (λ ranks. ranks.items ≡ map (λ g. length g.items) goals.now) }
+{
+    goals.iter().map(|ranks| ranks.len() as u64).collect(alloc)
+}
+
+/// For each goal of a certificate the number of its ranked regions.
+fn ranks_of(alloc: Global, cert: &DriverCert) -> Result<Vec<u64>, AllocError>
+    ensures { IfOk result (λ ranks. ranks.items ≡ map length cert.now.goals) }
+{
+    lengths(alloc, &cert.goals)
+}
+
+/// Puts the lines of a verdict.
+fn put_verdict<O: Sink>(
+    alloc: Global,
+    design: &Design,
+    ranks: &[u64],
+    verdict: &Verdict,
+    out: &mut O,
+) -> Result<(), Failure>
+    requires { length ranks.now < 2 ^ 32 }
+    ensures { HasPut (driver_text (design_tree design.now) ranks.now verdict.now)
+        (sink_data ⟦<O as Sink>⟧ out.old) (sink_data ⟦<O as Sink>⟧ out.new) result }
+{
+    match verdict {
+        Verdict::Accepted => put_accepted(alloc, design, ranks, out),
+        Verdict::Refused {
+            condition,
+            goal,
+            state,
+        } => put_refused(alloc, design, b"C", *condition, *goal, state, out),
+    }
+}
+
+/// The end that a verdict is.
+fn end_of(ranks: Vec<u64>, verdict: Verdict) -> Ending
+    ensures { result ≡ driver_end ranks.items verdict }
+{
+    match verdict {
+        Verdict::Accepted => Ending::Accepted {
+            ranks: Ranks { list: ranks },
+        },
+        Verdict::Refused {
+            condition,
+            goal,
+            state,
+        } => Ending::Refused {
+            condition,
+            goal,
+            state,
+        },
+    }
+}
+
+/// Judges what was read, and puts the lines of the verdict.
+fn judge<O: Sink>(alloc: Global, inputs: &DriverInputs, out: &mut O) -> Result<Ending, Failure>
+    requires { CanJudgeDriver (design_tree inputs.now.design) (trees_of inputs.now.blocks) inputs.now.cert }
+    ensures judged { IfOk result (HasJudgedDriver
+        (design_tree inputs.now.design) (trees_of inputs.now.blocks) inputs.now.cert
+        (sink_data ⟦<O as Sink>⟧ out.old) (sink_data ⟦<O as Sink>⟧ out.new)) }
+    ensures cut { OnErr result (HasCutDriver
+        (design_tree inputs.now.design) (trees_of inputs.now.blocks) inputs.now.cert
+        (sink_data ⟦<O as Sink>⟧ out.old) (sink_data ⟦<O as Sink>⟧ out.new)) }
+    ensures failure { IfErr result (IsSinkFailure
+        (sink_data ⟦<O as Sink>⟧ out.old) (sink_data ⟦<O as Sink>⟧ out.new)) }
+    ensures no_fewer_faults { O.faults out.old ≤ O.faults out.new }
+{
+    let Ok(verdict) = judge_driver(alloc, &inputs.design, &inputs.blocks, &inputs.cert) else {
+        return Err(Failure::Memory);
+    };
+    let Ok(ranks) = ranks_of(alloc, &inputs.cert) else {
+        return Err(Failure::Memory);
+    };
+    match put_verdict(alloc, &inputs.design, &ranks, &verdict, out) {
+        Ok(()) => Ok(end_of(ranks, verdict)),
+        Err(failure) => Err(failure),
+    }
+}
+
+/// Judges a driver's certificate over the design of a specification, and puts the lines of the verdict: it is accepted,
+/// with the number of ranked regions of each goal, or a condition fails.
+pub fn check_driver<F: Files, O: Sink>(
+    alloc: Global,
+    files: &mut F,
+    out: &mut O,
+    spec: &str,
+    driver: &str,
+    cert: &str,
+) -> Result<Ending, Failure>
+    ensures { Obeys (Some (check_words spec.now driver.now cert.now))
+        (files_data ⟦<F as Files>⟧ files.old) (files_data ⟦<F as Files>⟧ files.new)
+        (sink_data ⟦<O as Sink>⟧ out.old) (sink_data ⟦<O as Sink>⟧ out.new) result }
+{
+    let inputs = match load_driver(alloc, files, spec, driver, cert) {
+        Ok(inputs) => inputs,
+        Err(stop) => return stop.outcome(),
+    };
+    judge(alloc, &inputs, out)
+}

@@ -1,0 +1,154 @@
+//! The command `check` without a driver.
+ghost use Rattle.std.specs.Prelude.{◌≡◌, ◌≤◌, IfErr, IfOk, OnErr, Some, length};
+ghost use Rattle.tm_commands.specs.Check.{environment_end, environment_text};
+ghost use Rattle.tm_commands.specs.Inner.Counting.{greatest, longest_in};
+ghost use Rattle.tm_commands.specs.Inner.Judging.{HasCutEnvironment, HasJudgedEnvironment};
+ghost use Rattle.tm_commands.specs.Inner.Obeying.{Obeys};
+ghost use Rattle.tm_commands.specs.Inner.Putting.{HasPut};
+ghost use Rattle.tm_commands.specs.Inner.Stopping.{IsSinkFailure};
+ghost use Rattle.tm_commands.specs.Words.{check_environment as check_words};
+ghost use Rattle.tm_commands.specs.World.{files_data, sink_data};
+ghost use Rattle.tm_judging.specs.Judged.{CanJudgeEnvironment};
+ghost use Rattle.tm_sem.specs.Fairness.{conditions};
+ghost use Rattle.tm_syntax.specs.Design.View.{design_tree};
+
+use crate::ending::{Ending, Failure};
+use crate::input::environment::{EnvironmentInputs, load_environment};
+use crate::report::verdict::{put_levels, put_refused};
+use std::alloc::Global;
+use tm_base::{Files, Sink};
+use tm_cert::{CertLevel, EnvCert};
+use tm_judging::judge_environment;
+use tm_syntax::design::Design;
+use tm_verdicts::Verdict;
+
+/// What is told of a certificate that is accepted: the numbers of its levels, of fairness conditions, and of sets in
+/// its longest chain.
+#[derive(Clone, Copy)]
+struct Counts {
+    levels: u64,
+    conditions: u64,
+    chain: u64,
+}
+
+/// The number of sets in the longest of some chains.
+fn longest_of(chains: &[Vec<u64>]) -> u64
+    ensures { result ≡ greatest (λ chain. length chain.items) chains.now }
+{
+    let mut most = 0;
+    for chain in chains {
+        most = most.max(chain.len() as u64);
+    }
+    most
+}
+
+/// The number of sets in the longest chain of some levels.
+fn longest_chain(levels: &[CertLevel]) -> u64
+    ensures { result ≡ greatest longest_in levels.now }
+{
+    let mut most = 0;
+    for level in levels {
+        most = most.max(longest_of(&level.chains));
+    }
+    most
+}
+
+/// What is told of a certificate for so many fairness conditions.
+fn counts_of(cert: &EnvCert, fairs: u32) -> Counts
+    ensures levels { result.levels ≡ length cert.now.levels }
+    ensures conditions { result.conditions ≡ fairs }
+    ensures chain { result.chain ≡ greatest longest_in cert.now.levels }
+{
+    Counts {
+        levels: cert.levels.len() as u64,
+        conditions: u64::from(fairs),
+        chain: longest_chain(&cert.levels),
+    }
+}
+
+/// Puts the lines of a verdict.
+fn put_verdict<O: Sink>(
+    alloc: Global,
+    design: &Design,
+    counts: Counts,
+    verdict: &Verdict,
+    out: &mut O,
+) -> Result<(), Failure>
+    ensures { HasPut
+        (environment_text (design_tree design.now) counts.levels counts.conditions counts.chain verdict.now)
+        (sink_data ⟦<O as Sink>⟧ out.old) (sink_data ⟦<O as Sink>⟧ out.new) result }
+{
+    match verdict {
+        Verdict::Accepted => put_levels(alloc, counts.levels, counts.conditions, counts.chain, out),
+        Verdict::Refused {
+            condition,
+            goal,
+            state,
+        } => put_refused(alloc, design, b"E", *condition, *goal, state, out),
+    }
+}
+
+/// The end that a verdict is.
+fn end_of(counts: Counts, verdict: Verdict) -> Ending
+    ensures { result ≡ environment_end counts.levels counts.conditions counts.chain verdict }
+{
+    match verdict {
+        Verdict::Accepted => Ending::AcceptedEnvironment {
+            levels: counts.levels,
+            conditions: counts.conditions,
+            chain: counts.chain,
+        },
+        Verdict::Refused {
+            condition,
+            goal,
+            state,
+        } => Ending::Refused {
+            condition,
+            goal,
+            state,
+        },
+    }
+}
+
+/// Judges what was read, and puts the lines of the verdict.
+fn judge<O: Sink>(alloc: Global, inputs: &EnvironmentInputs, out: &mut O) -> Result<Ending, Failure>
+    requires can { CanJudgeEnvironment (design_tree inputs.now.design) inputs.now.cert }
+    requires fairs { inputs.now.fairs ≡ length (conditions (design_tree inputs.now.design)) }
+    ensures judged { IfOk result (HasJudgedEnvironment (design_tree inputs.now.design) inputs.now.cert
+        (sink_data ⟦<O as Sink>⟧ out.old) (sink_data ⟦<O as Sink>⟧ out.new)) }
+    ensures cut { OnErr result (HasCutEnvironment (design_tree inputs.now.design) inputs.now.cert
+        (sink_data ⟦<O as Sink>⟧ out.old) (sink_data ⟦<O as Sink>⟧ out.new)) }
+    ensures failure { IfErr result (IsSinkFailure
+        (sink_data ⟦<O as Sink>⟧ out.old) (sink_data ⟦<O as Sink>⟧ out.new)) }
+    ensures no_fewer_faults { O.faults out.old ≤ O.faults out.new }
+{
+    let Ok(verdict) = judge_environment(alloc, &inputs.design, &inputs.cert) else {
+        return Err(Failure::Memory);
+    };
+    let counts = counts_of(&inputs.cert, inputs.fairs);
+    match put_verdict(alloc, &inputs.design, counts, &verdict, out) {
+        Ok(()) => Ok(end_of(counts, verdict)),
+        Err(failure) => Err(failure),
+    }
+}
+
+/// Judges an environment's certificate over the design of a specification, and puts the lines of the verdict: it is
+/// accepted, with the numbers of its levels, of fairness conditions and of sets in the longest chain, or a condition
+/// fails.
+pub fn check_environment<F: Files, O: Sink>(
+    alloc: Global,
+    files: &mut F,
+    out: &mut O,
+    spec: &str,
+    cert: &str,
+) -> Result<Ending, Failure>
+    ensures { Obeys (Some (check_words spec.now cert.now))
+        (files_data ⟦<F as Files>⟧ files.old) (files_data ⟦<F as Files>⟧ files.new)
+        (sink_data ⟦<O as Sink>⟧ out.old) (sink_data ⟦<O as Sink>⟧ out.new) result }
+{
+    let inputs = match load_environment(alloc, files, spec, cert) {
+        Ok(inputs) => inputs,
+        Err(stop) => return stop.outcome(),
+    };
+    judge(alloc, &inputs, out)
+}

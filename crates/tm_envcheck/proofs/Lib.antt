@@ -1,0 +1,13 @@
+pub mod ChainParts
+pub mod Falling
+pub mod FirstLevels
+pub mod Growing
+pub mod LevelParts
+pub mod Loaded
+pub mod LoadedChains
+pub mod Operations
+pub mod Reporting
+pub mod Tests
+pub mod Trying
+pub mod Verdicts
+pub mod Whole

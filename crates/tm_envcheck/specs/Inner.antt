@@ -1,0 +1,7 @@
+pub mod Leading
+pub mod Loaded
+pub mod Over
+pub mod Parts
+pub mod Reports
+pub mod Stuck
+pub mod Told

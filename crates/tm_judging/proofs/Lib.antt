@@ -1,0 +1,3 @@
+mod Judging
+mod OneState
+mod OneVerdict
