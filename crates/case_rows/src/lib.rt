@@ -3,12 +3,17 @@
 //! A line of a table that begins with `|` is a line of a text, told behind the next blank; a text ends at its first
 //! row. Behind it stand its rows, a line each: what is asked, ` => ` and the answer that is wanted. Empty lines and
 //! lines that begin with `#` are remarks. A line without ` => ` is a row for which no answer is right.
+//!
+//! Where a row spells bytes, `\n`, `\r`, `\t` and `\0` stand for those of their names, `\d`, `\8`, `\e` and `\f` for
+//! the bytes 127, 128, 254 and 255, and a `\` before any other sign for that sign.
 #![tactic(auto)]
 
+mod escapes;
 mod table;
 mod tally;
 mod words;
 
+pub use escapes::{escaped, unescaped};
 pub use table::{Case, Row, read_cases, read_table};
 pub use tally::Tally;
 pub use words::{number, numbers, split_word};

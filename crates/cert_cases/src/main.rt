@@ -1,8 +1,7 @@
 //! Cases of certificates: those that are read and written, worked out by hand, and texts with one fault or more.
 //!
 //! The input is a table of `case_rows`. The certificates are those of designs with five state bits and two fairness
-//! conditions. In texts `\n`, `\r` and `\t` stand for their bytes, `\f` for the byte 255, and `\\` for `\`. The rows
-//! are:
+//! conditions. Texts are spelled as `case_rows` tells. The rows are:
 //!
 //! - `write GOALS TEXT`: what is written for the certificate of a design with so many goals that the text is;
 //! - `read KIND TEXT`: the first fault of the text where one goal and a certificate of this kind is wanted (`driver`,
@@ -10,12 +9,9 @@
 //! - `brackets N`: the same of N opening brackets, where either kind is wanted.
 #![tactic(auto)]
 
-mod texts;
-
-use case_rows::{Case, Tally, number, read_cases, read_table, split_word};
+use case_rows::{Case, Tally, escaped, number, read_cases, read_table, split_word, unescaped};
 use std::alloc::{AllocError, Global};
 use std::io;
-use texts::{escaped, unescaped};
 use tm_base::Name;
 use tm_cert::{BadCert, CertShape, Kind, ReadCertError, read_shaped, write_shaped};
 

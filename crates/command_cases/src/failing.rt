@@ -7,14 +7,16 @@ use tm_base::{DiskFiles, Files, MemFiles, MemSink, Sink, StdSink};
 use tm_commands::obey_and_report;
 
 /// The files in memory, and those of the folder that they hold.
-const EXAMPLE: [[&str; 2]; 4] = [
+const EXAMPLE: [[&str; 2]; 6] = [
     ["s", "flag/spec"],
     ["d", "flag/driver"],
     ["c", "flag/played"],
     ["k", "flag/certificate"],
+    ["lost", "lost/spec"],
+    ["loss", "flag/loss"],
 ];
 
-/// The files of the worked example in memory, with a call that fails (0 is none).
+/// The files of the worked examples in memory, with a call that fails (0 is none).
 fn example<R: std::rt::Files + AllocGlobal>(rt: &R, call: u64) -> Result<MemFiles> {
     let mut disk = DiskFiles::new(rt);
     let mut files = MemFiles::new(rt.alloc(), vec![in rt.alloc(); call]?);

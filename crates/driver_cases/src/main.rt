@@ -5,7 +5,7 @@
 //! and is then answered by the driver's move at the state with these values, with the processes at 4 and 9, and with
 //! process 1 as the last one that moved. The sources are:
 //!
-//! - `text TEXT`, a C text, where `\n`, `\r` and `\t` stand for their bytes, and `\8` for the byte 128;
+//! - `text TEXT`, a C text, spelled as `case_rows` tells;
 //! - `body TEXT`, the same between the braces of a driver, from line 5 on, and `write TEXT`, the same as the argument
 //!   of `t1_write` in a driver that calls it;
 //! - `nested N`, a C text whose test opens N parentheses, and `blanks N`, a text of N blanks;

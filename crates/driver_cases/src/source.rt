@@ -5,8 +5,8 @@ ghost use Rattle.tm_cir.specs.View.{trees_of};
 ghost use Rattle.tm_cir.specs.Fit.{FitBlocks};
 
 use crate::blocks::{blocks, negated};
-use crate::text::{driver, nested, unescaped, writer};
-use case_rows::{number, split_word};
+use crate::text::{driver, nested, writer};
+use case_rows::{number, split_word, unescaped};
 use std::alloc::{AllocError, Global};
 use tm_cir::{Block, Blocks};
 use tm_cparse::{BadDriver, ReadDriverError, read_driver};

@@ -1,31 +1,7 @@
 //! C texts.
 
+use case_rows::unescaped;
 use std::alloc::{AllocError, Global};
-
-/// The byte that a letter behind a `\` stands for.
-fn meant(letter: u8) -> u8 {
-    match letter {
-        b'n' => b'\n',
-        b'r' => b'\r',
-        b't' => b'\t',
-        b'8' => 128,
-        _ => letter,
-    }
-}
-
-/// The bytes that a text of a row stands for.
-pub fn unescaped(alloc: Global, text: &str) -> Result<Vec<u8>, AllocError> {
-    let mut bytes = Vec::new(alloc);
-    let mut is_letter = false;
-    for &byte in text.as_bytes() {
-        let is_escape = byte == b'\\' && !is_letter;
-        if !is_escape {
-            bytes.push(if is_letter { meant(byte) } else { byte })?;
-        }
-        is_letter = is_escape;
-    }
-    Ok(bytes)
-}
 
 /// A driver with this between its braces.
 pub fn driver(alloc: Global, body: &str) -> Result<Vec<u8>, AllocError> {

@@ -10,7 +10,8 @@
 //!   for all values of the first BITS bits of choices, and the interpreter for all lists of at most LENGTH choices
 //!   below RANGE; each has to find what the other does. One of the next states is drawn, and the play goes on there.
 //!   The answer is the number of moves, of their different next states, of those that may err and of those that have
-//!   no outcome, and how many locations were reached and how many tasks led to a state.
+//!   no outcome, and how many locations were reached and how many tasks led to a state. No play reaches the end of a
+//!   process behind a loop that goes on forever; all other locations of the designs are reached.
 #![tactic(auto)]
 
 ghost use Rattle.std.specs.Prelude.{IfSome};

@@ -1,3 +1,4 @@
 mod Counts
 mod GoalSets
 mod Known
+mod StateWidths

@@ -9,6 +9,9 @@
 //! - `calm`: for each goal the nodes of the set from which no stutter or process step errs or leaves it;
 //! - `stay`: for each goal the nodes of the set from which the driver can stay in it;
 //! - `solve`: who wins, and what solving counts.
+//!
+//! All but `terms` ask of a game whose levels are the bits of a state by place. With ` by weight` behind the word, as in
+//! `solve by weight`, the levels are in the weight order.
 #![tactic(auto)]
 
 mod counted;
@@ -20,6 +23,7 @@ mod sizes;
 mod summary;
 mod terms;
 mod text;
+mod weights;
 
 use anyhow::Result;
 use question::Question;

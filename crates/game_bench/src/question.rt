@@ -1,7 +1,7 @@
 //! What is asked of a text.
 
 use crate::failure::Failure;
-use crate::games::game_of_text;
+use crate::games::{LevelOrder, game_of_text};
 use crate::goals::{GoalSet, goal_sizes};
 use crate::summary::{Summary, solved};
 use crate::terms::terms_of_text;
@@ -13,8 +13,15 @@ use tm_exact::Exact;
 pub enum Question {
     /// The number of terms of its guarded updates.
     Terms,
-    /// The number of nodes of its game.
-    Game,
+    /// What is asked of its game, whose levels are in some order.
+    Game(GameQuestion, LevelOrder),
+}
+
+/// What is asked of a game.
+#[derive(Clone, Copy)]
+pub enum GameQuestion {
+    /// The number of its nodes.
+    Size,
     /// The nodes of sets of goals.
     Goals(GoalSet),
     /// What solving counts.
@@ -24,23 +31,46 @@ pub enum Question {
 impl Question {
     /// The question of a line.
     pub fn from_line(line: &str) -> Result<Question, Failure> {
-        match line {
-            "terms" => Ok(Question::Terms),
-            "game" => Ok(Question::Game),
-            "calm" => Ok(Question::Goals(GoalSet::Calm)),
-            "stay" => Ok(Question::Goals(GoalSet::Stay)),
-            "solve" => Ok(Question::Solve),
-            _ => Err(Failure::NoQuestion),
+        if line == "terms" {
+            return Ok(Question::Terms);
         }
+        let (word, order) = match line.strip_suffix(" by weight") {
+            Some(word) => (word, LevelOrder::Weights),
+            None => (line, LevelOrder::Places),
+        };
+        let question = GameQuestion::from_word(word)?;
+        Ok(Question::Game(question, order))
     }
 
     /// The answer to the question, about a text.
     pub fn answer(self, alloc: Global, text: &[u8]) -> Result<String, Failure> {
         match self {
             Question::Terms => number_text(alloc, terms_of_text(alloc, text)?),
-            Question::Game => number_text(alloc, kept_nodes(game_of_text(alloc, text)?)),
-            Question::Goals(set) => Ok(goal_sizes(alloc, game_of_text(alloc, text)?, set)?),
-            Question::Solve => summary_text(alloc, &solved(alloc, game_of_text(alloc, text)?)?),
+            Question::Game(question, order) => {
+                question.answer(alloc, game_of_text(alloc, text, order)?)
+            }
+        }
+    }
+}
+
+impl GameQuestion {
+    // The question of a word.
+    fn from_word(word: &str) -> Result<GameQuestion, Failure> {
+        match word {
+            "game" => Ok(GameQuestion::Size),
+            "calm" => Ok(GameQuestion::Goals(GoalSet::Calm)),
+            "stay" => Ok(GameQuestion::Goals(GoalSet::Stay)),
+            "solve" => Ok(GameQuestion::Solve),
+            _ => Err(Failure::NoQuestion),
+        }
+    }
+
+    // The answer to the question, about a game.
+    fn answer(self, alloc: Global, exact: Exact) -> Result<String, Failure> {
+        match self {
+            GameQuestion::Size => number_text(alloc, kept_nodes(exact)),
+            GameQuestion::Goals(set) => Ok(goal_sizes(alloc, exact, set)?),
+            GameQuestion::Solve => summary_text(alloc, &solved(alloc, exact)?),
         }
     }
 }

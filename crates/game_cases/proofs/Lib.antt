@@ -1,1 +1,1 @@
-mod KnownSets
+mod LevelSets

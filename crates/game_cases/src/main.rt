@@ -10,7 +10,14 @@
 //!   answers were yes over all sets; or the first question to which the two do not agree;
 //! - `least initial`, `least turn` or `least GOAL`: the least of the initial states, of those at which the driver can
 //!   be picked, or of those at which a goal holds;
-//! - `allowed TASK NUMBERS`: whether a call of a task without parameters is allowed at the state of these numbers.
+//! - `allowed TASK NUMBERS`: whether a call of a task without parameters is allowed at the state of these numbers;
+//! - `bits INPUT`: the bits of an input, the most significant first;
+//! - `diagram CALL`: the function that a call gives, and `diagram node F`: the level and the children of a function's
+//!   node. The calls are `make LEVEL F F`, `and F F`, `or F F`, `xor F F`, `not F`, `ite F F F`, `exists F LEVEL`,
+//!   `forall F LEVEL` and `compose F LEVEL F`.
+//!
+//! Functions are written `false`, `true`, `x` and `y`, the values of levels 0 and 1, `b`, which is both of these, and
+//! `z`, the complement of `x`; any other one is `new`.
 #![tactic(auto)]
 
 ghost use Rattle.std.specs.Prelude.{IfSome};
@@ -24,9 +31,11 @@ mod allowing;
 mod compare;
 mod comparison;
 mod counts;
+mod diagrams;
 mod fields;
 mod formula;
 mod kept;
+mod letters;
 mod moves;
 mod places;
 mod questions;
@@ -35,6 +44,7 @@ mod table;
 
 use case_rows::{Case, Row, Tally, read_cases, read_table, split_word};
 use comparison::compare_answer;
+use diagrams::{bits_answer, diagram_answer};
 use kept::{call_allowed, least_kept};
 use std::alloc::{AllocError, Global};
 use std::io;
@@ -71,6 +81,8 @@ fn answer_to(
     match verb {
         "compare" => compare_answer(alloc, machine, game, rest),
         "least" => least_kept(alloc, game, rest),
+        "bits" => bits_answer(alloc, game, rest),
+        "diagram" => diagram_answer(alloc, game, rest),
         _ => call_allowed(alloc, machine, game, rest),
     }
 }

@@ -15,7 +15,7 @@ fn constant_set(is_full: bool) -> NodeId
 }
 
 /// The set of a literal, and none of the states where the level is not one of a state.
-fn literal_set(game: &mut Game, literal: Literal) -> Result<NodeId, AllocError>
+pub fn literal_set(game: &mut Game, literal: Literal) -> Result<NodeId, AllocError>
     ensures grows { Grows game.old game.new }
     ensures set { IfOk result (IsSet game.new) }
 {
@@ -30,7 +30,7 @@ fn literal_set(game: &mut Game, literal: Literal) -> Result<NodeId, AllocError>
 }
 
 /// The set of two literals, both of which have to hold.
-fn both(game: &mut Game, one: Literal, other: Literal) -> Result<NodeId, AllocError>
+pub fn both(game: &mut Game, one: Literal, other: Literal) -> Result<NodeId, AllocError>
     ensures grows { Grows game.old game.new }
     ensures set { IfOk result (IsSet game.new) }
 {

@@ -1,8 +1,7 @@
 //! Cases of texts: the tokens and the trees that they have, or their faults.
 //!
-//! The input is a table of `case_rows`. In the texts of rows `\n`, `\r`, `\t` and `\0` stand for their bytes, `\d`,
-//! `\e` and `\f` for the bytes 127, 254 and 255, and `\\` for `\`. The rows are answered by the number of the kind of a
-//! fault and its place, or else
+//! The input is a table of `case_rows`, and texts are spelled as it tells. The rows are answered by the number of the
+//! kind of a fault and its place, or else
 //!
 //! - `tokens TEXT`: by the kind, the first byte, the end and the place of each token, or by `none`;
 //! - `tree TEXT`: by `tree`;
@@ -14,10 +13,10 @@ mod texts;
 mod tokens;
 mod trees;
 
-use case_rows::{Case, Tally, number, read_cases, read_table, split_word};
+use case_rows::{Case, Tally, number, read_cases, read_table, split_word, unescaped};
 use std::alloc::{AllocError, Global};
 use std::io;
-use texts::{deep_text, unescaped};
+use texts::deep_text;
 use tokens::tokens_text;
 use trees::tree_text;
 

@@ -14,10 +14,11 @@ state_in r values = record {
   last = slice_index values (r.vars + r.processes);
 }
 
--- the value of a number, and of a test as one bit
+-- the value of a number
 abbrev pub num_at : Reading → NumTree → List ℕ → ℕ
 num_at r num values = num_value (state_in r values) r.goal num
 
+-- the value of a test as one bit
 abbrev pub truth_at : Reading → TruthTree → List ℕ → ℕ
 truth_at r truth values = bit (holds (state_in r values) r.goal truth)
 

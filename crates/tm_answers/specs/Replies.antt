@@ -22,12 +22,13 @@ use Rattle.tm_sem.specs.State.{StateData}
 use Rattle.tm_sem.specs.Step.{IsAllowed}
 use Rattle.tm_syntax.specs.Design.{DesignTree}
 
--- the shape of the move that a block makes, and the move at a state; a test makes none
+-- the shape of the move that a block makes; a test makes none
 abbrev pub shape_of : BlockTree → MoveShape
 shape_of (call task args) = shapes.Call task
 shape_of (leave p) = shapes.Leave p
 shape_of _ = shapes.Idle
 
+-- the move that a block makes at a state
 abbrev pub move_of : ℕ → BlockTree → StateData → Move
 move_of goal (call task args) s = moves.Call task (map (num_value s goal) args)
 move_of goal (leave p) s = moves.Leave p

@@ -29,9 +29,10 @@ input_levels order widths =
 abbrev pub bits_at : (ℕ → Bool) → ℕ → ℕ → List ℕ
 bits_at v level count = map (λ k. bit (v k)) (range_with_len level count)
 
--- the bits of choices, and of arguments, that values of levels give
+-- the bits of choices that values of levels give
 abbrev pub choices_at : List ℕ → (ℕ → Bool) → List ℕ
 choices_at order v = bits_at v (choice_level order) room
 
+-- the bits of arguments that values of levels give
 abbrev pub arguments_at : List ℕ → (ℕ → Bool) → List ℕ
 arguments_at order v = bits_at v (length order) room

@@ -89,16 +89,7 @@ module _ (d : DesignTree) (answers : StateData → ℕ → Move → Type 0) (c :
   pub verdict_is : length c.goals ≡ length d.goals → WaitForConditions d c → (v : Verdict) →
       AreTried d answers c (driver_parts c) v → IsDriverVerdict d answers c v
   verdict_is goals fairs Accepted all = meets_of_parts d answers c goals fairs all
-  verdict_is goals fairs (Refused condition goal s) refused = record {
-    before = refused.before;
-    part = refused.part;
-    behind = refused.behind;
-    parts = refused.parts;
-    passed = refused.passed;
-    number = refused.number;
-    of_goal = refused.of_goal;
-    reported = refused.reported;
-  }
+  verdict_is goals fairs (Refused condition goal s) refused = refused
 
 -- as many ranks as there are in the certificate
 pub ranks_same : (d : DesignTree) (c : DriverData) → map length (driver_sets d c).goals ≡ map length c.goals

@@ -1,5 +1,5 @@
 -- What is tried is the set of the states at which a part is found to fail.
-use Rattle.std.proofs.Common.{◌≡◌, ℕ, ◌+◌, ◌-◌, ◌<◌, true, ◌&&◌, not, List, [], ◌∷◌, None, Some, length, get_or, refl}
+use Rattle.std.proofs.Common.{◌≡◌, ℕ, ◌+◌, ◌-◌, ◌<◌, true, ◌&&◌, not, List, [], ◌∷◌, None, Some, length, get_or}
 use Rattle.std.proofs.Common.{sym, ap, ◌∙◌, subst, arith}
 use Rattle.std.specs.Prelude.{MatchOption, Option, false, is_some, slice_get}
 use Rattle.std.specs.Option.{option_map_or}
@@ -10,9 +10,9 @@ use Rattle.tm_check.specs.Loaded.{AreRankedDiagrams, IsRanked, row_at}
 use Rattle.tm_check.specs.Told.{IsTold, last_within}
 use Rattle.tm_check.specs.Tried.{AreTried, IsFirstFailure}
 use Rattle.tm_check.proofs.Keeping.{driver_is, told_kept}
+use Rattle.tm_check.proofs.OnePart.{part_tried}
 use Rattle.tm_check.proofs.Parts.{adding_is, beginning_is, lying_is, ranked_here, ranking_is}
 use Rattle.tm_check.proofs.States.{set_is, states_none, test_all, test_only}
-use Rattle.tm_check.proofs.PartsInOrder.{part_tried}
 use Rattle.tm_cir.specs.Answer.{Answers}
 use Rattle.tm_cir.specs.Tree.{BlockTree}
 use Rattle.tm_dd.specs.declared.node.NodeId.{NodeId}
@@ -28,8 +28,9 @@ use Rattle.tm_sem.specs.Step.{IsInitial}
 use Rattle.tm_syntax.specs.Design.{DesignTree}
 use Rattle.tm_verdicts.specs.declared.verdict.Verdict.{Verdict}
 use Rattle.tm_verdicts.specs.declared.verdict.Verdict.TheVariants.{Accepted, Refused}
-use Rattle.tm_verdicts.specs.Driver.{DriverPart, adds_state, begins_within, driver_condition, driver_goal, is_ranked}
-use Rattle.tm_verdicts.specs.Driver.{lies_within}
+use Rattle.tm_verdicts.specs.Driver.{DriverPart, adds_state, begins_within, driver_condition, driver_goal}
+use Rattle.tm_verdicts.specs.Driver.{driver_meaning, is_ranked, lies_within}
+use Rattle.tm_verdicts.proofs.Trying.{refused_alone}
 
 -- the states of all ranks are those of the last one and lower ones
 last_is : (d : DesignTree) (order : List ℕ) (s : Table) (ranked : List RankedSet) (xs : List RankedDiagrams) →
@@ -190,32 +191,22 @@ module _ (d : DesignTree) (bs : List BlockTree) (c : DriverSets) (told : DriverD
       (valid, test_all d k last.of last.sized k.diagrams.table (IsInitial d) initial initial_is begin.0 valid begin.1))
   adds_refused k more nowhere initial initial_is (Refused number j s) first =
       let last = told_kept d h k more bs c told later in
-      record {
-        before = [];
-        part = adds_state goal index;
-        behind = [];
-        parts = refl;
-        passed = tt;
-        number = first.0;
-        of_goal = first.1;
-        reported = (
-          (ranked_here d bs c g told is goal there).0,
-          (ranked_here d bs c g told is goal there).1,
-          λ adds. nowhere adds.0 (
-            adds.1,
-            test_all d h later.of later.sized h.diagrams.table
-                (λ st. rank (ranked_here d bs c g told is goal there).0 st ≡ 1 + index) id added adds.0 adds.1 adds.2,
-          ),
-          record {
-            here = test_only d k last.of last.sized k.diagrams.table (IsInitial d) initial initial_is s
-                first.2.here.0 first.2.here.1;
-            none_before = λ t begins.
-                let valid = last.regular.initial t begins in
-                first.2.none_before t (
-                  valid,
-                  test_all d k last.of last.sized k.diagrams.table (IsInitial d) initial initial_is t valid
-                      begins,
-                );
-          },
-        );
-      }
+      refused_alone (driver_meaning d (Answers bs) c) (adds_state goal index) number j s first.0 first.1 (
+        (ranked_here d bs c g told is goal there).0,
+        (ranked_here d bs c g told is goal there).1,
+        λ adds. nowhere adds.0 (
+          adds.1,
+          test_all d h later.of later.sized h.diagrams.table
+              (λ st. rank (ranked_here d bs c g told is goal there).0 st ≡ 1 + index) id added adds.0 adds.1 adds.2,
+        ),
+        record {
+          here = test_only d k last.of last.sized k.diagrams.table (IsInitial d) initial initial_is s first.2.here.0
+              first.2.here.1;
+          none_before = λ t begins.
+              let valid = last.regular.initial t begins in
+              first.2.none_before t (
+                valid,
+                test_all d k last.of last.sized k.diagrams.table (IsInitial d) initial initial_is t valid begins,
+              );
+        },
+      )

@@ -3,8 +3,8 @@ pub mod Found
 pub mod Keeping
 pub mod LeavingRanks
 pub mod Looping
+pub mod OnePart
 pub mod Parts
-pub mod PartsInOrder
 pub mod Ranking
 pub mod Rows
 pub mod States

@@ -3,7 +3,6 @@ use Rattle.std.proofs.Common.{◌≡◌, ◌⊎◌, inl, inr, ℕ, Bool, true, f
 use Rattle.std.proofs.Common.{arith, true≢false}
 use Rattle.tm_answers.specs.Reads.{IsSized}
 use Rattle.tm_assigned.specs.States.{assignment_of, coding_of, state_of}
-use Rattle.tm_assigned.proofs.Coded.{is_coding}
 use Rattle.tm_coding.specs.Coding.{IsCoding}
 use Rattle.tm_dd.specs.declared.node.NodeId.{NodeId}
 use Rattle.tm_dd.specs.declared.node.TheConstants.{FALSE}
@@ -13,15 +12,10 @@ use Rattle.tm_ddops.specs.Manager.{IsFunction}
 use Rattle.tm_forcing.specs.Functions.{Assignment}
 use Rattle.tm_forcing.proofs.Sets.{IsSetOf-same, both_true, some_true, true_first, true_second}
 use Rattle.tm_game.specs.Game.{GameData, IsOf, IsSet, IsStates}
-use Rattle.tm_game.proofs.Ordered.{order_is}
+use Rattle.tm_game.proofs.SetTests.{coding_told, states_set}
 use Rattle.tm_sem.specs.State.{StateData}
 use Rattle.tm_sem.specs.Step.{IsState}
 use Rattle.tm_syntax.specs.Design.{DesignTree}
-
-same_test : (a b : Bool) → (a ≡ true → b ≡ true) → (b ≡ true → a ≡ true) → a ≡ b
-same_test true b to from = sym (to refl)
-same_test false true to from = from refl
-same_test false false to from = refl
 
 not_so : (b : Bool) → not b ≡ true → b ≡ true → ⊥
 not_so true h is = true≢false (sym h)
@@ -103,8 +97,8 @@ module _ (d : DesignTree) (order : List ℕ) where
 
 -- ---- tests
 module _ (d : DesignTree) (g : GameData) (of : IsOf d g) (sized : IsSized g) where
-  pub coding : IsCoding d (coding_of d g.order)
-  coding = is_coding d g.order of.small (order_is g.terms d g.flat of.flat g.order sized.order)
+  coding : IsCoding d (coding_of d g.order)
+  coding = coding_told d g of sized.order
 
   module _ (s : Table) (P : StateData → Type 0) (id : NodeId) (is : IsStates d g.order s P id) where
     pub test_only : (st : StateData) → IsState d st → means s id (assignment_of d g.order st) ≡ true → P st
@@ -116,11 +110,4 @@ module _ (d : DesignTree) (g : GameData) (of : IsOf d g) (sized : IsSized g) whe
         (subst (IsState d) (sym (coding.back st valid)) valid, subst P (sym (coding.back st valid)) h)
 
   pub set_is : (P : StateData → Type 0) (id : NodeId) → IsStates d g.order g.diagrams.table P id → IsSet g id
-  set_is P id is = record {
-    known = is.known;
-    reads = λ v w one.
-        let same = coding.same v w one in
-        same_test (means g.diagrams.table id v) (means g.diagrams.table id w)
-        (λ h. let there = is.only v h in is.all w (subst (λ (st : StateData). IsState d st × P st) same there))
-        (λ h. let there = is.only w h in is.all v (subst (λ (st : StateData). IsState d st × P st) (sym same) there));
-  }
+  set_is = states_set d g of sized.order

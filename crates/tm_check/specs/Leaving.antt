@@ -76,20 +76,22 @@ IsStaying d bs c goal index s =
     × Awaits d c goal s × IsOfRank ranked index s × IsFair d s r.fair
     × MayLeave d (Answers bs) (within_rank ranked index) goal s
 
--- those of the first ranks
+-- the rising states of the first ranks
 abbrev pub IsRisingBelow : DesignTree → List BlockTree → DriverSets → ℕ → ℕ → StateData → Type 0
 IsRisingBelow d bs c goal count s = (index : ℕ) × (index < count) × IsRising d bs c goal index s
 
+-- the staying states of the first ranks
 abbrev pub IsStayingBelow : DesignTree → List BlockTree → DriverSets → ℕ → ℕ → StateData → Type 0
 IsStayingBelow d bs c goal count s = (index : ℕ) × (index < count) × IsStaying d bs c goal index s
 
--- where a set holds those of the first ranks, an id holds those of one rank more
+-- where a set holds the rising states of the first ranks, an id holds those of one rank more
 abbrev pub AddsRising : DesignTree → List BlockTree → DriverSets → GameData → GameData → ℕ → ℕ → NodeId → NodeId →
     Type 0
 AddsRising d bs c g h goal index set id =
     IsStates d g.order g.diagrams.table (IsRisingBelow d bs c goal index) set →
     IsStates d h.order h.diagrams.table (IsRisingBelow d bs c goal (index + 1)) id
 
+-- the same of the staying states
 abbrev pub AddsStaying : DesignTree → List BlockTree → DriverSets → GameData → GameData → ℕ → ℕ → NodeId → NodeId →
     Type 0
 AddsStaying d bs c g h goal index set id =

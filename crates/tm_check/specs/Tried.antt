@@ -1,6 +1,5 @@
 -- What is known once some parts of conditions were tried in order.
-use Rattle.std.specs.Prelude.{◌≡◌, ℕ, ◌<◌, List, ◌∷◌, ◌++◌, length}
-use Rattle.std.specs.List.{AllByRecursion}
+use Rattle.std.specs.Prelude.{◌≡◌, ℕ, ◌<◌, List, length}
 use Rattle.tm_dd.specs.declared.node.NodeId.{NodeId}
 use Rattle.tm_game.specs.Game.{GameData}
 use Rattle.tm_game.specs.Least.{HoldsNowhere, test_of}
@@ -11,25 +10,12 @@ use Rattle.tm_sem.specs.StateBits.{IsLeast}
 use Rattle.tm_syntax.specs.Design.{DesignTree}
 use Rattle.tm_verdicts.specs.declared.verdict.Verdict.{Verdict}
 use Rattle.tm_verdicts.specs.declared.verdict.Verdict.TheVariants.{Accepted, Refused}
-use Rattle.tm_verdicts.specs.Driver.{DriverPart, IsReported, Passes, driver_condition, driver_goal, is_answered}
-use Rattle.tm_verdicts.specs.Driver.{is_calm, is_ranked}
+use Rattle.tm_verdicts.specs.Driver.{DriverPart, Passes, driver_meaning, is_answered, is_calm, is_ranked}
+use Rattle.tm_verdicts.specs.Tried as parts
 
--- one of some parts is the first that does not pass, and is reported so
-pub record IsRefusedAmong (d : DesignTree) (answers : StateData → ℕ → Move → Type 0) (c : DriverSets)
-    (tried : List DriverPart) (condition goal : ℕ) (s : StateData) : Type 0 where
-  pub before : List DriverPart
-  pub part : DriverPart
-  pub behind : List DriverPart
-  pub parts : tried ≡ before ++ part ∷ behind
-  pub passed : AllByRecursion (Passes d answers c) before
-  pub number : condition ≡ driver_condition part
-  pub of_goal : goal ≡ driver_goal part
-  pub reported : IsReported d answers c part s
-
--- all of some parts pass, or the first that does not is refused; of lists of parts one behind the other this composes
+-- parts of a driver's certificate were tried in order, with this verdict
 abbrev pub AreTried : DesignTree → (StateData → ℕ → Move → Type 0) → DriverSets → List DriverPart → Verdict → Type 0
-AreTried d answers c tried Accepted = AllByRecursion (Passes d answers c) tried
-AreTried d answers c tried (Refused condition goal s) = IsRefusedAmong d answers c tried condition goal s
+AreTried d answers c tried v = parts.AreTried (driver_meaning d answers c) tried v
 
 -- a set holds at no valid state, or a part is refused at its least one
 abbrev pub IsFirstFailure : DesignTree → GameData → NodeId → ℕ → ℕ → Verdict → Type 0

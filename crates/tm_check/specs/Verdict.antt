@@ -9,8 +9,7 @@ use Rattle.tm_verdicts.specs.declared.verdict.Verdict.TheVariants.{Accepted, Ref
 use Rattle.tm_verdicts.specs.Driver.{IsRefused}
 
 -- accepted, where the sets are a certificate of the strategy; refused, with the first condition that fails, its goal
--- and
--- its least state
+-- and its least state
 abbrev pub IsDriverVerdict : DesignTree → (StateData → ℕ → Move → Type 0) → DriverSets → Verdict → Type 0
 IsDriverVerdict d answers c Accepted = MeetsDriver d answers c
 IsDriverVerdict d answers c (Refused condition goal s) = IsRefused d answers c condition goal s

@@ -1,7 +1,6 @@
 -- What it means that `check` accepts.
-use Rattle.std.proofs.Common.{◌≡◌, ℕ, Option, None, Some, Result, Ok, Err, List, [], ◌∷◌, length, map, refl}
-use Rattle.std.proofs.Common.{sym, ◌∙◌, subst}
-use Rattle.std.specs.Prelude.{IsTrue, IfOk}
+use Rattle.std.proofs.Common.{◌≡◌, ℕ, Option, None, Some, Result, Ok, Err, List, length, map, refl, sym, ◌∙◌, subst}
+use Rattle.std.specs.Prelude.{IfOk}
 use Rattle.std.proofs.lemmas.List.{length-map}
 use Rattle.tm_cert.specs.declared.shape.Kind.{Kind}
 use Rattle.tm_cert.specs.Cert.{DriverData, EnvData}
@@ -26,21 +25,26 @@ use Rattle.tm_commands.specs.declared.ending.Ending.TheVariants.{Accepted, Accep
 use Rattle.tm_commands.specs.declared.ending.Failure.{Failure}
 use Rattle.tm_commands.specs.Check.{TellsDriver, NoDriver, no_design, no_blocks, no_cert, driver_end}
 use Rattle.tm_commands.specs.Check.{CheckDriverEnds, unread_driver, judged_driver, CheckDriverMayEnd}
-use Rattle.tm_commands.specs.Check.{may_refuse_driver, may_judge_driver, TellsEnvironment, NoEnvironment, no_spec}
+use Rattle.tm_commands.specs.Check.{may_refuse_design, may_refuse_blocks, may_refuse_cert, may_judge_driver}
+use Rattle.tm_commands.specs.Check.{TellsEnvironment, NoEnvironment, no_spec}
 use Rattle.tm_commands.specs.Check.{no_levels, CheckEnvironmentEnds, unread_environment}
-use Rattle.tm_commands.specs.Check.{judged_environment, CheckEnvironmentMayEnd, may_refuse_environment}
+use Rattle.tm_commands.specs.Check.{judged_environment, CheckEnvironmentMayEnd, may_refuse_spec, may_refuse_levels}
 use Rattle.tm_commands.specs.Check.{may_judge_environment}
 use Rattle.tm_commands.specs.Commands.{read_names, CommandEnds, MayEnd}
-use Rattle.tm_commands.specs.Headline.{AreTold, HasCause}
+use Rattle.tm_commands.specs.Headline.{HasCause}
 use Rattle.tm_commands.specs.Inputs.{NoSpecification, faulty_spec, NoBlocks, long_driver, bad_driver, NoCert, long_cert}
-use Rattle.tm_commands.specs.Inputs.{bad_cert, RefusesOne, faulty_one, bad_one}
+use Rattle.tm_commands.specs.Inputs.{bad_cert, RefusesSpecification, refuses_specification, RefusesBlocks}
+use Rattle.tm_commands.specs.Inputs.{refuses_long_driver, refuses_bad_driver, RefusesScript, refuses_long_choices}
+use Rattle.tm_commands.specs.Inputs.{refuses_bad_choices, RefusesCert, refuses_long_cert, refuses_bad_cert}
 use Rattle.tm_commands.specs.Migrate.{MigrateMayEnd, may_be_refused, may_migrate, refuses_spec}
 use Rattle.tm_commands.specs.Migrate.{refuses_cert}
-use Rattle.tm_commands.specs.Run.{RunMayEnd, may_refuse, may_play}
+use Rattle.tm_commands.specs.Run as runs
+use Rattle.tm_commands.specs.Run.{RunMayEnd}
 use Rattle.tm_commands.specs.Synthesis.{TellsGood, TellsLost, AcceptsGood, AcceptsLost}
 use Rattle.tm_commands.specs.Words.{Command, run, check_driver, check_environment, generate, migrate}
 use Rattle.tm_commands.specs.World.{FilesData}
 use Rattle.tm_commands.proofs.CheckingLevels.{end_on}
+use Rattle.tm_commands.proofs.Running.{are_told}
 
 -- the ends that accept a driver, and an environment
 abbrev IsGoodEnd : Ending → Type 0
@@ -55,9 +59,20 @@ IsLostEnd _ = ⊥
 abbrev IsRefusing : Ending → Type 0
 IsRefusing ending = (IsGoodEnd ending → ⊥) × (IsLostEnd ending → ⊥)
 
-refusing_one : {names : List (List ℕ)} {ending : Ending} → RefusesOne names ending → IsRefusing ending
-refusing_one (faulty_one named) = (λ is. is, λ is. is)
-refusing_one (bad_one named) = (λ is. is, λ is. is)
+refused_spec : {ending : Ending} → RefusesSpecification ending → IsRefusing ending
+refused_spec refuses_specification = (λ is. is, λ is. is)
+
+refused_blocks : {driver : List ℕ} {ending : Ending} → RefusesBlocks driver ending → IsRefusing ending
+refused_blocks refuses_long_driver = (λ is. is, λ is. is)
+refused_blocks refuses_bad_driver = (λ is. is, λ is. is)
+
+refused_script : {choices : List ℕ} {ending : Ending} → RefusesScript choices ending → IsRefusing ending
+refused_script refuses_long_choices = (λ is. is, λ is. is)
+refused_script refuses_bad_choices = (λ is. is, λ is. is)
+
+refused_cert : {cert : List ℕ} {ending : Ending} → RefusesCert cert ending → IsRefusing ending
+refused_cert refuses_long_cert = (λ is. is, λ is. is)
+refused_cert refuses_bad_cert = (λ is. is, λ is. is)
 
 refusing_spec : {contents : List ℕ → Option (List ℕ)} {spec : List ℕ} {ending : Ending} →
     NoSpecification contents spec ending → IsRefusing ending
@@ -85,23 +100,28 @@ refusing_levels (no_spec none) = refusing_spec none
 refusing_levels (no_levels design none) = refusing_cert none
 
 refusing_migration : {cert : List ℕ} {ending : Ending} → MigrateMayEnd cert ending → IsRefusing ending
-refusing_migration (may_be_refused refuses_spec) = (λ is. is, λ is. is)
-refusing_migration (may_be_refused refuses_cert) = (λ is. is, λ is. is)
+refusing_migration (may_be_refused (refuses_spec refused)) = refused_spec refused
+refusing_migration (may_be_refused (refuses_cert refused)) = refused_cert refused
 refusing_migration may_migrate = (λ is. is, λ is. is)
 
-refusing_run : {names : List (List ℕ)} {ending : Ending} → RunMayEnd names ending → IsRefusing ending
-refusing_run (may_refuse named) = refusing_one named
-refusing_run may_play = (λ is. is, λ is. is)
+refusing_run : {driver choices : List ℕ} {ending : Ending} → RunMayEnd driver choices ending → IsRefusing ending
+refusing_run (runs.may_refuse_design refused) = refused_spec refused
+refusing_run (runs.may_refuse_blocks refused) = refused_blocks refused
+refusing_run (runs.may_refuse_script refused) = refused_script refused
+refusing_run runs.may_play = (λ is. is, λ is. is)
 
 -- a driver is no environment
-no_lost_driver : {names : List (List ℕ)} {ending : Ending} → CheckDriverMayEnd names ending → IsLostEnd ending → ⊥
-no_lost_driver (may_refuse_driver named) is = (refusing_one named).1 is
+no_lost_driver : {driver cert : List ℕ} {ending : Ending} → CheckDriverMayEnd driver cert ending → IsLostEnd ending →
+    ⊥
+no_lost_driver (may_refuse_design refused) is = (refused_spec refused).1 is
+no_lost_driver (may_refuse_blocks refused) is = (refused_blocks refused).1 is
+no_lost_driver (may_refuse_cert refused) is = (refused_cert refused).1 is
 no_lost_driver (may_judge_driver ranks verdicts.Accepted) is = is
 no_lost_driver (may_judge_driver ranks (verdicts.Refused condition goal s)) is = is
 
-no_good_levels : {names : List (List ℕ)} {ending : Ending} → CheckEnvironmentMayEnd names ending →
-    IsGoodEnd ending → ⊥
-no_good_levels (may_refuse_environment named) is = (refusing_one named).0 is
+no_good_levels : {cert : List ℕ} {ending : Ending} → CheckEnvironmentMayEnd cert ending → IsGoodEnd ending → ⊥
+no_good_levels (may_refuse_spec refused) is = (refused_spec refused).0 is
+no_good_levels (may_refuse_levels refused) is = (refused_cert refused).0 is
 no_good_levels (may_judge_environment levels conditions chain verdicts.Accepted) is = is
 no_good_levels (may_judge_environment levels conditions chain (verdicts.Refused condition goal s)) is = is
 
@@ -182,10 +202,6 @@ module _ (contents : List ℕ → Option (List ℕ)) (spec cert : List ℕ) (lev
       lost_verdict d c tells v verdict is
 
 -- ---- all commands
-are_told : (old : FilesData) (names : List (List ℕ)) → IsTrue old.tells → AreTold old names
-are_told old [] tells = tt
-are_told old (name ∷ names) tells = tells
-
 module _ (contents : List ℕ → Option (List ℕ)) where
   good_command : (command : Option Command) (ranks text : List ℕ) (ending : Ending) → MayEnd command ending →
       CommandEnds contents command text ending → ending ≡ Accepted ranks →

@@ -1,6 +1,5 @@
 -- What the file of a certificate tells, from what was read of its text; and that it is one.
-use Rattle.std.proofs.Common.{◌≡◌, ℕ, ◌≤◌, Option, Some, Result, Ok, Err, List, [], ◌∷◌, length, refl, sym, ap, subst}
-use Rattle.std.proofs.Common.{◌∙◌, arith}
+use Rattle.std.proofs.Common.{◌≡◌, ℕ, ◌≤◌, Option, Some, Result, Ok, Err, List, length, refl, sym, ap, subst, ◌∙◌}
 use Rattle.std.specs.Prelude.{IsTrue}
 use Rattle.tm_syntax.specs.Limits.{file_limit}
 use Rattle.tm_syntax.specs.Design.{DesignTree}
@@ -23,18 +22,19 @@ use Rattle.tm_commands.specs.declared.ending.Failure.TheVariants.{ReadFault, Wri
 use Rattle.tm_commands.specs.declared.ending.Stop.{Stop}
 use Rattle.tm_commands.specs.declared.ending.Stop.TheVariants.{Ends, Fails}
 use Rattle.tm_commands.specs.World.{FilesData}
-use Rattle.tm_commands.specs.Inputs.{TellsSpecification, TellsCert, NoCert, long_cert, bad_cert, RefusesOne, bad_one}
+use Rattle.tm_commands.specs.Inputs.{TellsSpecification, TellsCert, NoCert, long_cert, bad_cert, RefusesCert}
+use Rattle.tm_commands.specs.Inputs.{refuses_bad_cert}
 use Rattle.tm_commands.specs.Inner.Reading.{IsBadCert}
 use Rattle.tm_commands.specs.Inner.Stopping.{StopsBy, IsMemory, IsReadFailure, IsRefusal}
 use Rattle.tm_commands.proofs.Loading.{refused_by}
 use Rattle.tm_commands.proofs.Telling.{not_longer, one_text, told_specification}
 
 -- want of memory is one of the failures of reading
-pub memory_reads : (names : List (List ℕ)) (old new : FilesData) (failure : Failure) → IsMemory failure →
-    IsReadFailure names old new failure
-memory_reads names old new Memory is = tt
-memory_reads names old new (ReadFault name) is = elim is [ ]
-memory_reads names old new (WriteFault name) is = elim is [ ]
+pub memory_reads : (name : List ℕ) (old new : FilesData) (failure : Failure) → IsMemory failure →
+    IsReadFailure name old new failure
+memory_reads name old new Memory is = tt
+memory_reads name old new (ReadFault other) is = elim is [ ]
+memory_reads name old new (WriteFault other) is = elim is [ ]
 
 module _ (old new : FilesData) (cert text read : List ℕ) (told : IsTrue old.tells → old.contents cert ≡ Some text)
     (short : length text ≤ file_limit) (same : read ≡ text) (shape : CertShape) (d : DesignTree) (wanted : Kind)
@@ -51,7 +51,7 @@ module _ (old new : FilesData) (cert text read : List ℕ) (told : IsTrue old.te
 
   -- the file has a fault
   fault_refuses : (bad : BadCert) → judge_text shape read ≡ Err bad →
-      IsRefusal (NoCert old.contents cert d wanted) (RefusesOne (cert ∷ [])) old new (BadText cert (Cert bad))
+      IsRefusal (NoCert old.contents cert d wanted) (RefusesCert cert) old new (BadText cert (Cert bad))
   fault_refuses bad judged = record {
     cause = λ tells. bad_cert (record {
       text = text;
@@ -59,19 +59,19 @@ module _ (old new : FilesData) (cert text read : List ℕ) (told : IsTrue old.te
       short = short;
       fault = ap (λ (s : CertShape). judge_text s text) (sym shaped) ∙ ap (judge_text shape) (sym same) ∙ judged;
     });
-    named = bad_one (0, omega arith, refl);
+    named = refuses_bad_cert;
     long = record { specification = λ is. cc; file = λ name is. cc };
   }
 
   -- the file is no certificate
   pub cert_refuses : (e : ReadCertError) (stop : Stop) → IsRefusalOf (judge_text shape read) e →
       StopsBy (IsBadCert cert e) IsMemory stop →
-      StopsBy (IsRefusal (NoCert old.contents cert d wanted) (RefusesOne (cert ∷ [])) old new)
-      (IsReadFailure (cert ∷ []) old new) stop
+      StopsBy (IsRefusal (NoCert old.contents cert d wanted) (RefusesCert cert) old new)
+      (IsReadFailure cert old new) stop
   cert_refuses (refusals.Bad bad) stop judged is =
-      refused_by (cert ∷ []) (BadText cert (Cert bad)) stop (fault_refuses bad judged) is
+      refused_by cert (BadText cert (Cert bad)) stop (fault_refuses bad judged) is
   cert_refuses refusals.Memory (Ends ending) judged is = elim is [ ]
-  cert_refuses refusals.Memory (Fails failure) judged is = memory_reads (cert ∷ []) old new failure is
+  cert_refuses refusals.Memory (Fails failure) judged is = memory_reads cert old new failure is
 
 module _ (contents : List ℕ → Option (List ℕ)) (cert : List ℕ) (d : DesignTree) (wanted : Kind) where
   -- a text that is a certificate is judged as it

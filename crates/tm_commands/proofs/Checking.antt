@@ -1,6 +1,6 @@
 -- The end of `check` with a driver is one, and how it is obeyed.
 use Rattle.std.proofs.Common.{◌≡◌, ◌⊎◌, inl, inr, ℕ, ◌≤◌, Option, Some, Result, Ok, Err, List, [], ◌∷◌, length, map}
-use Rattle.std.proofs.Common.{sym, ap, ◌∙◌, subst}
+use Rattle.std.proofs.Common.{refl, sym, ap, ◌∙◌, subst}
 use Rattle.std.specs.Prelude.{IsTrue, IfOk, IfErr, OnErr}
 use Rattle.tm_cert.specs.declared.cert.Cert.TheVariants as certs
 use Rattle.tm_cert.specs.declared.shape.Kind.TheVariants.{Driver}
@@ -16,15 +16,15 @@ use Rattle.tm_commands.specs.declared.ending.Ending.{Ending}
 use Rattle.tm_commands.specs.declared.ending.Failure.{Failure}
 use Rattle.tm_commands.specs.declared.ending.Stop.{Stop}
 use Rattle.tm_commands.specs.Check.{TellsDriver, NoDriver, no_design, no_blocks, no_cert, driver_end, driver_text}
-use Rattle.tm_commands.specs.Check.{CheckDriverEnds, unread_driver, judged_driver, may_refuse_driver}
+use Rattle.tm_commands.specs.Check.{CheckDriverEnds, unread_driver, judged_driver, CheckDriverMayEnd}
 use Rattle.tm_commands.specs.Check.{may_judge_driver}
 use Rattle.tm_commands.specs.Headline.{IsLongShown}
-use Rattle.tm_commands.specs.Inputs.{RefusesOne}
+use Rattle.tm_commands.specs.Order.{IsDueOfThree}
 use Rattle.tm_commands.specs.Words.{check_driver}
 use Rattle.tm_commands.specs.World.{FilesData, SinkData, OnlyReads}
 use Rattle.tm_commands.specs.Inner.Judging.{HasCutDriver, HasJudgedDriver, IsDriverRead, IsVerdictOn}
 use Rattle.tm_commands.specs.Inner.Obeying.{Obeys}
-use Rattle.tm_commands.specs.Inner.Stopping.{StopsBy, stop_outcome, IsReadFailure, IsRefusal, IsSinkFailure}
+use Rattle.tm_commands.specs.Inner.Stopping.{StopsBy, stop_outcome, IsLoadFailure, IsRefusal, IsSinkFailure}
 use Rattle.tm_commands.proofs.Certifying.{cert_of, cert_read, no_cert_of, one_no_cert, told_cert}
 use Rattle.tm_commands.proofs.Completing.{blocks_of, blocks_read, no_blocks_of, one_no_blocks, told_blocks}
 use Rattle.tm_commands.proofs.Running.{cut_obeys, put_obeys, stopped_obeys}
@@ -125,14 +125,14 @@ module _ (spec driver cert : List ℕ) (old new : FilesData) where
   -- `check` was stopped at one of its files
   pub stopped_checking : (out : SinkData) (stop : Stop) (outcome : Result Ending Failure) →
       outcome ≡ stop_outcome stop → OnlyReads old new →
-      StopsBy (IsRefusal (NoDriver old.contents spec driver cert) (RefusesOne (spec ∷ driver ∷ cert ∷ [])) old new)
-      (IsReadFailure (spec ∷ driver ∷ cert ∷ []) old new) stop →
+      StopsBy (IsRefusal (NoDriver old.contents spec driver cert) (CheckDriverMayEnd driver cert) old new)
+      (IsLoadFailure (spec ∷ driver ∷ cert ∷ []) (IsDueOfThree old.contents spec driver cert) old new) stop →
       Obeys (Some (check_driver spec driver cert)) old new out out outcome
   stopped_checking =
       stopped_obeys (Some (check_driver spec driver cert)) (NoDriver old.contents spec driver cert)
-      (RefusesOne (spec ∷ driver ∷ cert ∷ [])) old new (λ tells. tells) (λ is. cc)
+      (CheckDriverMayEnd driver cert) old new (λ tells. tells) (λ is. cc)
       (λ ending cause. unread_driver cause) (only_unread old.contents spec driver cert)
-      (λ ending named. may_refuse_driver named) (λ ending named same. same)
+      (λ ending named. named) (λ ending named same. same)
 
   module _ (out after : SinkData) (d : DesignTree) (bs : List BlockTree) (c : DriverData) (left : OnlyReads old new)
       (read : IsDriverRead old.tells old.contents spec driver cert d bs c) (faults : out.faults ≤ after.faults) where
@@ -154,11 +154,11 @@ module _ (spec driver cert : List ℕ) (old new : FilesData) where
         Obeys (Some (check_driver spec driver cert)) old new out after outcome
     checked_obeys (Ok ending) judged cut failed =
         subst (λ (e : Ending). Obeys (Some (check_driver spec driver cert)) old new out after (Ok e)) (sym judged.2)
-        (put_obeys (Some (check_driver spec driver cert)) old new out after (λ tells. tells) (λ is. cc)
+        (put_obeys (Some (check_driver spec driver cert)) old new out after (λ tells. tells) (λ is. cc) refl
         (λ ending same. same) left faults (driver_end (map length c.goals) judged.0)
         (driver_text d (map length c.goals) judged.0) (λ told. judged_driver judged.0 (read.told told) judged.1.is)
         (λ told. only_judged old.contents spec driver cert d bs c (read.told told) judged.0 judged.1.only)
         (may_judge_driver (map length c.goals) judged.0) (driver_long old new (map length c.goals) judged.0) judged.3)
     checked_obeys (Err failure) judged cut failed =
-        cut_obeys (Some (check_driver spec driver cert)) old new out after (λ tells. tells) (λ is. cc)
+        cut_obeys (Some (check_driver spec driver cert)) old new out after (λ tells. tells) (λ is. cc) refl
         (λ ending same. same) left faults failure cut.0 (so_put cut.0 cut.1) cut.2 failed

@@ -1,6 +1,6 @@
 -- The end of `check` without a driver is one, and how it is obeyed.
-use Rattle.std.proofs.Common.{◌≡◌, ◌⊎◌, inl, inr, ℕ, ◌≤◌, Option, Some, Result, Ok, Err, List, [], ◌∷◌, length, sym}
-use Rattle.std.proofs.Common.{ap, ◌∙◌, subst}
+use Rattle.std.proofs.Common.{◌≡◌, ◌⊎◌, inl, inr, ℕ, ◌≤◌, Option, Some, Result, Ok, Err, List, [], ◌∷◌, length, refl}
+use Rattle.std.proofs.Common.{sym, ap, ◌∙◌, subst}
 use Rattle.std.specs.Prelude.{IsTrue, IfOk, IfErr, OnErr}
 use Rattle.tm_cert.specs.declared.cert.Cert.TheVariants as certs
 use Rattle.tm_cert.specs.declared.shape.Kind.TheVariants.{Environment}
@@ -17,15 +17,15 @@ use Rattle.tm_commands.specs.declared.ending.Failure.{Failure}
 use Rattle.tm_commands.specs.declared.ending.Stop.{Stop}
 use Rattle.tm_commands.specs.Check.{TellsEnvironment, NoEnvironment, no_spec, no_levels, environment_end}
 use Rattle.tm_commands.specs.Check.{environment_text, CheckEnvironmentEnds, unread_environment, judged_environment}
-use Rattle.tm_commands.specs.Check.{may_refuse_environment, may_judge_environment}
+use Rattle.tm_commands.specs.Check.{CheckEnvironmentMayEnd, may_judge_environment}
 use Rattle.tm_commands.specs.Headline.{IsLongShown}
-use Rattle.tm_commands.specs.Inputs.{RefusesOne}
+use Rattle.tm_commands.specs.Order.{IsDueOfTwo}
 use Rattle.tm_commands.specs.Words.{check_environment}
 use Rattle.tm_commands.specs.World.{FilesData, SinkData, OnlyReads}
 use Rattle.tm_commands.specs.Inner.Judging.{HasCutEnvironment, HasJudgedEnvironment, IsEnvironmentRead}
 use Rattle.tm_commands.specs.Inner.Judging.{IsVerdictOnLevels}
 use Rattle.tm_commands.specs.Inner.Obeying.{Obeys}
-use Rattle.tm_commands.specs.Inner.Stopping.{StopsBy, stop_outcome, IsReadFailure, IsRefusal, IsSinkFailure}
+use Rattle.tm_commands.specs.Inner.Stopping.{StopsBy, stop_outcome, IsLoadFailure, IsRefusal, IsSinkFailure}
 use Rattle.tm_commands.proofs.Certifying.{cert_of, cert_read, no_cert_of, one_no_cert, told_cert}
 use Rattle.tm_commands.proofs.Running.{cut_obeys, put_obeys, stopped_obeys}
 use Rattle.tm_commands.proofs.Telling.{one_no_specification, specification_read, told_specification}
@@ -101,14 +101,13 @@ module _ (spec cert : List ℕ) (old new : FilesData) where
   -- `check` was stopped at one of its files
   pub stopped_checking_levels : (out : SinkData) (stop : Stop) (outcome : Result Ending Failure) →
       outcome ≡ stop_outcome stop → OnlyReads old new →
-      StopsBy (IsRefusal (NoEnvironment old.contents spec cert) (RefusesOne (spec ∷ cert ∷ [])) old new)
-      (IsReadFailure (spec ∷ cert ∷ []) old new) stop →
+      StopsBy (IsRefusal (NoEnvironment old.contents spec cert) (CheckEnvironmentMayEnd cert) old new)
+      (IsLoadFailure (spec ∷ cert ∷ []) (IsDueOfTwo old.contents spec cert) old new) stop →
       Obeys (Some (check_environment spec cert)) old new out out outcome
   stopped_checking_levels =
       stopped_obeys (Some (check_environment spec cert)) (NoEnvironment old.contents spec cert)
-      (RefusesOne (spec ∷ cert ∷ [])) old new (λ tells. tells) (λ is. cc) (λ ending cause. unread_environment cause)
-      (only_unread old.contents spec cert) (λ ending named. may_refuse_environment named)
-      (λ ending named same. same)
+      (CheckEnvironmentMayEnd cert) old new (λ tells. tells) (λ is. cc) (λ ending cause. unread_environment cause)
+      (only_unread old.contents spec cert) (λ ending named. named) (λ ending named same. same)
 
   module _ (out after : SinkData) (d : DesignTree) (c : EnvData) (fairs : ℕ) (left : OnlyReads old new)
       (read : IsEnvironmentRead old.tells old.contents spec cert d c fairs) (faults : out.faults ≤ after.faults) where
@@ -129,7 +128,7 @@ module _ (spec cert : List ℕ) (old new : FilesData) where
         Obeys (Some (check_environment spec cert)) old new out after outcome
     checked_levels_obeys (Ok ending) judged cut failed =
         subst (λ (e : Ending). Obeys (Some (check_environment spec cert)) old new out after (Ok e)) (sym judged.2)
-        (put_obeys (Some (check_environment spec cert)) old new out after (λ tells. tells) (λ is. cc)
+        (put_obeys (Some (check_environment spec cert)) old new out after (λ tells. tells) (λ is. cc) refl
         (λ ending same. same) left faults (end_on d c judged.0) (text_on d c judged.0)
         (λ told. judged_environment judged.0 (read.told told) judged.1.is)
         (λ told. only_judged old.contents spec cert d c (read.told told) judged.0 judged.1.only)
@@ -137,5 +136,5 @@ module _ (spec cert : List ℕ) (old new : FilesData) where
         (levels_long old new (length c.levels) (length (conditions d)) (longest_chain (levels_of d c)) judged.0)
         judged.3)
     checked_levels_obeys (Err failure) judged cut failed =
-        cut_obeys (Some (check_environment spec cert)) old new out after (λ tells. tells) (λ is. cc)
+        cut_obeys (Some (check_environment spec cert)) old new out after (λ tells. tells) (λ is. cc) refl
         (λ ending same. same) left faults failure cut.0 (so_put cut.0 cut.1) cut.2 failed

@@ -101,18 +101,18 @@ module _ (contents : List ℕ → Option (List ℕ)) where
 
   module _ (spec driver choices : List ℕ) where
     -- what files tell over the design that SPEC tells, they tell over any other that it tells
-    pub blocks_of : (d e : DesignTree) (bs : List BlockTree) → TellsSpecification contents spec d → TellsSpecification contents spec e →
-        TellsBlocks contents driver e bs → TellsBlocks contents driver d bs
+    pub blocks_of : (d e : DesignTree) (bs : List BlockTree) → TellsSpecification contents spec d →
+        TellsSpecification contents spec e → TellsBlocks contents driver e bs → TellsBlocks contents driver d bs
     blocks_of d e bs p q blocks =
         subst (λ (x : DesignTree). TellsBlocks contents driver x bs) (told_specification contents spec e d q p) blocks
 
-    pub no_blocks_of : (d e : DesignTree) (ending : Ending) → TellsSpecification contents spec d → TellsSpecification contents spec e →
-        NoBlocks contents driver e ending → NoBlocks contents driver d ending
+    pub no_blocks_of : (d e : DesignTree) (ending : Ending) → TellsSpecification contents spec d →
+        TellsSpecification contents spec e → NoBlocks contents driver e ending → NoBlocks contents driver d ending
     no_blocks_of d e ending p q blocks =
         subst (λ (x : DesignTree). NoBlocks contents driver x ending) (told_specification contents spec e d q p) blocks
 
-    no_script_of : (d e : DesignTree) (ending : Ending) → TellsSpecification contents spec d → TellsSpecification contents spec e →
-        NoScript contents choices e ending → NoScript contents choices d ending
+    no_script_of : (d e : DesignTree) (ending : Ending) → TellsSpecification contents spec d →
+        TellsSpecification contents spec e → NoScript contents choices e ending → NoScript contents choices d ending
     no_script_of d e ending p q script =
         subst (λ (x : DesignTree). NoScript contents choices x ending) (told_specification contents spec e d q p) script
 
@@ -129,10 +129,12 @@ module _ (contents : List ℕ → Option (List ℕ)) where
     one_refusal : (one other : Ending) → Refused contents spec driver choices one →
         Refused contents spec driver choices other → one ≡ other
     one_refusal one other (no_design p) (no_design q) = one_no_specification contents spec one other p q
-    one_refusal one other (no_design p) (no_blocks {d = d} design q) = absurd (specification_read contents spec d one design p)
+    one_refusal one other (no_design p) (no_blocks {d = d} design q) =
+        absurd (specification_read contents spec d one design p)
     one_refusal one other (no_design p) (no_script {d = d} design blocks q) =
         absurd (specification_read contents spec d one design p)
-    one_refusal one other (no_blocks {d = d} design p) (no_design q) = absurd (specification_read contents spec d other design q)
+    one_refusal one other (no_blocks {d = d} design p) (no_design q) =
+        absurd (specification_read contents spec d other design q)
     one_refusal one other (no_blocks {d = d} design p) (no_blocks {d = e} others q) =
         one_no_blocks driver d one other p (no_blocks_of d e other design others q)
     one_refusal one other (no_blocks {d = d} design p) (no_script {d = e} {bs = bs} others blocks q) =

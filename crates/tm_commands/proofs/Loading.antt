@@ -1,6 +1,5 @@
 -- Why files are not loaded.
-use Rattle.std.proofs.Common.{◌≡◌, ℕ, zero, suc, ◌+◌, ◌≤◌, Option, None, Some, List, [], ◌∷◌, refl, sym, subst, ◌∙◌}
-use Rattle.std.proofs.Common.{arith}
+use Rattle.std.proofs.Common.{◌≡◌, ℕ, ◌+◌, ◌≤◌, Option, None, Some, List, refl, sym, subst, ◌∙◌, arith}
 use Rattle.std.specs.Prelude.{IsTrue, Contains}
 use Rattle.tm_syntax.specs.Limits.{file_limit, specification_limit}
 use Rattle.tm_base.specs.Files.{IsLonger}
@@ -12,9 +11,9 @@ use Rattle.tm_commands.specs.declared.ending.Failure.TheVariants.{ReadFault, Wri
 use Rattle.tm_commands.specs.declared.ending.Stop.{Stop}
 use Rattle.tm_commands.specs.declared.ending.Stop.TheVariants.{Ends, Fails}
 use Rattle.tm_commands.specs.World.{FilesData, files_data, OnlyReads}
-use Rattle.tm_commands.specs.Inputs.{TellsFault, RefusesOne, faulty_one, bad_one}
+use Rattle.tm_commands.specs.Inputs.{TellsFault}
 use Rattle.tm_commands.specs.Headline.{long_fault, IsLongShown}
-use Rattle.tm_commands.specs.Inner.Stopping.{StopsBy, IsReadFailure, IsMemory, IsRefusal}
+use Rattle.tm_commands.specs.Inner.Stopping.{StopsBy, IsLoadFailure, IsReadFailure, IsMemory, IsRefusal}
 
 -- a count that rose later rose before
 pub rose_later : (last : Option ℕ) (a b c : ℕ) → a ≤ b → Rose last b c → Rose last a c
@@ -22,14 +21,14 @@ rose_later None a b c le rose = omega arith
 rose_later (Some l) a b c le rose = omega arith
 
 -- a file that is refused by this end stops a command
-pub refused_by : {C N : Ending → Type 0} {old new : FilesData} (names : List (List ℕ)) (ending : Ending)
+pub refused_by : {C N : Ending → Type 0} {old new : FilesData} (name : List ℕ) (ending : Ending)
     (stop : Stop) → IsRefusal C N old new ending → StopsBy (λ e. e ≡ ending) IsMemory stop →
-    StopsBy (IsRefusal C N old new) (IsReadFailure names old new) stop
-refused_by {C} {N} {old} {new} names ending (Ends e) refusal is =
+    StopsBy (IsRefusal C N old new) (IsReadFailure name old new) stop
+refused_by {C} {N} {old} {new} name ending (Ends e) refusal is =
     subst (λ (x : Ending). IsRefusal C N old new x) (sym is) refusal
-refused_by names ending (Fails Memory) refusal is = tt
-refused_by names ending (Fails (ReadFault name)) refusal is = elim is [ ]
-refused_by names ending (Fails (WriteFault name)) refusal is = elim is [ ]
+refused_by name ending (Fails Memory) refusal is = tt
+refused_by name ending (Fails (ReadFault other)) refusal is = elim is [ ]
+refused_by name ending (Fails (WriteFault other)) refusal is = elim is [ ]
 
 -- a specification that is longer than its limit has that fault
 pub long_spec : (contents : List ℕ → Option (List ℕ)) (spec : List ℕ) → IsLonger (contents spec) specification_limit →
@@ -40,23 +39,6 @@ long_spec contents spec long = of_told (contents spec) refl long
         TellsFault contents spec long_fault
     of_told None is long = elim long [ ]
     of_told (Some text) is long = record { text = text; told = is; fault = too_long long }
-
--- a list of one element holds it alone
-pub only : (one name : List ℕ) → Contains (one ∷ []) name → one ≡ name
-only one name (zero, below, is) = is
-only one name (suc k, below, is) = absurd (omega arith)
-
--- a name that stands in a list of one is among several, where that one is
-lifted : (names : List (List ℕ)) (one name : List ℕ) → Contains names one → Contains (one ∷ []) name →
-    Contains names name
-lifted names one name among is = subst (λ (x : List ℕ). Contains names x) (only one name is) among
-
--- one of several files is refused where one of them is
-pub named_later : (names : List (List ℕ)) (one : List ℕ) (ending : Ending) → Contains names one →
-    RefusesOne (one ∷ []) ending → RefusesOne names ending
-named_later names one ending among (faulty_one {file = file} named) =
-    faulty_one {file = file} (lifted names one file among named)
-named_later names one ending among (bad_one {file = file} named) = bad_one (lifted names one file among named)
 
 -- a count that rose later by so much rose before by so much
 rose_by_later : (last : Option ℕ) (k a b c : ℕ) → a ≤ b → RoseBy last k b c → RoseBy last k a c
@@ -91,23 +73,26 @@ module _ {A : Type 0} (F : FilesGhosts A) (x y z : A) where
         (F.bytes_taken z) reads.no_fewer_bytes (shown.file name is untold);
   }
 
-  -- what stops a step behind others stops the command
-  pub stops_later : {C D N M : Ending → Type 0} (names : List (List ℕ)) (one : List ℕ) (stop : Stop) →
-      Contains names one → OnlyReads (files_data F x) (files_data F y) →
+  -- what stops a step behind others, whose file is due, stops the command
+  pub stops_later : {C D N M : Ending → Type 0} (names : List (List ℕ)) (IsDue : List ℕ → Type 0) (one : List ℕ)
+      (stop : Stop) → Contains names one → (IsTrue F.tells → IsDue one) →
+      OnlyReads (files_data F x) (files_data F y) →
       ((ending : Ending) → IsTrue F.tells → C ending → D ending) → ((ending : Ending) → N ending → M ending) →
       StopsBy (IsRefusal C N (files_data F y) (files_data F z))
-      (IsReadFailure (one ∷ []) (files_data F y) (files_data F z)) stop →
+      (IsReadFailure one (files_data F y) (files_data F z)) stop →
       StopsBy (IsRefusal D M (files_data F x) (files_data F z))
-      (IsReadFailure names (files_data F x) (files_data F z)) stop
-  stops_later names one (Ends ending) among reads leads named refusal = record {
+      (IsLoadFailure names IsDue (files_data F x) (files_data F z)) stop
+  stops_later names IsDue one (Ends ending) among due reads leads named refusal = record {
     cause = λ told. leads ending told (refusal.cause told);
     named = named ending refusal.named;
     long = long_later ending reads refusal.long;
   }
-  stops_later names one (Fails Memory) among reads leads named failure = tt
-  stops_later names one (Fails (ReadFault name)) among reads leads named failure = (
-    lifted names one name among failure.0,
-    rose_later F.last_count (F.read_faults x name) (F.read_faults y name) (F.read_faults z name)
-        (reads.no_fewer_faults name) failure.1,
+  stops_later names IsDue one (Fails Memory) among due reads leads named failure = tt
+  stops_later names IsDue one (Fails (ReadFault name)) among due reads leads named failure = (
+    subst (λ (n : List ℕ). Contains names n) (sym failure.0) among,
+    subst (λ (n : List ℕ). Rose F.last_count (F.read_faults x n) (F.read_faults z n)) (sym failure.0)
+        (rose_later F.last_count (F.read_faults x one) (F.read_faults y one) (F.read_faults z one)
+        (reads.no_fewer_faults one) failure.1),
+    λ told. subst IsDue (sym failure.0) (due told),
   )
-  stops_later names one (Fails (WriteFault name)) among reads leads named failure = elim failure [ ]
+  stops_later names IsDue one (Fails (WriteFault name)) among due reads leads named failure = elim failure [ ]

@@ -1,42 +1,21 @@
 -- The end of `migrate` is one, and how it is stopped.
-use Rattle.std.proofs.Common.{◌≡◌, ℕ, Option, Some, Result, Err, List, [], ◌∷◌, refl, subst}
+use Rattle.std.proofs.Common.{◌≡◌, ℕ, Option, Some, Result, Err, List, [], ◌∷◌, refl}
 use Rattle.tm_cert.specs.declared.shape.Kind.TheVariants.{Either}
 use Rattle.tm_commands.specs.declared.ending.Ending.{Ending}
-use Rattle.tm_commands.specs.declared.ending.Ending.TheVariants.{Usage, Faulty, Play, Generated, Migrated}
-use Rattle.tm_commands.specs.declared.ending.Ending.TheVariants.{BadText, Accepted, AcceptedEnvironment, Refused}
 use Rattle.tm_commands.specs.declared.ending.Failure.{Failure}
 use Rattle.tm_commands.specs.declared.ending.Failure.TheVariants.{Memory}
 use Rattle.tm_commands.specs.declared.ending.Stop.{Stop}
 use Rattle.tm_commands.specs.Words.{migrate}
 use Rattle.tm_commands.specs.World.{FilesData, SinkData, OnlyReads}
-use Rattle.tm_commands.specs.Inputs.{RefusesOne, faulty_one, bad_one}
+use Rattle.tm_commands.specs.Inputs.{refuses_specification, refuses_long_cert, refuses_bad_cert}
 use Rattle.tm_commands.specs.Migrate.{MigrateEnds, no_spec, no_cert, migrates, MigrateRefuses, refuses_spec}
 use Rattle.tm_commands.specs.Migrate.{refuses_cert, may_be_refused, MigrateLeaves}
 use Rattle.tm_commands.specs.Inner.Obeying.{Obeys}
-use Rattle.tm_commands.specs.Inner.Reading.{IsFaulty}
-use Rattle.tm_commands.specs.Inner.Stopping.{StopsBy, stop_outcome, IsReadFailure, IsRefusal}
+use Rattle.tm_commands.specs.Inner.Stopping.{StopsBy, stop_outcome, IsLoadFailure, IsRefusal}
+use Rattle.tm_commands.specs.Order.{IsDueOfTwo}
 use Rattle.tm_commands.proofs.Certifying.{cert_of, cert_read, no_cert_of, one_no_cert}
-use Rattle.tm_commands.proofs.Loading.{only}
 use Rattle.tm_commands.proofs.Running.{stopped_obeys, unread_obeys}
 use Rattle.tm_commands.proofs.Telling.{one_no_specification, specification_read}
-
--- a fault of the specification refuses it
-pub faulty_spec_refuses : (cert : List ℕ) (ending : Ending) → IsFaulty ending → MigrateRefuses cert ending
-faulty_spec_refuses cert (Faulty f) faulty = refuses_spec
-faulty_spec_refuses cert Usage faulty = elim faulty [ ]
-faulty_spec_refuses cert (Play end) faulty = elim faulty [ ]
-faulty_spec_refuses cert (Accepted ranks) faulty = elim faulty [ ]
-faulty_spec_refuses cert (AcceptedEnvironment levels conditions chain) faulty = elim faulty [ ]
-faulty_spec_refuses cert (Refused condition goal s) faulty = elim faulty [ ]
-faulty_spec_refuses cert (Generated n) faulty = elim faulty [ ]
-faulty_spec_refuses cert Migrated faulty = elim faulty [ ]
-faulty_spec_refuses cert (BadText file why) faulty = elim faulty [ ]
-
--- so does one of the certificate's file
-pub cert_refused : (cert : List ℕ) (ending : Ending) → RefusesOne (cert ∷ []) ending → MigrateRefuses cert ending
-cert_refused cert _ (faulty_one named) = refuses_spec
-cert_refused cert _ (bad_one {file = file} {why = why} named) =
-    subst (λ (f : List ℕ). MigrateRefuses cert (BadText f why)) (only cert file named) refuses_cert
 
 -- `migrate` has one end
 module _ (contents : List ℕ → Option (List ℕ)) (spec cert : List ℕ) where
@@ -63,14 +42,15 @@ module _ (contents : List ℕ → Option (List ℕ)) (spec cert : List ℕ) wher
 module _ (spec cert out : List ℕ) (old new : FilesData) where
   refused_leaves : (ending : Ending) → MigrateRefuses cert ending → new.contents ≡ old.contents →
       MigrateLeaves old.contents new.contents spec cert out ending
-  refused_leaves ending refuses_spec same = same
-  refused_leaves ending refuses_cert same = same
+  refused_leaves ending (refuses_spec refuses_specification) same = same
+  refused_leaves ending (refuses_cert refuses_long_cert) same = same
+  refused_leaves ending (refuses_cert refuses_bad_cert) same = same
 
   -- `migrate` was stopped before it wrote
   pub stopped_migrating : (sink : SinkData) (stop : Stop) (outcome : Result Ending Failure) →
       outcome ≡ stop_outcome stop → OnlyReads old new →
       StopsBy (IsRefusal (MigrateEnds old.contents spec cert) (MigrateRefuses cert) old new)
-      (IsReadFailure (spec ∷ cert ∷ []) old new) stop →
+      (IsLoadFailure (spec ∷ cert ∷ []) (IsDueOfTwo old.contents spec cert) old new) stop →
       Obeys (Some (migrate spec cert out)) old new sink sink outcome
   stopped_migrating =
       stopped_obeys (Some (migrate spec cert out)) (MigrateEnds old.contents spec cert) (MigrateRefuses cert) old new

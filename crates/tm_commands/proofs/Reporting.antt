@@ -1,6 +1,6 @@
 -- What the program promises, from what was promised of the command and of putting the lines that tell its outcome.
-use Rattle.std.proofs.Common.{◌≡◌, ℕ, ◌≤◌, Option, Result, Ok, Err, List, [], ◌∷◌, ◌++◌, take, sym, ap, subst, ◌∙◌}
-use Rattle.std.proofs.Common.{append_assoc, arith}
+use Rattle.std.proofs.Common.{◌≡◌, ℕ, ◌≤◌, Option, Result, Ok, Err, List, [], ◌∷◌, ◌++◌, take, refl, sym, ap, subst}
+use Rattle.std.proofs.Common.{◌∙◌, append_assoc, arith}
 use Rattle.std.specs.Prelude.{IsTrue, IfOk, IfErr}
 use Rattle.std.proofs.lemmas.List.{append-nil, take_all}
 use Rattle.tm_base.specs.Count.{Rose}
@@ -13,12 +13,13 @@ use Rattle.tm_commands.specs.Words.{Command}
 use Rattle.tm_commands.specs.World.{FilesData, SinkData, sink_data}
 use Rattle.tm_commands.specs.Commands.{read_names, IsCommandPart, MayEnd}
 use Rattle.tm_commands.specs.Report.{ending_text, failure_text, outcome_text}
-use Rattle.tm_commands.specs.Headline.{AreTold, HasCause, IsComplete, IsShown, IsLongShown, whole_report, fault_report}
-use Rattle.tm_commands.specs.Headline.{write_report, part_report, IsCut, Takes, Reports, EndsWithLines, Leaves}
-use Rattle.tm_commands.specs.Headline.{KeepsFiles}
+use Rattle.tm_commands.specs.Headline.{AreTold, HasCause, IsComplete, IsShown, IsLongShown, LeavesUnreported}
+use Rattle.tm_commands.specs.Headline.{came_to_end, failed_to_read, failed_to_write, Leaves, whole_report}
+use Rattle.tm_commands.specs.Headline.{fault_report, part_report, IsCut, Takes, Reports, EndsWithLines, KeepsFiles}
 use Rattle.tm_commands.specs.Inner.Stopping.{IsSinkFailure}
 use Rattle.tm_commands.specs.Inner.Obeying.{PutBefore, Obeys}
 use Rattle.tm_commands.proofs.Loading.{rose_later}
+use Rattle.tm_commands.proofs.Running.{are_told}
 use Rattle.tm_play.proofs.Putting.{cut_more}
 
 -- all that is promised of an outcome
@@ -115,22 +116,23 @@ module _ (command : Option Command) (old new : FilesData) {B : Type 0} (O : Sink
 
   cut_failure : (failure : Failure) →
       IsShown command old new (sink_data O x) (sink_data O y) failure →
+      (IsTrue old.tells → Leaves command old new (Err failure)) →
       PutBefore (IsCommandPart old.contents command) (O.written x) (O.written y) failure →
       AppendsPrefix (failure_text failure) (O.written y) (O.written z) →
       IsCut command old new (O.written x) (O.written z)
-  cut_failure (ReadFault name) shown put cut = (
+  cut_failure (ReadFault name) shown left put cut = (
     failure_text (ReadFault name),
-    fault_report name shown.0 shown.1,
+    fault_report (ReadFault name) shown left,
     subst (λ m. AppendsPrefix (failure_text (ReadFault name)) m (O.written z)) put cut,
   )
-  cut_failure (WriteFault []) shown put cut =
+  cut_failure (WriteFault []) shown left put cut =
       part_stays put.0 put.1 put.2 (put_nothing (O.written y) (O.written z) cut)
-  cut_failure (WriteFault (b ∷ bs)) shown put cut = (
+  cut_failure (WriteFault (b ∷ bs)) shown left put cut = (
     failure_text (WriteFault (b ∷ bs)),
-    write_report b bs shown.0 shown.1,
+    fault_report (WriteFault (b ∷ bs)) shown left,
     subst (λ m. AppendsPrefix (failure_text (WriteFault (b ∷ bs))) m (O.written z)) put cut,
   )
-  cut_failure Memory shown put cut = part_stays put.0 put.1 put.2 (put_nothing (O.written y) (O.written z) cut)
+  cut_failure Memory shown left put cut = part_stays put.0 put.1 put.2 (put_nothing (O.written y) (O.written z) cut)
 
   cut_outcome : (outcome : Result Ending Failure) →
       Obeys command old new (sink_data O x) (sink_data O y) outcome → AreTold old (read_names command) →
@@ -138,11 +140,12 @@ module _ (command : Option Command) (old new : FilesData) {B : Type 0} (O : Sink
       IsCut command old new (O.written x) (O.written z)
   cut_outcome (Ok ending) obeys told sink cut = (
     (obeys.ends told).0 ++ ending_text ending,
-    whole_report (obeys.ends told).0 ending (obeys.ends told).1,
+    whole_report (obeys.ends told).0 ending (obeys.ends told).1 obeys.files.left,
     cut_more (O.written x) (O.written y) (O.written z) (obeys.ends told).0 (ending_text ending)
         ((obeys.ends told).2 sink) cut,
   )
-  cut_outcome (Err failure) obeys told sink cut = cut_failure failure obeys.shown (obeys.cut told sink) cut
+  cut_outcome (Err failure) obeys told sink cut =
+      cut_failure failure obeys.shown obeys.files.left (obeys.cut told sink) cut
 
   takes_cut : (failure : Failure) → IsSinkFailure (sink_data O y) (sink_data O z) failure →
       IsCut command old new (O.written x) (O.written z) →
@@ -159,19 +162,32 @@ module _ (command : Option Command) (old new : FilesData) {B : Type 0} (O : Sink
   no_line_behind (WriteFault (b ∷ bs)) text failed all = let none : b ∷ bs ≡ [] = failed.0 in cc
   no_line_behind (ReadFault name) text failed all = elim failed [ ]
 
-  put_leaves : (failure : Failure) → IsSinkFailure (sink_data O y) (sink_data O z) failure →
-      Leaves command old new (Err failure)
-  put_leaves Memory failed = tt
-  put_leaves (WriteFault name) failed = tt
-  put_leaves (ReadFault name) failed = elim failed [ ]
+  -- what an outcome with a line leaves where the output did not take it
+  unreported : (outcome : Result Ending Failure) → Obeys command old new (sink_data O x) (sink_data O y) outcome →
+      (outcome ≡ Err Memory → ⊥) → IsTrue old.tells → LeavesUnreported command old new
+  unreported (Ok ending) obeys some tells =
+      let ends = obeys.ends (are_told old (read_names command) tells) in
+      came_to_end ends.0 ending ends.1 (obeys.files.left tells)
+  unreported (Err (ReadFault name)) obeys some tells = failed_to_read name obeys.shown (obeys.files.left tells)
+  unreported (Err (WriteFault [])) obeys some tells = obeys.files.left tells
+  unreported (Err (WriteFault (b ∷ bs))) obeys some tells = failed_to_write (b ∷ bs) obeys.shown
+  unreported (Err Memory) obeys some tells = absurd (some refl)
 
-  -- some first part of them was put
+  put_leaves : (outcome : Result Ending Failure) (failure : Failure) →
+      Obeys command old new (sink_data O x) (sink_data O y) outcome → (outcome ≡ Err Memory → ⊥) →
+      IsSinkFailure (sink_data O y) (sink_data O z) failure → IsTrue old.tells → Leaves command old new (Err failure)
+  put_leaves outcome Memory obeys some failed tells = tt
+  put_leaves outcome (WriteFault []) obeys some failed tells = unreported outcome obeys some tells
+  put_leaves outcome (WriteFault (b ∷ bs)) obeys some failed tells = tt
+  put_leaves outcome (ReadFault name) obeys some failed tells = elim failed [ ]
+
+  -- some first part of them was put, which are not those of want of memory
   pub keeps_cut : (outcome : Result Ending Failure) (failure : Failure) →
       Obeys command old new (sink_data O x) (sink_data O y) outcome →
       (IsTrue O.tells → AppendsPrefix (outcome_text outcome) (O.written y) (O.written z)) →
-      IsSinkFailure (sink_data O y) (sink_data O z) failure →
+      IsSinkFailure (sink_data O y) (sink_data O z) failure → (outcome ≡ Err Memory → ⊥) →
       Keeps command old new (sink_data O x) (sink_data O z) (Err failure)
-  keeps_cut outcome failure obeys cut failed = record {
+  keeps_cut outcome failure obeys cut failed some = record {
     cause = λ told. tt;
     complete = λ told. tt;
     possible = tt;
@@ -184,5 +200,5 @@ module _ (command : Option Command) (old new : FilesData) {B : Type 0} (O : Sink
           (lines_behind (obeys.grows sink).0 (take (cut sink).0 (outcome_text outcome)) (obeys.grows sink).1
           (cut sink).1),
     );
-    files = record { touched = obeys.files.touched; left = λ tells. put_leaves failure failed };
+    files = record { touched = obeys.files.touched; left = put_leaves outcome failure obeys some failed };
   }

@@ -18,11 +18,11 @@ use Rattle.tm_commands.specs.Words.{Command, run, check_driver, check_environmen
 use Rattle.tm_commands.specs.World.{FilesData, SinkData, OnlyReads, OnlyTouches}
 use Rattle.tm_play.specs.declared.ending.PlayEnd.{PlayEnd}
 use Rattle.tm_play.specs.Played.{Ends, IsPart}
-use Rattle.tm_commands.specs.Inputs.{RefusesOne}
-use Rattle.tm_commands.specs.Run.{Loads, Refused, refused, ended, some_lines, no_line, may_refuse, may_play}
+use Rattle.tm_commands.specs.Run.{Loads, Refused, refused, ended, some_lines, no_line, RunMayEnd, may_play}
 use Rattle.tm_commands.specs.Commands.{read_names, write_names, CommandEnds, IsCommandPart, MayEnd, CommandLeaves}
-use Rattle.tm_commands.specs.Headline.{AreTold, IsLongShown, IsShown, Leaves}
-use Rattle.tm_commands.specs.Inner.Stopping.{StopsBy, stop_outcome, IsReadFailure, IsSinkFailure, IsRefusal}
+use Rattle.tm_commands.specs.Headline.{AreTold, IsLongShown, IsShown, wrote_none, Leaves}
+use Rattle.tm_commands.specs.Order.{IsDue, IsDueOfThree}
+use Rattle.tm_commands.specs.Inner.Stopping.{StopsBy, stop_outcome, IsLoadFailure, IsSinkFailure, IsRefusal}
 use Rattle.tm_commands.specs.Inner.Obeying.{PutBefore, Obeys}
 use Rattle.tm_play.proofs.Putting.{cut_nothing}
 use Rattle.tm_commands.proofs.Completing.{one_run_end}
@@ -110,6 +110,11 @@ sink_shown command old new out after (WriteFault []) failed = failed.1
 sink_shown command old new out after (WriteFault (b ∷ bs)) failed = let none : b ∷ bs ≡ [] = failed.0 in cc
 sink_shown command old new out after (ReadFault name) failed = elim failed [ ]
 
+-- files that tell are told
+pub are_told : (files : FilesData) (names : List (List ℕ)) → IsTrue files.tells → AreTold files names
+are_told files [] tells = tt
+are_told files (name ∷ names) tells = tells
+
 -- a command that reads files and is stopped at one of them, or before it is read
 module _ (command : Option Command) (Cause Named : Ending → Type 0) (old new : FilesData)
     (read : AreTold old (read_names command) → IsTrue old.tells) (reads : read_names command ≡ [] → ⊥)
@@ -136,19 +141,22 @@ module _ (command : Option Command) (Cause Named : Ending → Type 0) (old new :
     no_fewer_faults = omega arith;
   }
 
-  put_none : (before : List ℕ) (failure : Failure) → IsReadFailure (read_names command) old new failure →
+  put_none : (before : List ℕ) (failure : Failure) →
+      IsLoadFailure (read_names command) (IsDue old.contents command) old new failure →
       PutBefore (IsCommandPart old.contents command) before before failure
   put_none before Memory failed = ([], nothing_put old.contents command, cut_nothing before)
   put_none before (ReadFault name) failed = refl
   put_none before (WriteFault name) failed = elim failed [ ]
 
-  read_shown : (out : SinkData) (failure : Failure) → IsReadFailure (read_names command) old new failure →
+  read_shown : (out : SinkData) (failure : Failure) →
+      IsLoadFailure (read_names command) (IsDue old.contents command) old new failure →
       IsShown command old new out out failure
   read_shown out Memory failed = tt
   read_shown out (ReadFault name) failed = failed
   read_shown out (WriteFault name) failed = elim failed [ ]
 
-  unread_leaves : (failure : Failure) → IsReadFailure (read_names command) old new failure → OnlyReads old new →
+  unread_leaves : (failure : Failure) →
+      IsLoadFailure (read_names command) (IsDue old.contents command) old new failure → OnlyReads old new →
       Leaves command old new (Err failure)
   unread_leaves Memory failed left = tt
   unread_leaves (ReadFault name) failed left = left.same_contents
@@ -156,7 +164,8 @@ module _ (command : Option Command) (Cause Named : Ending → Type 0) (old new :
 
   -- a file was not read, or memory ran out
   pub unread_obeys : (out : SinkData) (failure : Failure) → OnlyReads old new →
-      IsReadFailure (read_names command) old new failure → Obeys command old new out out (Err failure)
+      IsLoadFailure (read_names command) (IsDue old.contents command) old new failure →
+      Obeys command old new out out (Err failure)
   unread_obeys out failure left failed = record {
     ends = λ told. tt;
     complete = λ told. tt;
@@ -173,7 +182,8 @@ module _ (command : Option Command) (Cause Named : Ending → Type 0) (old new :
   }
 
   pub stopped_obeys : (out : SinkData) (stop : Stop) (outcome : Result Ending Failure) → outcome ≡ stop_outcome stop →
-      OnlyReads old new → StopsBy (IsRefusal Cause Named old new) (IsReadFailure (read_names command) old new) stop →
+      OnlyReads old new → StopsBy (IsRefusal Cause Named old new)
+      (IsLoadFailure (read_names command) (IsDue old.contents command) old new) stop →
       Obeys command old new out out outcome
   stopped_obeys out (stops_at.Ends ending) outcome is left refusal =
       subst (λ (o : Result Ending Failure). Obeys command old new out out o) (sym is)
@@ -185,7 +195,7 @@ module _ (command : Option Command) (Cause Named : Ending → Type 0) (old new :
 -- a command that reads files, writes none, and puts lines on the way
 module _ (command : Option Command) (old new : FilesData) (out after : SinkData)
     (read : AreTold old (read_names command) → IsTrue old.tells) (reads : read_names command ≡ [] → ⊥)
-    (leaves : (ending : Ending) → new.contents ≡ old.contents →
+    (writes : write_names command ≡ []) (leaves : (ending : Ending) → new.contents ≡ old.contents →
     CommandLeaves old.contents new.contents command ending)
     (left : OnlyReads old new) (faults : out.faults ≤ after.faults) where
   touched : OnlyTouches (read_names command) (write_names command) old new
@@ -220,7 +230,8 @@ module _ (command : Option Command) (old new : FilesData) (out after : SinkData)
 
   cut_leaves : (failure : Failure) → IsSinkFailure out after failure → Leaves command old new (Err failure)
   cut_leaves Memory failed = tt
-  cut_leaves (WriteFault name) failed = tt
+  cut_leaves (WriteFault []) failed = wrote_none writes left.same_contents
+  cut_leaves (WriteFault (b ∷ bs)) failed = tt
   cut_leaves (ReadFault name) failed = elim failed [ ]
 
   -- it failed
@@ -243,15 +254,15 @@ module _ (spec driver choices : List ℕ) (old new : FilesData) where
   -- `run` was stopped before its play
   pub stopped_running : (out : SinkData) (stop : Stop) (outcome : Result Ending Failure) →
       outcome ≡ stop_outcome stop → OnlyReads old new →
-      StopsBy (IsRefusal (Refused old.contents spec driver choices) (RefusesOne (spec ∷ driver ∷ choices ∷ [])) old new)
-      (IsReadFailure (spec ∷ driver ∷ choices ∷ []) old new) stop →
+      StopsBy (IsRefusal (Refused old.contents spec driver choices) (RunMayEnd driver choices) old new)
+      (IsLoadFailure (spec ∷ driver ∷ choices ∷ []) (IsDueOfThree old.contents spec driver choices) old new) stop →
       Obeys (Some (run spec driver choices)) old new out out outcome
   stopped_running =
       stopped_obeys (Some (run spec driver choices)) (Refused old.contents spec driver choices)
-      (RefusesOne (spec ∷ driver ∷ choices ∷ [])) old new (λ tells. tells) (λ is. cc) (λ ending cause. refused cause)
+      (RunMayEnd driver choices) old new (λ tells. tells) (λ is. cc) (λ ending cause. refused cause)
       (λ ending cause text other ends. one_run_end old.contents spec driver choices [] text ending other
       (refused cause) ends)
-      (λ ending named. may_refuse named) (λ ending named same. same)
+      (λ ending named. named) (λ ending named same. same)
 
   -- the choices were played, to an end or to a failure
   pub played_obeys : (out after : SinkData) (d : DesignTree) (bs : List BlockTree) (c : ScriptData)
@@ -265,11 +276,11 @@ module _ (spec driver choices : List ℕ) (old new : FilesData) where
       Obeys (Some (run spec driver choices)) old new out after outcome
   played_obeys out after d bs c (Ok ending) left loads ends cut failed faults =
       subst (λ (e : Ending). Obeys (Some (run spec driver choices)) old new out after (Ok e)) (sym ends.2)
-      (put_obeys (Some (run spec driver choices)) old new out after (λ tells. tells) (λ is. cc)
+      (put_obeys (Some (run spec driver choices)) old new out after (λ tells. tells) (λ is. cc) refl
       (λ ending same. same) left faults (Play ends.0) ends.1 (λ told. ended (loads told) ends.3)
       (λ told text other also. one_run_end old.contents spec driver choices ends.1 text (Play ends.0) other
       (ended (loads told) ends.3) also)
       may_play (record { specification = λ is. cc; file = λ name is. cc }) ends.4)
   played_obeys out after d bs c (Err failure) left loads ends cut failed faults =
-      cut_obeys (Some (run spec driver choices)) old new out after (λ tells. tells) (λ is. cc)
+      cut_obeys (Some (run spec driver choices)) old new out after (λ tells. tells) (λ is. cc) refl
       (λ ending same. same) left faults failure cut.0 (λ told. some_lines (loads told) cut.1) cut.2 failed

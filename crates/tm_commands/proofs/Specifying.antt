@@ -1,5 +1,5 @@
 -- What the file of a specification tells, from what was read of its text.
-use Rattle.std.proofs.Common.{◌≡◌, ℕ, ◌≤◌, Bool, Option, Some, List, [], ◌∷◌, length, refl, sym, subst, arith}
+use Rattle.std.proofs.Common.{◌≡◌, ℕ, ◌≤◌, Bool, Option, Some, List, length, sym, subst}
 use Rattle.std.specs.Prelude.{IsTrue}
 use Rattle.tm_syntax.specs.declared.fault.Faulty.{Faulty as Fault}
 use Rattle.tm_syntax.specs.declared.fault.FrontError.{FrontError}
@@ -8,15 +8,14 @@ use Rattle.tm_syntax.specs.declared.token.Token.{Token}
 use Rattle.tm_syntax.specs.Limits.{specification_limit}
 use Rattle.tm_syntax.specs.Design.{DesignTree}
 use Rattle.tm_syntax.specs.Faults.{FaultOf, IsOfText}
-use Rattle.tm_commands.specs.declared.ending.Ending.{Ending}
-use Rattle.tm_commands.specs.declared.ending.Ending.TheVariants.{Usage, Faulty, Play, Generated, Migrated}
-use Rattle.tm_commands.specs.declared.ending.Ending.TheVariants.{BadText, Accepted, AcceptedEnvironment, Refused}
+use Rattle.tm_commands.specs.declared.ending.Ending.TheVariants.{Faulty}
 use Rattle.tm_commands.specs.declared.ending.Stop.{Stop}
 use Rattle.tm_commands.specs.World.{FilesData}
 use Rattle.tm_commands.specs.Headline.{long_fault}
 use Rattle.tm_front.specs.Specification.{IsDesignText, IsMemoryOr}
-use Rattle.tm_commands.specs.Inputs.{TellsSpecification, NoSpecification, faulty_spec, RefusesOne, faulty_one}
-use Rattle.tm_commands.specs.Inner.Reading.{IsRead, IsFaulty, refusal_of}
+use Rattle.tm_commands.specs.Inputs.{TellsSpecification, NoSpecification, faulty_spec, RefusesSpecification}
+use Rattle.tm_commands.specs.Inputs.{refuses_specification}
+use Rattle.tm_commands.specs.Inner.Reading.{IsRead, refusal_of}
 use Rattle.tm_commands.specs.Inner.Stopping.{StopsBy, IsReadFailure, IsRefusal}
 use Rattle.tm_commands.proofs.Texts.{not_long}
 use Rattle.tm_play.specs.Playable.{IsPlayable}
@@ -29,12 +28,12 @@ module _ (old new : FilesData) (spec text read : List ℕ) (told : IsTrue old.te
 
   -- the file has a fault
   fault_refuses : (f : Fault) → FaultOf read f →
-      IsRefusal (NoSpecification old.contents spec) IsFaulty old new (Faulty f)
+      IsRefusal (NoSpecification old.contents spec) RefusesSpecification old new (Faulty f)
   fault_refuses f has =
       let here : FaultOf text f = subst (λ (t : List ℕ). FaultOf t f) same has in
       record {
         cause = λ tells. faulty_spec (record { text = text; told = told tells; fault = here });
-        named = tt;
+        named = refuses_specification;
         long = record {
           specification = λ is. absurd (not_long text f short here (same_fault f long_fault is));
           file = λ name is. cc;
@@ -43,13 +42,14 @@ module _ (old new : FilesData) (spec text read : List ℕ) (told : IsTrue old.te
 
   -- the file is not read
   pub text_refuses : (e : FrontError) (stop : Stop) → IsMemoryOr (FaultOf read) e → stop ≡ refusal_of e →
-      StopsBy (IsRefusal (NoSpecification old.contents spec) IsFaulty old new) (IsReadFailure (spec ∷ []) old new) stop
+      StopsBy (IsRefusal (NoSpecification old.contents spec) RefusesSpecification old new)
+      (IsReadFailure spec old new) stop
   text_refuses (front.Faulty f) stop has is =
-      subst (StopsBy (IsRefusal (NoSpecification old.contents spec) IsFaulty old new)
-      (IsReadFailure (spec ∷ []) old new)) (sym is) (fault_refuses f has)
+      subst (StopsBy (IsRefusal (NoSpecification old.contents spec) RefusesSpecification old new)
+      (IsReadFailure spec old new)) (sym is) (fault_refuses f has)
   text_refuses front.Memory stop has is =
-      subst (StopsBy (IsRefusal (NoSpecification old.contents spec) IsFaulty old new)
-      (IsReadFailure (spec ∷ []) old new)) (sym is) tt
+      subst (StopsBy (IsRefusal (NoSpecification old.contents spec) RefusesSpecification old new)
+      (IsReadFailure spec old new)) (sym is) tt
 
   -- the file is read
   pub text_is_read : (tokens : List Token) (d : DesignTree) → IsDesignText read tokens d →
@@ -80,15 +80,3 @@ text_of read = record {
 pub playable : {tells : Bool} {contents : List ℕ → Option (List ℕ)} {spec : List ℕ} {d : DesignTree} →
     IsRead tells contents spec d → IsPlayable d
 playable {d = d} read = playable_text read.text read.tokens d read.is.are_tokens read.is.is_tree read.is.sound
-
--- a fault of the file refuses it
-pub faulty_refuses : (spec : List ℕ) (ending : Ending) → IsFaulty ending → RefusesOne (spec ∷ []) ending
-faulty_refuses spec (Faulty f) faulty = faulty_one {file = spec} (0, omega arith, refl)
-faulty_refuses spec Usage faulty = elim faulty [ ]
-faulty_refuses spec (Play end) faulty = elim faulty [ ]
-faulty_refuses spec (Accepted ranks) faulty = elim faulty [ ]
-faulty_refuses spec (AcceptedEnvironment levels conditions chain) faulty = elim faulty [ ]
-faulty_refuses spec (Refused condition goal s) faulty = elim faulty [ ]
-faulty_refuses spec (Generated n) faulty = elim faulty [ ]
-faulty_refuses spec Migrated faulty = elim faulty [ ]
-faulty_refuses spec (BadText file why) faulty = elim faulty [ ]

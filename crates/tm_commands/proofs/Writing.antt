@@ -21,6 +21,7 @@ use Rattle.tm_commands.specs.World.{FilesData, SinkData, files_data, OnlyReads, 
 use Rattle.tm_commands.specs.Commands.{read_names, write_names, IsCommandPart}
 use Rattle.tm_commands.specs.Migrate.{migrates, may_migrate}
 use Rattle.tm_commands.specs.Headline.{IsShown, Leaves}
+use Rattle.tm_commands.specs.Order.{IsWriteDue}
 use Rattle.tm_commands.specs.Inner.Stopping.{IsWriteFailure}
 use Rattle.tm_commands.specs.Inner.Reading.{IsMigration}
 use Rattle.tm_commands.specs.Inner.Obeying.{PutBefore, Obeys}
@@ -48,6 +49,7 @@ touches_written reads name old mid new none read wrote = record {
 module _ (command : Option Command) (name : List ℕ) (named : name ≡ [] → ⊥)
     (written : (n : List ℕ) → n ≡ name → Contains (write_names command) n) {A : Type 0} (F : FilesGhosts A)
     (x y z : A) (same : F.write_faults y ≡ F.write_faults x)
+    (due : IsTrue F.tells → IsWriteDue (F.contents x) command)
     (touched : OnlyTouches (read_names command) (write_names command) (files_data F x) (files_data F z)) where
   put_none : (before : List ℕ) (failure : Failure) →
       IsWriteFailure name (files_data F y) (files_data F z) failure →
@@ -70,13 +72,14 @@ module _ (command : Option Command) (name : List ℕ) (named : name ≡ [] → �
   write_shown out (ReadFault n) failed = elim failed [ ]
   write_shown out (WriteFault []) failed = absurd (named (sym failed.0))
   write_shown out (WriteFault (b ∷ bs)) failed =
-      (written (b ∷ bs) failed.0, rose_before (b ∷ bs) failed.0 failed.1)
+      (written (b ∷ bs) failed.0, rose_before (b ∷ bs) failed.0 failed.1, due)
 
   unwritten_leaves : (failure : Failure) → IsWriteFailure name (files_data F y) (files_data F z) failure →
       Leaves command (files_data F x) (files_data F z) (Err failure)
   unwritten_leaves Memory failed = tt
   unwritten_leaves (ReadFault n) failed = elim failed [ ]
-  unwritten_leaves (WriteFault n) failed = tt
+  unwritten_leaves (WriteFault []) failed = absurd (named (sym failed.0))
+  unwritten_leaves (WriteFault (b ∷ bs)) failed = tt
 
   unwritten_obeys : (out : SinkData) (failure : Failure) →
       IsWriteFailure name (files_data F y) (files_data F z) failure →
@@ -107,7 +110,7 @@ module _ (registers : ℕ) (name : List ℕ) {A : Type 0} (F : FilesGhosts A) (x
       Obeys (Some (generate registers name)) (files_data F x) (files_data F z) out out (Err failure)
   ungenerated_obeys failure named failed =
       unwritten_obeys (Some (generate registers name)) name named (λ n is. (0, omega arith, sym is)) F x x z refl
-      touched_generating out failure failed
+      (λ tells. tt) touched_generating out failure failed
 
   -- was written
   pub generated_obeys : (IsTrue F.tells → F.contents z name ≡ Some (generated_text registers)) →
@@ -134,12 +137,14 @@ module _ (spec cert name : List ℕ) {A : Type 0} (F : FilesGhosts A) (x y z : A
       read wrote
 
   -- was not written
-  pub unmigrated_obeys : (failure : Failure) → (name ≡ [] → ⊥) →
+  pub unmigrated_obeys : (shape : CertShape) (c : Certificate) (failure : Failure) →
+      IsMigration F.tells (F.contents x) spec cert shape c → (name ≡ [] → ⊥) →
       IsWriteFailure name (files_data F y) (files_data F z) failure →
       Obeys (Some (migrate spec cert name)) (files_data F x) (files_data F z) out out (Err failure)
-  unmigrated_obeys failure named failed =
+  unmigrated_obeys shape c failure m named failed =
       unwritten_obeys (Some (migrate spec cert name)) name named (λ n is. (0, omega arith, sym is)) F x y z
-      read.same_writes touched_migrating out failure failed
+      read.same_writes (λ tells. (m.design, c, m.specified tells, m.certified tells)) touched_migrating out failure
+      failed
 
   -- was written
   pub migrated_obeys : (shape : CertShape) (c : Certificate) (text : List ℕ) →

@@ -16,7 +16,7 @@ use Rattle.tm_verdicts.specs.declared.verdict.Verdict.TheVariants as verdicts
 use Rattle.tm_commands.specs.declared.ending.Ending.{Ending}
 use Rattle.tm_commands.specs.declared.ending.Ending.TheVariants.{Accepted, AcceptedEnvironment, Refused}
 use Rattle.tm_commands.specs.Inputs.{TellsSpecification, TellsBlocks, TellsCert, NoSpecification, NoBlocks, NoCert}
-use Rattle.tm_commands.specs.Inputs.{RefusesOne}
+use Rattle.tm_commands.specs.Inputs.{RefusesSpecification, RefusesBlocks, RefusesCert}
 use Rattle.tm_commands.specs.Report.{accepted_text, levels_text, refused_text}
 
 -- ---- `check SPEC DRIVER CERT`
@@ -57,10 +57,12 @@ pub data CheckDriverEnds (contents : List ℕ → Option (List ℕ)) (spec drive
       CheckDriverEnds contents spec driver cert (driver_text d (map length c.goals) v)
       (driver_end (map length c.goals) v)
 
--- the ends that it may have, whatever its files hold
-pub data CheckDriverMayEnd (names : List (List ℕ)) : Ending → Type 0 where
-  may_refuse_driver : {ending : Ending} → RefusesOne names ending → CheckDriverMayEnd names ending
-  may_judge_driver : (ranks : List ℕ) (v : Verdict) → CheckDriverMayEnd names (driver_end ranks v)
+-- the ends that it may have, whatever its files hold: that one of them is refused, or that of a verdict
+pub data CheckDriverMayEnd (driver cert : List ℕ) : Ending → Type 0 where
+  may_refuse_design : {ending : Ending} → RefusesSpecification ending → CheckDriverMayEnd driver cert ending
+  may_refuse_blocks : {ending : Ending} → RefusesBlocks driver ending → CheckDriverMayEnd driver cert ending
+  may_refuse_cert : {ending : Ending} → RefusesCert cert ending → CheckDriverMayEnd driver cert ending
+  may_judge_driver : (ranks : List ℕ) (v : Verdict) → CheckDriverMayEnd driver cert (driver_end ranks v)
 
 -- ---- `check SPEC CERT`
 -- the files tell a design, and an environment's certificate
@@ -98,8 +100,9 @@ pub data CheckEnvironmentEnds (contents : List ℕ → Option (List ℕ)) (spec 
       (environment_text d (length c.levels) (length (conditions d)) (longest_chain (levels_of d c)) v)
       (environment_end (length c.levels) (length (conditions d)) (longest_chain (levels_of d c)) v)
 
--- the ends that it may have, whatever its files hold
-pub data CheckEnvironmentMayEnd (names : List (List ℕ)) : Ending → Type 0 where
-  may_refuse_environment : {ending : Ending} → RefusesOne names ending → CheckEnvironmentMayEnd names ending
+-- the ends that it may have, whatever its files hold: that one of them is refused, or that of a verdict
+pub data CheckEnvironmentMayEnd (cert : List ℕ) : Ending → Type 0 where
+  may_refuse_spec : {ending : Ending} → RefusesSpecification ending → CheckEnvironmentMayEnd cert ending
+  may_refuse_levels : {ending : Ending} → RefusesCert cert ending → CheckEnvironmentMayEnd cert ending
   may_judge_environment : (levels conditions chain : ℕ) (v : Verdict) →
-      CheckEnvironmentMayEnd names (environment_end levels conditions chain v)
+      CheckEnvironmentMayEnd cert (environment_end levels conditions chain v)

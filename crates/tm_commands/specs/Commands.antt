@@ -52,9 +52,9 @@ IsCommandPart contents _ text = text ≡ []
 -- the ends that a command may have, whatever its files hold
 abbrev pub MayEnd : Option Command → Ending → Type 0
 MayEnd None ending = ending ≡ Usage
-MayEnd (Some (run spec driver choices)) ending = RunMayEnd (spec ∷ driver ∷ choices ∷ []) ending
-MayEnd (Some (check_driver spec driver cert)) ending = CheckDriverMayEnd (spec ∷ driver ∷ cert ∷ []) ending
-MayEnd (Some (check_environment spec cert)) ending = CheckEnvironmentMayEnd (spec ∷ cert ∷ []) ending
+MayEnd (Some (run spec driver choices)) ending = RunMayEnd driver choices ending
+MayEnd (Some (check_driver spec driver cert)) ending = CheckDriverMayEnd driver cert ending
+MayEnd (Some (check_environment spec cert)) ending = CheckEnvironmentMayEnd cert ending
 MayEnd (Some (generate registers out)) ending = ending ≡ Generated registers
 MayEnd (Some (migrate spec cert out)) ending = MigrateMayEnd cert ending
 

@@ -2,7 +2,8 @@
 -- reads and writes, how it ends, what it puts on the way, and what it leaves in the files.
 --
 -- An outcome is an end, which the words and the contents of the files determine, or a failure: a fault, which a count
--- shows, or want of memory. `old` and `new` are the files before and after, `out` and `after` the output.
+-- shows, or want of memory. `Order` says when a file is due: each one is read only where those before it were judged
+-- well. `old` and `new` are the files before and after, `out` and `after` the output.
 use Rattle.std.specs.Prelude.{◌≡◌, ℕ, suc, Option, Result, Ok, Err, List, [], ◌∷◌, ◌++◌, IsTrue, IfOk, Contains}
 use Rattle.tm_base.specs.Sink.{AppendsPrefix}
 use Rattle.tm_syntax.specs.declared.fault.FaultKind.TheVariants.{Limit}
@@ -19,6 +20,7 @@ use Rattle.tm_commands.specs.declared.ending.Failure.{Failure}
 use Rattle.tm_commands.specs.declared.ending.Failure.TheVariants.{ReadFault, WriteFault, Memory}
 use Rattle.tm_commands.specs.Words.{Command}
 use Rattle.tm_commands.specs.Commands.{read_names, write_names, CommandEnds, IsCommandPart, CommandLeaves}
+use Rattle.tm_commands.specs.Order.{IsDue, IsWriteDue}
 use Rattle.tm_commands.specs.Report.{ending_text, failure_text, outcome_text}
 use Rattle.tm_commands.specs.World.{FilesData, SinkData, OnlyTouches, HasFailedRead, HasFailedWrite, HasFailedPut}
 use Rattle.tm_commands.specs.World.{TookMoreThan}
@@ -41,14 +43,25 @@ IsComplete old command outcome =
     IfOk outcome (λ answered. (text : List ℕ) (ending : Ending) → CommandEnds old.contents command text ending →
     answered ≡ ending)
 
--- a failure shows: a failed read is one of a file that the command reads, a failed write one of a file that it writes,
--- or with no name the output's, and its count rose; memory may run out at any time
+-- a file was not read or written: it is one that the command reads or writes, its count rose, and where the files tell,
+-- those before it were judged well
+abbrev pub IsFault : Option Command → FilesData → FilesData → Failure → Type 0
+IsFault command old new (ReadFault name) =
+    Contains (read_names command) name × HasFailedRead old new name
+    × (IsTrue old.tells → IsDue old.contents command name)
+IsFault command old new (WriteFault []) = ⊥
+IsFault command old new (WriteFault (b ∷ bs)) =
+    Contains (write_names command) (b ∷ bs) × HasFailedWrite old new (b ∷ bs)
+    × (IsTrue old.tells → IsWriteDue old.contents command)
+IsFault command old new Memory = ⊥
+
+-- a failure shows: a fault of a file, or with no name one of the output, whose count rose; memory may run out at any
+-- time
 abbrev pub IsShown :
     Option Command → FilesData → FilesData → SinkData → SinkData → Failure → Type 0
-IsShown command old new out after (ReadFault name) = Contains (read_names command) name × HasFailedRead old new name
+IsShown command old new out after (ReadFault name) = IsFault command old new (ReadFault name)
 IsShown command old new out after (WriteFault []) = HasFailedPut out after
-IsShown command old new out after (WriteFault (b ∷ bs)) =
-    Contains (write_names command) (b ∷ bs) × HasFailedWrite old new (b ∷ bs)
+IsShown command old new out after (WriteFault (b ∷ bs)) = IsFault command old new (WriteFault (b ∷ bs))
 IsShown command old new out after Memory = Unit {0}
 
 -- the fault of a specification that is longer than its limit
@@ -60,15 +73,32 @@ pub record IsLongShown (old new : FilesData) (ending : Ending) : Type 0 where
   pub specification : ending ≡ Faulty long_fault → TookMoreThan specification_limit old new
   pub file : (name : List ℕ) → ending ≡ BadText name TooLong → TookMoreThan file_limit old new
 
--- a report of a command: its lines and those that tell its end, those of a read or write that failed, or its lines so
--- far
+-- what is left in the files where the output failed: all as it was by a command that writes none, and by another one
+-- what the outcome leaves that it came to: an end what it says, a failed read all as it was, a failed write anything
+pub data LeavesUnreported (command : Option Command) (old new : FilesData) : Type 0 where
+  wrote_none : write_names command ≡ [] → new.contents ≡ old.contents → LeavesUnreported command old new
+  came_to_end : (text : List ℕ) (ending : Ending) → CommandEnds old.contents command text ending →
+      CommandLeaves old.contents new.contents command ending → LeavesUnreported command old new
+  failed_to_read : (name : List ℕ) → IsFault command old new (ReadFault name) → new.contents ≡ old.contents →
+      LeavesUnreported command old new
+  failed_to_write : (name : List ℕ) → IsFault command old new (WriteFault name) → LeavesUnreported command old new
+
+-- what an outcome leaves in the files: an end what it says, and a failed read all as it was; after a failed write or
+-- want of memory nothing is said of the file that the command writes
+abbrev pub Leaves : Option Command → FilesData → FilesData → Result Ending Failure → Type 0
+Leaves command old new (Ok ending) = CommandLeaves old.contents new.contents command ending
+Leaves command old new (Err (ReadFault name)) = new.contents ≡ old.contents
+Leaves command old new (Err (WriteFault [])) = LeavesUnreported command old new
+Leaves command old new (Err (WriteFault (b ∷ bs))) = Unit {0}
+Leaves command old new (Err Memory) = Unit {0}
+
+-- a report of a command, where it leaves in the files what its outcome says: its lines and those that tell its end, the
+-- line of a failed read or write, or its lines so far
 pub data IsReport (command : Option Command) (old new : FilesData) : List ℕ → Type 0 where
   whole_report : (text : List ℕ) (ending : Ending) → CommandEnds old.contents command text ending →
-      IsReport command old new (text ++ ending_text ending)
-  fault_report : (name : List ℕ) → Contains (read_names command) name → HasFailedRead old new name →
-      IsReport command old new (failure_text (ReadFault name))
-  write_report : (b : ℕ) (bs : List ℕ) → Contains (write_names command) (b ∷ bs) →
-      HasFailedWrite old new (b ∷ bs) → IsReport command old new (failure_text (WriteFault (b ∷ bs)))
+      (IsTrue old.tells → Leaves command old new (Ok ending)) → IsReport command old new (text ++ ending_text ending)
+  fault_report : (failure : Failure) → IsFault command old new failure →
+      (IsTrue old.tells → Leaves command old new (Err failure)) → IsReport command old new (failure_text failure)
   part_report : {text : List ℕ} → IsCommandPart old.contents command text → IsReport command old new text
 
 -- the output took some first part of a report
@@ -95,14 +125,6 @@ Reports command old new out after outcome =
 abbrev pub EndsWithLines : SinkData → SinkData → Result Ending Failure → Type 0
 EndsWithLines out after outcome =
     IsTrue out.tells → (text : List ℕ) × (after.written ≡ out.written ++ (text ++ outcome_text outcome))
-
--- what an outcome leaves in the files: an end what it says, and a failed read all as it was; after a failed write or
--- want of memory nothing is said of the file that the command writes
-abbrev pub Leaves : Option Command → FilesData → FilesData → Result Ending Failure → Type 0
-Leaves command old new (Ok ending) = CommandLeaves old.contents new.contents command ending
-Leaves command old new (Err (ReadFault name)) = new.contents ≡ old.contents
-Leaves command old new (Err (WriteFault name)) = Unit {0}
-Leaves command old new (Err Memory) = Unit {0}
 
 -- no file changes but those that the command writes, and where the files tell these are as the outcome says
 pub record KeepsFiles (command : Option Command) (old new : FilesData) (outcome : Result Ending Failure) : Type 0 where

@@ -1,5 +1,5 @@
 -- What files tell: a design, blocks, choices or a certificate, or why they tell none.
-use Rattle.std.specs.Prelude.{◌≡◌, ℕ, ◌≤◌, Option, Some, Ok, Err, List, length, Contains}
+use Rattle.std.specs.Prelude.{◌≡◌, ℕ, ◌≤◌, Option, Some, Ok, Err, List, length}
 use Rattle.tm_base.specs.Files.{IsLonger}
 use Rattle.tm_syntax.specs.declared.fault.Faulty.{Faulty as Fault}
 use Rattle.tm_syntax.specs.declared.token.Token.{Token}
@@ -18,7 +18,6 @@ use Rattle.tm_cert.specs.Judge.{judge_text}
 use Rattle.tm_shape.specs.Shape.{shape_of}
 use Rattle.tm_commands.specs.declared.ending.Ending.{Ending}
 use Rattle.tm_commands.specs.declared.ending.Ending.TheVariants.{Faulty, BadText}
-use Rattle.tm_commands.specs.declared.ending.Bad.{Bad}
 use Rattle.tm_commands.specs.declared.ending.Bad.TheVariants.{TooLong, Driver, Cert, Choices}
 use Rattle.tm_play.specs.Script.{ScriptData}
 use Rattle.tm_play.specs.Choices.{reading_of}
@@ -87,10 +86,24 @@ pub record TellsBadCert (contents : List ℕ → Option (List ℕ)) (cert : List
   pub short : length text ≤ file_limit
   pub fault : judge_text (shape_of d wanted) text ≡ Err bad
 
--- one of these files is refused
-pub data RefusesOne (names : List (List ℕ)) : Ending → Type 0 where
-  faulty_one : {file : List ℕ} {f : Fault} → Contains names file → RefusesOne names (Faulty f)
-  bad_one : {file : List ℕ} {why : Bad} → Contains names file → RefusesOne names (BadText file why)
+-- SPEC is refused, whatever it holds
+pub data RefusesSpecification : Ending → Type 0 where
+  refuses_specification : {f : Fault} → RefusesSpecification (Faulty f)
+
+-- DRIVER is refused, whatever it holds
+pub data RefusesBlocks (driver : List ℕ) : Ending → Type 0 where
+  refuses_long_driver : RefusesBlocks driver (BadText driver TooLong)
+  refuses_bad_driver : {bad : BadDriver} → RefusesBlocks driver (BadText driver (Driver bad))
+
+-- CHOICES is refused, whatever it holds
+pub data RefusesScript (choices : List ℕ) : Ending → Type 0 where
+  refuses_long_choices : RefusesScript choices (BadText choices TooLong)
+  refuses_bad_choices : {n : ℕ} → RefusesScript choices (BadText choices (Choices n))
+
+-- CERT is refused, whatever it holds
+pub data RefusesCert (cert : List ℕ) : Ending → Type 0 where
+  refuses_long_cert : RefusesCert cert (BadText cert TooLong)
+  refuses_bad_cert : {bad : BadCert} → RefusesCert cert (BadText cert (Cert bad))
 
 -- why SPEC tells no design
 pub data NoSpecification (contents : List ℕ → Option (List ℕ)) (spec : List ℕ) : Ending → Type 0 where

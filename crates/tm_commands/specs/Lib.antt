@@ -4,6 +4,7 @@ pub mod Headline
 pub mod Inner
 pub mod Inputs
 pub mod Migrate
+pub mod Order
 pub mod Report
 pub mod Run
 pub mod Status

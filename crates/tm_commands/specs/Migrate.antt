@@ -1,16 +1,15 @@
 -- The command `migrate`: how it ends, and what it leaves in the files.
 use Rattle.std.specs.Prelude.{◌≡◌, ℕ, Option, List}
-use Rattle.tm_syntax.specs.declared.fault.Faulty.{Faulty as Fault}
 use Rattle.tm_syntax.specs.Design.{DesignTree}
 use Rattle.tm_cert.specs.declared.cert.Cert.{Cert}
 use Rattle.tm_cert.specs.declared.shape.Kind.TheVariants.{Either}
 use Rattle.tm_cert.specs.CertValue.{IsCertText}
 use Rattle.tm_cert.specs.Written.{cert_text}
 use Rattle.tm_shape.specs.Shape.{shape_of}
-use Rattle.tm_commands.specs.declared.ending.Bad.{Bad}
 use Rattle.tm_commands.specs.declared.ending.Ending.{Ending}
-use Rattle.tm_commands.specs.declared.ending.Ending.TheVariants.{Faulty, BadText, Migrated}
+use Rattle.tm_commands.specs.declared.ending.Ending.TheVariants.{Migrated}
 use Rattle.tm_commands.specs.Inputs.{Tells, TellsSpecification, TellsCert, NoSpecification, NoCert}
+use Rattle.tm_commands.specs.Inputs.{RefusesSpecification, RefusesCert}
 
 -- how `migrate` ends: SPEC has a fault, CERT tells no certificate over its design, or CERT's certificate is written
 pub data MigrateEnds (contents : List ℕ → Option (List ℕ)) (spec cert : List ℕ) : Ending → Type 0 where
@@ -20,10 +19,10 @@ pub data MigrateEnds (contents : List ℕ → Option (List ℕ)) (spec cert : Li
   migrates : {d : DesignTree} {c : Cert} →
       TellsSpecification contents spec d → TellsCert contents cert d Either c → MigrateEnds contents spec cert Migrated
 
--- one of the files of `migrate` is refused
+-- one of the files of `migrate` is refused, whatever they hold
 pub data MigrateRefuses (cert : List ℕ) : Ending → Type 0 where
-  refuses_spec : {f : Fault} → MigrateRefuses cert (Faulty f)
-  refuses_cert : {why : Bad} → MigrateRefuses cert (BadText cert why)
+  refuses_spec : {ending : Ending} → RefusesSpecification ending → MigrateRefuses cert ending
+  refuses_cert : {ending : Ending} → RefusesCert cert ending → MigrateRefuses cert ending
 
 -- the ends that `migrate` may have, whatever its files hold
 pub data MigrateMayEnd (cert : List ℕ) : Ending → Type 0 where

@@ -7,7 +7,7 @@ use Rattle.tm_commands.specs.declared.ending.Ending.TheVariants.{Play}
 use Rattle.tm_play.specs.declared.ending.PlayEnd.{PlayEnd}
 use Rattle.tm_play.specs.Script.{ScriptData}
 use Rattle.tm_commands.specs.Inputs.{TellsSpecification, TellsBlocks, TellsScript, NoSpecification, NoBlocks, NoScript}
-use Rattle.tm_commands.specs.Inputs.{RefusesOne}
+use Rattle.tm_commands.specs.Inputs.{RefusesSpecification, RefusesBlocks, RefusesScript}
 use Rattle.tm_play.specs.Played.{Ends, IsPart}
 
 -- the files of `run` tell a design, blocks, and choices
@@ -43,7 +43,9 @@ pub data IsRunPart (contents : List ℕ → Option (List ℕ)) (spec driver choi
   some_lines : {d : DesignTree} {bs : List BlockTree} {c : ScriptData} {text : List ℕ} →
       Loads contents spec driver choices d bs c → IsPart d bs c text → IsRunPart contents spec driver choices text
 
--- the ends that `run` may have, whatever its files hold: that of a play, or that one of these files is refused
-pub data RunMayEnd (names : List (List ℕ)) : Ending → Type 0 where
-  may_refuse : {ending : Ending} → RefusesOne names ending → RunMayEnd names ending
-  may_play : {end : PlayEnd} → RunMayEnd names (Play end)
+-- the ends that `run` may have, whatever its files hold: that one of them is refused, or that of a play
+pub data RunMayEnd (driver choices : List ℕ) : Ending → Type 0 where
+  may_refuse_design : {ending : Ending} → RefusesSpecification ending → RunMayEnd driver choices ending
+  may_refuse_blocks : {ending : Ending} → RefusesBlocks driver ending → RunMayEnd driver choices ending
+  may_refuse_script : {ending : Ending} → RefusesScript choices ending → RunMayEnd driver choices ending
+  may_play : {end : PlayEnd} → RunMayEnd driver choices (Play end)

@@ -49,20 +49,23 @@ abbrev pub registers_of : List ℕ → Option ℕ
 registers_of word =
     option_and_then (λ n. then_some (is_filled word && not (nat_lt most_registers n)) n) (digits_after 0 word)
 
--- each command with its positional words
+-- `run` with its positional words
 abbrev pub run_of : List (List ℕ) → Option Command
 run_of (spec ∷ driver ∷ choices ∷ []) = Some (run spec driver choices)
 run_of _ = None
 
+-- `check` with its positional words
 abbrev pub check_of : List (List ℕ) → Option Command
 check_of (spec ∷ cert ∷ []) = Some (check_environment spec cert)
 check_of (spec ∷ driver ∷ cert ∷ []) = Some (check_driver spec driver cert)
 check_of _ = None
 
+-- `gen` with its positional words
 abbrev pub generate_of : List (List ℕ) → Option Command
 generate_of (registers ∷ out ∷ []) = option_map (λ n. generate n out) (registers_of registers)
 generate_of _ = None
 
+-- `migrate` with its positional words
 abbrev pub migrate_of : List (List ℕ) → Option Command
 migrate_of (spec ∷ cert ∷ out ∷ []) = Some (migrate spec cert out)
 migrate_of _ = None

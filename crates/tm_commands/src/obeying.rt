@@ -108,7 +108,7 @@ pub fn obey_and_report<F: Files, O: Sink>(
     ensures long { IfOk (outcome_of result) (IsLongShown
         (files_data ⟦<F as Files>⟧ files.old) (files_data ⟦<F as Files>⟧ files.new)) }
 
-    // A fault is one that a count shows.
+    // A fault is one that a count shows, and where the files tell, those before the file in question were judged well.
     ensures fault { IfErr (outcome_of result) (IsShown (command_of (map string_bytes words.now))
         (files_data ⟦<F as Files>⟧ files.old) (files_data ⟦<F as Files>⟧ files.new)
         (sink_data ⟦<O as Sink>⟧ out.old) (sink_data ⟦<O as Sink>⟧ out.new)) }
@@ -121,7 +121,8 @@ pub fn obey_and_report<F: Files, O: Sink>(
         (sink_data ⟦<O as Sink>⟧ out.old) (sink_data ⟦<O as Sink>⟧ out.new) (outcome_of result) }
 
     // No file changes but those that the command writes. At `Generated` and `Migrated` what they hold is the text or
-    // the certificate that was asked for; where a read failed or a text is refused none of them has changed.
+    // the certificate that was asked for; where a read failed or a text is refused none of them has changed. Where the
+    // output failed they are as the outcome says whose lines it did not take.
     ensures files { KeepsFiles (command_of (map string_bytes words.now))
         (files_data ⟦<F as Files>⟧ files.old) (files_data ⟦<F as Files>⟧ files.new) (outcome_of result) }
 {

@@ -1,15 +1,13 @@
 //! The game of a design.
-ghost use Rattle.std.specs.Prelude.{◌≡◌, IfOk, sum};
+ghost use Rattle.std.specs.Prelude.{IfOk, sum};
 ghost use Rattle.tm_design_game.specs.Ordered.{IsOrderedGame};
 ghost use Rattle.tm_flat.specs.Flat.{flat_terms};
-ghost use Rattle.tm_flat.specs.Inputs.{input_widths};
 ghost use Rattle.tm_game.specs.Game.{IsOf};
 ghost use Rattle.tm_game.specs.Start.{CanStart};
 ghost use Rattle.tm_levels.specs.Order.{IsOrder};
 ghost use Rattle.tm_sem.specs.StateBits.{state_widths};
 ghost use Rattle.tm_syntax.specs.Design.View.{design_tree};
 ghost use Rattle.tm_syntax.specs.Faults.{IsOfText, IsSound};
-ghost use Rattle.tm_term.specs.Table as terms;
 
 use std::alloc::{AllocError, Global};
 use tm_flat::Flat;
@@ -17,25 +15,13 @@ use tm_game::Game;
 use tm_markable::sound_designs_of_texts_are_markable;
 use tm_syntax::design::Design;
 use tm_term::Terms;
-use tm_updates::{flatten, inputs};
+use tm_updates::{empty_terms, flatten};
 
 // The guarded updates of a design, with the terms that they are made of.
 #[derive(Drop)]
 struct Updates {
     flat: Flat,
     terms: Terms,
-}
-
-// No terms yet, over the inputs of a design.
-fn no_terms(alloc: Global, design: &Design) -> Result<Terms, AllocError>
-    requires sound { IsSound (design_tree design.now) }
-    requires of_text { IsOfText (design_tree design.now).spec }
-    ensures inputs { IfOk result (λ terms. terms.inputs ≡ input_widths (design_tree design.now)) }
-    ensures sound { IfOk result terms.IsSound }
-{
-    let widths = inputs(alloc, design)?;
-    let terms = Terms::new(alloc, &widths)?;
-    Ok(terms)
 }
 
 // The guarded updates of a design of a text.
@@ -45,7 +31,7 @@ fn make_updates(alloc: Global, design: &Design) -> Result<Updates, AllocError>
     ensures { IfOk result (λ u. CanStart (design_tree design.now) u.terms (flat_terms u.flat)) }
 {
     sound_designs_of_texts_are_markable();
-    let mut terms = no_terms(alloc, design)?;
+    let mut terms = empty_terms(alloc, design)?;
     let flat = flatten(alloc, design, &mut terms)?;
     Ok(Updates { flat, terms })
 }

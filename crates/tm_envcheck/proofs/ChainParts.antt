@@ -18,12 +18,12 @@ use Rattle.tm_envcheck.specs.Tried.{AreTried}
 use Rattle.tm_envcheck.specs.Verdict.{CanCheck}
 use Rattle.tm_envcheck.proofs.Growing.{chain_kept, test_kept}
 use Rattle.tm_envcheck.proofs.LevelParts.{added, first_alone, forced_same, goal_is, in_first_alone, is_added, same_level, test_is}
-use Rattle.tm_envcheck.proofs.Tests.{set_tells}
-use Rattle.tm_envcheck.proofs.Trying.{part_fails, part_tried, tried_stop, tried_then}
+use Rattle.tm_envcheck.proofs.Trying.{part_fails, part_tried}
 use Rattle.tm_failures.specs.Levels.{IsAtPlace, IsDecided, IsForced, IsFound, lower_at}
 use Rattle.tm_forcing.specs.Functions.{Assignment}
 use Rattle.tm_game.specs.Game.{AreFairs, GameData, Grows, IsStates}
 use Rattle.tm_game.specs.Least.{test_of}
+use Rattle.tm_game.proofs.SetTests.{set_tells}
 use Rattle.tm_sem.specs.Certificates.{Level, either, level_before, set_before}
 use Rattle.tm_sem.specs.Fairness.{IsFair}
 use Rattle.tm_sem.specs.State.{StateData}
@@ -31,7 +31,9 @@ use Rattle.tm_sem.specs.Step.{IsInitial, IsState}
 use Rattle.tm_syntax.specs.Design.{DesignTree}
 use Rattle.tm_verdicts.specs.declared.verdict.Verdict.{Verdict}
 use Rattle.tm_verdicts.specs.declared.verdict.Verdict.TheVariants.{Accepted, Refused}
-use Rattle.tm_verdicts.specs.Environment.{IsReported, Passes, chain_of, chain_parts, chains_of, grows, is_chain, is_in_chain, lies_in, set_parts, waits_or_falls}
+use Rattle.tm_verdicts.specs.Environment.{IsReported, Passes, chain_of, chain_parts, chains_of, grows, is_chain}
+use Rattle.tm_verdicts.specs.Environment.{is_in_chain, level_meaning, lies_in, set_parts, waits_or_falls}
+use Rattle.tm_verdicts.proofs.Trying.{refused_stop, tried_then}
 use Rattle.tm_verdicts.specs.Reported.{IsFirstOf}
 
 -- ---- the sets of chains
@@ -226,7 +228,7 @@ module _ (d : DesignTree) (g : GameData) (of : List Level) (k : ℕ) (l : LevelD
         AreTried d of (chain_parts of k i) v
     empty_tried none Accepted is = absurd is
     empty_tried none (Refused condition goal s) is =
-        tried_stop d of (is_chain k i ∷ [])
+        refused_stop (level_meaning d of) (is_chain k i ∷ [])
         (flat_map (set_parts k i) (range_with_len 0 (length (chain_of of k i)))) condition goal s
         (is_chain_tried none (Refused condition goal s) is)
 
@@ -234,7 +236,7 @@ module _ (d : DesignTree) (g : GameData) (of : List Level) (k : ℕ) (l : LevelD
         AreTried d of (flat_map (set_parts k i) (range_with_len 0 (length chain))) v →
         AreTried d of (chain_parts of k i) v
     sets_tried some v tried =
-        tried_then d of (is_chain k i ∷ [])
+        tried_then (level_meaning d of) (is_chain k i ∷ [])
         (flat_map (set_parts k i) (range_with_len 0 (length (chain_of of k i)))) v (is_chain_passes some, tt)
         (subst (λ (n : ℕ). AreTried d of (flat_map (set_parts k i) (range_with_len 0 n)) v) (sym chain_long) tried)
 
@@ -306,7 +308,7 @@ module _ (d : DesignTree) (g : GameData) (of : List Level) (k : ℕ) (l : LevelD
         lower_same x = λ j. either (set_before (told_same j) x) (below_same j)
 
         fair_iff : (s : StateData) → IsState d s → (test_of d g met s ≡ true) ↔ IsFair d s i
-        fair_iff = set_tells d g ready can.of (λ t. IsFair d t i) met met_is
+        fair_iff = set_tells d g can.of ready.order (λ t. IsFair d t i) met met_is
 
         pub waits_tried : Passes d of (is_in_chain k i) → ((s : StateData) → IsState d s →
             (test_of d n failing s ≡ true)

@@ -13,12 +13,12 @@ use Rattle.tm_envcheck.specs.Inner.Told.{TellsLevel, level_told}
 use Rattle.tm_envcheck.specs.Tried.{AreTried}
 use Rattle.tm_envcheck.specs.Verdict.{CanCheck}
 use Rattle.tm_envcheck.proofs.Growing.{test_kept}
-use Rattle.tm_envcheck.proofs.Tests.{set_tells}
 use Rattle.tm_envcheck.proofs.Trying.{part_tried, part_wanted}
 use Rattle.tm_failures.specs.Levels.{IsDecided, IsForced, IsFound}
 use Rattle.tm_forcing.specs.Functions.{Assignment}
 use Rattle.tm_game.specs.Game.{GameData, Grows, IsStates}
 use Rattle.tm_game.specs.Least.{test_of}
+use Rattle.tm_game.proofs.SetTests.{set_tells}
 use Rattle.tm_sem.specs.Certificates.{IsIn, Level, level_before}
 use Rattle.tm_sem.specs.Play.{goal_holds}
 use Rattle.tm_sem.specs.State.{StateData}
@@ -187,7 +187,8 @@ module _ (d : DesignTree) (g : GameData) (of : List Level) (k : ℕ) (l : LevelD
                   level_told d g l,
                   tells.here,
                   added over s both.0,
-                  (set_tells d g ready can.of (λ t. goal_holds d t l.goal ≡ true) holds holds_is s valid).0 both.1,
+                  (set_tells d g can.of ready.order (λ t. goal_holds d t l.goal ≡ true) holds holds_is s valid).0
+                      both.1,
                   λ forced. parts.1 (forced_same d (level_before of k) (test_of d h l.before) s (sym lower) forced),
                 ),
             λ is.
@@ -196,7 +197,7 @@ module _ (d : DesignTree) (g : GameData) (of : List Level) (k : ℕ) (l : LevelD
                   here_at s
                       ∙ and_from (test_of d g l.added s) (test_of d g holds s)
                       (is_added over s is.0 is.1 is.2.0 is.2.1)
-                      ((set_tells d g ready can.of (λ t. goal_holds d t l.goal ≡ true) holds holds_is s valid).1
+                      ((set_tells d g can.of ready.order (λ t. goal_holds d t l.goal ≡ true) holds holds_is s valid).1
                       (ap (goal_holds d s) (sym goal) ∙ is.3)),
                   λ forced. is.4 (forced_same d (test_of d h l.before) (level_before of k) s lower forced),
                 ),

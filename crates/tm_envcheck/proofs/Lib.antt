@@ -7,7 +7,6 @@ pub mod Loaded
 pub mod LoadedChains
 pub mod Operations
 pub mod Reporting
-pub mod Tests
 pub mod Trying
 pub mod Verdicts
 pub mod Whole

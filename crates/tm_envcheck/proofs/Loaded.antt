@@ -15,10 +15,10 @@ use Rattle.tm_envcheck.specs.declared.levels.LevelDiagrams.{LevelDiagrams}
 use Rattle.tm_envcheck.specs.Inner.Loaded.{AreLoadedLevels, IsLoadedLevel, before_at, chain_at, id_at}
 use Rattle.tm_envcheck.specs.Inner.Over.{AreSets}
 use Rattle.tm_envcheck.specs.Inner.Told.{TellLevels, chain_told, level_told}
-use Rattle.tm_envcheck.proofs.Tests.{false_test}
 use Rattle.tm_game.specs.Game.{GameData, Grows}
 use Rattle.tm_game.specs.Least.{test_of}
 use Rattle.tm_game.proofs.Growing.{means_kept}
+use Rattle.tm_game.proofs.MadeSets.{false_test}
 use Rattle.tm_loading.specs.Loaded.{AreLoaded}
 use Rattle.tm_sem.specs.Certificates.{Level, level_before, nowhere}
 use Rattle.tm_sets.specs.Fitting.{AreNodes, FitsLevel}

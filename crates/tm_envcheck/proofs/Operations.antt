@@ -1,19 +1,20 @@
 -- Operations on sets of states, over what the sets were before.
-use Rattle.std.proofs.Common.{◌≡◌, ◌⊎◌, inl, inr, ℕ, true, false, ◌&&◌, ◌||◌, not, List, sym, ap, ◌∙◌, subst}
+use Rattle.std.proofs.Common.{◌≡◌, ◌⊎◌, inl, inr, ℕ, true, false, ◌&&◌, ◌||◌, not, List, sym, ◌∙◌, subst}
 use Rattle.std.specs.Prelude.{◌↔◌}
 use Rattle.std.proofs.lemmas.Bool.{cases_Bool}
 use Rattle.tm_dd.specs.declared.node.NodeId.{NodeId}
 use Rattle.tm_dd.specs.Table.{Table, means}
 use Rattle.tm_ddops.specs.Manager.{IsFunction}
 use Rattle.tm_envcheck.specs.Inner.Over.{IsReady}
-use Rattle.tm_envcheck.proofs.Growing.{means_at, ready_kept, test_kept}
+use Rattle.tm_envcheck.proofs.Growing.{means_at, test_kept}
 use Rattle.tm_envcheck.proofs.LevelParts.{first_alone, in_first_alone, test_is}
-use Rattle.tm_envcheck.proofs.Tests.{set_tells, states_set}
 use Rattle.tm_failures.specs.Levels.{IsForced}
 use Rattle.tm_forcing.specs.Functions.{Assignment}
 use Rattle.tm_game.specs.Game.{GameData, Grows, IsOf, IsSet, IsStates, in_set}
 use Rattle.tm_game.specs.Least.{test_of}
-use Rattle.tm_game.proofs.Growing.{of_kept, set_kept}
+use Rattle.tm_game.proofs.Growing.{of_kept, order_kept}
+use Rattle.tm_game.proofs.MadeSets.{pair_made}
+use Rattle.tm_game.proofs.SetTests.{set_tells, states_set}
 use Rattle.tm_sem.specs.Forcing.{Forced}
 use Rattle.tm_sem.specs.State.{StateData}
 use Rattle.tm_sem.specs.Step.{IsState}
@@ -26,33 +27,11 @@ module _ (g h : GameData) (grows : Grows g h) (a b : NodeId) (in_a : IsSet g a) 
   either_value is v =
       is.meaning v ∙ (λ i. means_at g h grows a in_a v i || means_at g h grows b in_b v i)
 
-  pub either_set : IsFunction h.diagrams.table id (λ v. means h.diagrams.table a v || means h.diagrams.table b v) →
-      IsSet h id
-  either_set is =
-      let first = set_kept g h grows a in_a in
-      let second = set_kept g h grows b in_b in
-      record {
-        known = is.known;
-        reads = λ v w same.
-            is.meaning v ∙ (λ i. first.reads v w same i || second.reads v w same i) ∙ sym (is.meaning w);
-      }
-
   pub both_value : IsFunction h.diagrams.table id (λ v. means h.diagrams.table a v && means h.diagrams.table b v) →
       (v : Assignment) →
       means h.diagrams.table id v ≡ (means g.diagrams.table a v && means g.diagrams.table b v)
   both_value is v =
       is.meaning v ∙ (λ i. means_at g h grows a in_a v i && means_at g h grows b in_b v i)
-
-  pub both_set : IsFunction h.diagrams.table id (λ v. means h.diagrams.table a v && means h.diagrams.table b v) →
-      IsSet h id
-  both_set is =
-      let first = set_kept g h grows a in_a in
-      let second = set_kept g h grows b in_b in
-      record {
-        known = is.known;
-        reads = λ v w same.
-            is.meaning v ∙ (λ i. first.reads v w same i && second.reads v w same i) ∙ sym (is.meaning w);
-      }
 
   -- the complement of the second
   module _ (other : NodeId)
@@ -68,16 +47,10 @@ module _ (g h : GameData) (grows : Grows g h) (a b : NodeId) (in_a : IsSet g a) 
     pub without_set : IsFunction h.diagrams.table id
         (λ v. means h.diagrams.table a v && means h.diagrams.table other v) → IsSet h id
     without_set is =
-        let first = set_kept g h grows a in_a in
-        let second = set_kept g h grows b in_b in
-        record {
+        pair_made g h grows (λ x y. x && not y) a b id in_a in_b (record {
           known = is.known;
-          reads = λ v w same.
-              is.meaning v
-              ∙ (λ i. first.reads v w same i
-              && (other_is h.diagrams.table v ∙ ap not (second.reads v w same) ∙ sym (other_is h.diagrams.table w)) i)
-              ∙ sym (is.meaning w);
-        }
+          meaning = λ v. is.meaning v ∙ (λ i. means h.diagrams.table a v && other_is h.diagrams.table v i);
+        })
 
 -- ---- what is forced
 module _ (d : DesignTree) (g h : GameData) (grows : Grows g h) (ready : IsReady g) (of : IsOf d g)
@@ -90,12 +63,12 @@ module _ (d : DesignTree) (g h : GameData) (grows : Grows g h) (ready : IsReady 
 
   pub forced_set : IsSet h forced
   forced_set =
-      states_set d h (ready_kept g h grows ready) (of_kept g h grows d of) (Forced d (in_set d g target)) forced
+      states_set d h (of_kept g h grows d of) (order_kept g h grows ready.order) (Forced d (in_set d g target)) forced
       forced_states
 
   forced_iff : (s : StateData) → IsState d s → (test_of d h forced s ≡ true) ↔ IsForced d (test_of d g target) s
   forced_iff =
-      set_tells d h (ready_kept g h grows ready) (of_kept g h grows d of) (Forced d (in_set d g target)) forced
+      set_tells d h (of_kept g h grows d of) (order_kept g h grows ready.order) (Forced d (in_set d g target)) forced
       forced_states
 
   pub forced_settled : (s : StateData) → IsState d s →

@@ -14,11 +14,12 @@ use Rattle.tm_envcheck.specs.Inner.Told.{TellLevels}
 use Rattle.tm_envcheck.specs.Tried.{AreTried}
 use Rattle.tm_envcheck.specs.Verdict.{CanCheck}
 use Rattle.tm_envcheck.proofs.LevelParts.{test_is}
-use Rattle.tm_envcheck.proofs.Tests.{false_set, false_test, set_tells}
 use Rattle.tm_envcheck.proofs.Trying.{part_wanted}
 use Rattle.tm_forcing.specs.Functions.{Assignment}
 use Rattle.tm_game.specs.Game.{GameData, Grows, IsSet, IsStates}
 use Rattle.tm_game.specs.Least.{HoldsNowhere, test_of}
+use Rattle.tm_game.proofs.MadeSets.{false_set, false_test}
+use Rattle.tm_game.proofs.SetTests.{set_tells}
 use Rattle.tm_sem.specs.Certificates.{IsIn, Level, last_level, level_before, nowhere}
 use Rattle.tm_sem.specs.State.{StateData}
 use Rattle.tm_sem.specs.StateBits.{IsLeast}
@@ -68,7 +69,7 @@ last_in g levels are last is = subst (IsSet g) (sym is) (at (length levels) refl
 module _ (d : DesignTree) (g : GameData) (ready : IsReady g) (can : CanCheck d g) (initial : NodeId)
     (initial_is : IsStates d g.order g.diagrams.table (IsInitial d) initial) where
   initial_iff : (s : StateData) → IsState d s → (test_of d g initial s ≡ true) ↔ IsInitial d s
-  initial_iff = set_tells d g ready can.of (IsInitial d) initial initial_is
+  initial_iff = set_tells d g can.of ready.order (IsInitial d) initial initial_is
 
   pub initial_in : (s : StateData) → IsInitial d s → IsIn d (test_of d g initial) s
   initial_in s begins =

@@ -20,16 +20,7 @@ use Rattle.tm_verdicts.proofs.LevelParts.{meets_of_parts}
 verdict_is : (d : DesignTree) (levels : List Level) → HasShape d levels → (v : Verdict) →
     AreTried d levels (level_parts levels) v → IsEnvironmentVerdict d levels v
 verdict_is d levels shape Accepted tried = meets_of_parts d levels shape tried
-verdict_is d levels shape (Refused condition goal s) tried = record {
-  before = tried.before;
-  part = tried.part;
-  behind = tried.behind;
-  parts = tried.parts;
-  passed = tried.passed;
-  number = tried.number;
-  of_goal = tried.of_goal;
-  reported = tried.reported;
-}
+verdict_is d levels shape (Refused condition goal s) tried = tried
 
 -- the verdict on a certificate that fits the game of the design
 pub told_verdict : (d : DesignTree) (g : GameData) (c : EnvData) → length g.goals ≡ length d.goals →

@@ -1,32 +1,29 @@
 -- The parts of all conditions, as they are tried.
-use Rattle.std.proofs.Common.{◌≡◌, ℕ, List, [], ◌∷◌, ◌++◌, length, map, refl, sym, ap, ◌∙◌, arith}
+use Rattle.std.proofs.Common.{◌≡◌, ℕ, List, [], ◌∷◌, ◌++◌, length, map, sym, ap, ◌∙◌, arith}
 use Rattle.std.specs.List.{AllByRecursion, flat_map}
 use Rattle.std.specs.Option.{option_map_or}
 use Rattle.std.proofs.lemmas.List.{append-nil}
+use Rattle.std.proofs.lemmas.List.Concat.{flat_map_single}
 use Rattle.std.proofs.lemmas.Option.{slice_get_within}
 use Rattle.tm_envcheck.specs.declared.conditions.LevelCondition.TheVariants.{Shape, InChains, WaitsOrFalls}
 use Rattle.tm_envcheck.specs.Inner.Parts.{parts_at, step_parts}
 use Rattle.tm_sem.specs.Certificates.{Level}
 use Rattle.tm_syntax.specs.Design.{DesignTree}
-use Rattle.tm_verdicts.specs.Environment.{LevelPart, Passes, begins_lost, chain_places, chains_of, is_forced_on, is_forced_within, is_in_chain, level_parts, level_places, waits_or_falls}
+use Rattle.tm_verdicts.specs.Environment.{Passes, begins_lost, chain_places, chains_of, is_forced_on}
+use Rattle.tm_verdicts.specs.Environment.{is_forced_within, is_in_chain, level_parts, level_places, waits_or_falls}
 use Rattle.tm_verdicts.proofs.Listed.{each_below, each_flat}
-
--- one part for each
-listed : {X : Type 0} (f : X → LevelPart) (xs : List X) → flat_map (λ x. f x ∷ []) xs ≡ map f xs
-listed f [] = refl
-listed f (x ∷ xs) = ap (λ parts. f x ∷ parts) (listed f xs)
 
 pub whole : (of : List Level) →
     flat_map (parts_at Shape of) (level_places of) ++ ((begins_lost ∷ []) ++ step_parts of) ≡ level_parts of
 whole of =
-    let ons = listed is_forced_on (level_places of) in
-    let withins = listed is_forced_within (level_places of) in
+    let ons = flat_map_single is_forced_on (level_places of) in
+    let withins = flat_map_single is_forced_within (level_places of) in
     let chains : flat_map (parts_at InChains of) (level_places of)
     ≡ flat_map (λ k. map (is_in_chain k) (chain_places of k)) (level_places of) =
-    λ i. flat_map (λ k. listed (is_in_chain k) (chain_places of k) i) (level_places of) in
+    λ i. flat_map (λ k. flat_map_single (is_in_chain k) (chain_places of k) i) (level_places of) in
     let waits : flat_map (parts_at WaitsOrFalls of) (level_places of)
     ≡ flat_map (λ k. map (waits_or_falls k) (chain_places of k)) (level_places of) =
-    λ i. flat_map (λ k. listed (waits_or_falls k) (chain_places of k) i) (level_places of) in
+    λ i. flat_map (λ k. flat_map_single (waits_or_falls k) (chain_places of k) i) (level_places of) in
     let last = waits ∙ sym (append-nil (flat_map (λ k. map (waits_or_falls k) (chain_places of k)) (level_places of)))
     in
     λ i. flat_map (parts_at Shape of) (level_places of)

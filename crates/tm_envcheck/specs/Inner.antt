@@ -1,4 +1,3 @@
-pub mod Leading
 pub mod Loaded
 pub mod Over
 pub mod Parts

@@ -20,6 +20,7 @@ use Rattle.tm_forcing.proofs.Extended.{Knows-Extends, means-Extends}
 use Rattle.tm_game.specs.Game.{GameData, Grows, IsStates}
 use Rattle.tm_game.proofs.Growing.{of_kept, order_kept, states_kept}
 use Rattle.tm_game.proofs.Ordered.{order_is}
+use Rattle.tm_game.proofs.SetTests.{set_tells as test_tells, states_set as reads_set}
 use Rattle.tm_levels.specs.Order.{IsOrder}
 use Rattle.tm_sem.specs.Fairness.{IsFair}
 use Rattle.tm_sem.specs.Play.{goal_holds}
@@ -87,27 +88,15 @@ module _ (d : DesignTree) (g : GameData) (is : IsExactOf d g) where
   pub states_set : (IsSuch : StateData → Type 0) (id : NodeId) → IsStates d g.order g.diagrams.table IsSuch id →
       IsStateSet g id
   states_set IsSuch id set = record {
-    set = record {
-      known = set.known;
-      reads = λ v w same.
-          let state = coding_told.same v w same in
-          let one = states_iff g.diagrams.table IsSuch id set v in
-          let two = states_iff g.diagrams.table IsSuch id set w in
-          iff_same (means g.diagrams.table id v) (means g.diagrams.table id w)
-          (λ h. two.1 (subst (λ (s : StateData). IsState d s × IsSuch s) state (one.0 h)))
-          (λ h. one.1 (subst (λ (s : StateData). IsState d s × IsSuch s) (sym state) (two.0 h)));
-    };
+    set = reads_set d g is.ordered.of is.ordered.order IsSuch id set;
     valid = λ v h. (valid_told v).1 ((states_iff g.diagrams.table IsSuch id set v).0 h).0;
   }
 
   pub set_tells : (IsSuch : StateData → Type 0) (id : NodeId) → IsStates d g.order g.diagrams.table IsSuch id →
       (s : StateData) → IsState d s → (set_of g id s ≡ true) ↔ IsSuch s
   set_tells IsSuch id set s state =
-      let back = coding_told.back s state in
-      let iff = states_iff g.diagrams.table IsSuch id set ((coding g).assignment_of s) in (
-        λ h. subst IsSuch back (iff.0 h).1,
-        λ h. iff.1 (subst (IsState d) (sym back) state, subst IsSuch (sym back) h),
-      )
+      subst (λ (c : Coding). (means g.diagrams.table id (c.assignment_of s) ≡ true) ↔ IsSuch s) (sym coding_same)
+      (test_tells d g is.ordered.of is.ordered.order IsSuch id set s state)
 
   -- ---- equal sets
   set_near : (id : NodeId) → IsStateSet g id → (v : Assignment) →

@@ -56,17 +56,20 @@ abbrev pub stays_where : (g : GameFunctions) (into : Function) (v : Assignment) 
 stays_where g into v (inl valid) = is_second (forced_or_stays (outside into) into (λ w. refl) g v valid)
 stays_where g into v (inr not_so) = false
 
+-- the same where the values tell a valid state, and nowhere else
 abbrev pub stays_out : GameFunctions → Function → Assignment → Bool
 stays_out g into v = stays_where g into v (true_or_false (g.valid v))
 
 -- ---- the game
--- the coding, the game over bits, and the valid states of a game
+-- the coding of a game
 abbrev pub coding : GameData → Coding
 coding g = coding_in g.flat g.order
 
+-- a game over bits
 abbrev pub functions : GameData → GameFunctions
 functions g = functions_in g.terms g.flat g.order
 
+-- the valid states of a game
 abbrev pub valid_set : GameData → Function
 valid_set g = means g.diagrams.table g.valid
 

@@ -10,10 +10,12 @@ pub mod GoodMoves
 pub mod Growing
 pub mod KeptSets
 pub mod LeastStates
+pub mod MadeSets
 pub mod Ordered
 pub mod PermittedMoves
 pub mod Reading
 pub mod Restoring
+pub mod SetTests
 pub mod Shapes
 pub mod Short
 pub mod Starting

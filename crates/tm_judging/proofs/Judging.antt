@@ -11,12 +11,17 @@ use Rattle.tm_envcheck.specs.Verdict.{IsEnvironmentVerdict}
 use Rattle.tm_failures.specs.Regular.{IsRegular}
 use Rattle.tm_game.specs.Game.{GameData}
 use Rattle.tm_judging.specs.Judged.{CanJudgeDriver, CanJudgeEnvironment}
+use Rattle.tm_judging.proofs.OneVerdict.{only_environment_verdict}
+use Rattle.tm_room.proofs.Room.{are_small}
 use Rattle.tm_sem.specs.State.{StateData}
 use Rattle.tm_sem.specs.StateBits.{state_widths}
 use Rattle.tm_sem.specs.Step.{IsInitial}
 use Rattle.tm_sets.specs.Fitting.{FitsEnvironment}
 use Rattle.tm_sets.specs.Sets.{levels_of}
+use Rattle.tm_syntax.specs.declared.design.Design.{Design}
 use Rattle.tm_syntax.specs.Design.{DesignTree}
+use Rattle.tm_syntax.specs.Design.View.{design_tree}
+use Rattle.tm_syntax.specs.Faults.{IsOfText, IsSound}
 use Rattle.tm_syntax.proofs.Limits as limits
 use Rattle.tm_verdicts.specs.declared.verdict.Verdict.{Verdict}
 
@@ -50,14 +55,20 @@ can_check_driver d bs c g can regular begins is = record {
   few = omega (arith, limits.few_goals d can.sound);
 }
 
-pub can_check_environment : (d : DesignTree) (order : List ℕ) (g : GameData) → IsRegular d →
-    ((s : StateData) × IsInitial d s) → IsOrderedGame d order g → environments.CanCheck d g
-can_check_environment d order g regular begins is = record { of = is.of; regular = regular; begins = begins }
+-- the game of a design of a text, which is regular and begins somewhere, can be asked about certificates
+pub can_check_environment : {d : DesignTree} {order : List ℕ} {c : EnvData} {g : GameData} →
+    (IsSound d → IsOfText d.spec → IsRegular d) → (IsSound d → IsOfText d.spec → (s : StateData) × IsInitial d s) →
+    CanJudgeEnvironment d c → IsOrderedGame d order g → environments.CanCheck d g
+can_check_environment regular begins can is = record {
+  of = is.of;
+  regular = regular can.sound can.of_text;
+  begins = begins can.sound can.of_text;
+}
 
 -- a certificate that fits a design fits the numbers of its game
-pub fits_game : (d : DesignTree) (c : EnvData) (g : GameData) → CanJudgeEnvironment d c → IsOrderedGame d c.order g →
-    FitsEnvironment (length g.order) (length g.goals) (length g.fairs) c
-fits_game d c g can is =
+pub fits_game : (d : DesignTree) (order : List ℕ) (c : EnvData) (g : GameData) → CanJudgeEnvironment d c →
+    IsOrderedGame d order g → FitsEnvironment (length g.order) (length g.goals) (length g.fairs) c
+fits_game d order c g can is =
     subst (λ (n : ℕ). FitsEnvironment n (length g.goals) (length g.fairs) c) (sym is.bits)
     (subst (λ (n : ℕ). FitsEnvironment (sum (state_widths d)) n (length g.fairs) c) (sym is.goals)
     (subst (λ (n : ℕ). FitsEnvironment (sum (state_widths d)) (length d.goals) n c) (sym is.fairs) can.cert))
@@ -67,5 +78,15 @@ pub verdict_of : {E : Type 0} (d : DesignTree) (c : EnvData) (g : GameData) (ans
     environments.CanCheck d g →
     IfOk answer (λ v. (e : DesignTree) → environments.CanCheck e g → IsEnvironmentVerdict e (levels_of e c) v) →
     IfOk answer (IsEnvironmentVerdict d (levels_of d c))
-verdict_of d c g (Ok v) can is = is d can
-verdict_of d c g (Err e) can is = tt
+verdict_of d c g (Ok v) check is = is d check
+verdict_of d c g (Err e) check is = tt
+
+-- and the only one
+pub only_verdict_of : {E : Type 0} (d : Design) (c : EnvData) (g : GameData) (answer : Result Verdict E) →
+    CanJudgeEnvironment (design_tree d) c → environments.CanCheck (design_tree d) g →
+    IfOk answer (λ v. (e : DesignTree) → environments.CanCheck e g → IsEnvironmentVerdict e (levels_of e c) v) →
+    IfOk answer (λ verdict. (other : Verdict) →
+    IsEnvironmentVerdict (design_tree d) (levels_of (design_tree d) c) other → verdict ≡ other)
+only_verdict_of d c g answer can check is =
+    only_environment_verdict (design_tree d) (are_small d can.sound can.of_text) check.regular.initial
+    (levels_of (design_tree d) c) answer (verdict_of (design_tree d) c g answer check is)

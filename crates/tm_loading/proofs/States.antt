@@ -1,5 +1,5 @@
 -- The set of an id, as a diagram.
-use Rattle.std.proofs.Common.{◌≡◌, ℕ, Bool, true, false, List, Some, length, refl, sym, ◌∙◌, arith}
+use Rattle.std.proofs.Common.{◌≡◌, ℕ, Bool, true, List, Some, length, sym, ◌∙◌, arith}
 use Rattle.std.specs.Prelude.{◌&&◌, slice_get}
 use Rattle.tm_assigned.specs.States.{coding_of, state_of}
 use Rattle.tm_cert.specs.declared.cert.Entry.{Entry}
@@ -9,16 +9,13 @@ use Rattle.tm_dd.specs.Reduced.{Extends}
 use Rattle.tm_dd.specs.Table.{Table, means}
 use Rattle.tm_ddops.specs.Manager.{IsFunction}
 use Rattle.tm_forcing.proofs.Extended.{IsSetOf-Extends}
+use Rattle.tm_forcing.proofs.Sets.{both_true}
 use Rattle.tm_game.specs.Game.{IsStates}
 use Rattle.tm_loading.specs.Loaded.{AreLoaded}
 use Rattle.tm_sets.specs.Fitting.{AreNodes}
 use Rattle.tm_sets.specs.Sets.{bit_at, id_holds, set_of}
 use Rattle.tm_sets.proofs.Values.{reads_levels}
 use Rattle.tm_syntax.specs.Design.{DesignTree}
-
-both : (a b : Bool) → (a && b) ≡ true → (a ≡ true) × (b ≡ true)
-both true b is = (refl, is)
-both false b is = absurd (cc)
 
 -- a loaded id stays what it is where a table has grown
 pub loaded_still : (s t : Table) (nodes : List Entry) (ids : List NodeId) (k : ℕ) (id : NodeId) → Extends s t →
@@ -44,7 +41,7 @@ module _ (d : DesignTree) (order : List ℕ) (coding : IsCoding d (coding_of d o
   set_is s valid id k valid_is is = record {
     known = is.known;
     only = λ v there.
-        let parts = both (means s valid v) (id_holds nodes k v) (sym (is.meaning v) ∙ there) in
+        let parts = both_true (means s valid v) (id_holds nodes k v) (sym (is.meaning v) ∙ there) in
         ((valid_is.only v parts.0).0, sym (at_state k v) ∙ parts.1);
     all = λ v such.
         is.meaning v ∙ (λ i. valid_is.all v (such.0, tt) i && (at_state k v ∙ such.1) i);

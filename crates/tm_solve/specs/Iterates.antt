@@ -39,13 +39,15 @@ abbrev pub Each : {A : Type 0} → (A → Type 0) → List A → Type 0
 Each P [] = Unit {0}
 Each P (x ∷ xs) = P x × Each P xs
 
--- each id of a chain, of ranked sets, and of a level is known
+-- each id of a chain is known
 abbrev pub KnowsChain : Ids → Chain → Type 0
 KnowsChain ids c = Each ids.knows c.sets.items
 
+-- each id of ranked sets is known
 abbrev pub KnowsRanks : Ids → List RankSet → Type 0
 KnowsRanks ids rs = Each (λ (r : RankSet). ids.knows r.set) rs
 
+-- each id of a level is known
 abbrev pub KnowsLevel : Ids → LevelSet → Type 0
 KnowsLevel ids l = ids.knows l.set × Each (KnowsChain ids) l.chains.items
 

@@ -23,10 +23,11 @@ inputs_at d order v = input_values (state_of d order v) (choices_at order v) (ar
 abbrev pub IsTruth : Table → DesignTree → List ℕ → TermId → Function → Type 0
 IsTruth t d order id f = (v : Assignment) → value_of t (inputs_at d order v) id ≡ bit (f v)
 
--- the levels of the bits of choices, and of arguments
+-- the levels of the bits of choices
 abbrev pub choice_levels : List ℕ → List ℕ
 choice_levels order = range_with_len (choice_level order) room
 
+-- the levels of the bits of arguments
 abbrev pub argument_levels : List ℕ → List ℕ
 argument_levels order = range_with_len (length order) room
 

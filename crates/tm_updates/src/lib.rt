@@ -3,6 +3,7 @@
 #![tactic(auto)]
 
 mod claims;
+mod empty;
 mod layout;
 mod moves;
 mod predicates;
@@ -12,5 +13,6 @@ mod updater;
 mod updates;
 mod widths;
 
+pub use empty::empty_terms;
 pub use updates::flatten;
 pub use widths::inputs;

@@ -114,7 +114,8 @@ fn flatten_by(alloc: Global, tables: &Tables<'_>, terms: &mut Terms) -> Result<F
 /// A design of a text as guarded updates over terms of its `inputs`: for each process and location, and for each
 /// controllable task, terms that tell exactly the outcomes of the step, for every state and every list of choices; its
 /// goals, its fairness conditions, its initial and its valid states; and the pool of predicates, with the number of
-/// those that the abstraction begins with. Each id that was handed out before means what it meant.
+/// those that the abstraction begins with. Each id that was handed out before means what it meant, where no want of
+/// memory is answered; where it is, nothing is said of the terms.
 ///
 /// Takes time linear in what is left to be done at each location and in each task, with the bodies that these call, and
 /// in the cells at each join. `AllocError` is want of memory.

@@ -3,3 +3,4 @@ pub mod LevelParts
 pub mod Listed
 pub mod RefusedDrivers
 pub mod RefusedLevels
+pub mod Trying

@@ -1,7 +1,7 @@
 -- What the checker of a driver's certificate answers: that every condition holds, or the first that does not.
-use Rattle.std.specs.Prelude.{◌≡◌, ℕ, ◌<◌, ◌≤◌, ◌⊎◌, true, false, Some, List, [], ◌∷◌, ◌++◌, map, length, slice_get}
+use Rattle.std.specs.Prelude.{◌≡◌, ℕ, ◌<◌, ◌≤◌, ◌⊎◌, true, false, Some, List, [], ◌∷◌, map, length, slice_get}
 use Rattle.std.specs.Option.{option_map_or}
-use Rattle.std.specs.List.{AllByRecursion, flat_map, range_with_len}
+use Rattle.std.specs.List.{flat_map, range_with_len}
 use Rattle.tm_syntax.specs.Design.{DesignTree}
 use Rattle.tm_sem.specs.declared.state.Move.{Move}
 use Rattle.tm_sem.specs.declared.state.Outcome.TheVariants.{Next}
@@ -11,6 +11,7 @@ use Rattle.tm_sem.specs.Play.{goal_holds}
 use Rattle.tm_sem.specs.Forcing.{IsCalm, Keeps, Leads}
 use Rattle.tm_sem.specs.Certificates.{AddsState, AreRanked, DriverSets, IsFairAtRank, IsIn, IsMade, RankedSet, rank}
 use Rattle.tm_verdicts.specs.Reported.{IsFirstOf}
+use Rattle.tm_verdicts.specs.Tried.{IsRefusedAmong, Meaning}
 
 -- a part of a condition, with the goal, and the place of the ranked region, of which it speaks
 pub data DriverPart : Type 0 where
@@ -132,14 +133,16 @@ IsReported d answers c (adds_state goal k) s =
     (ranked : List RankedSet) × AreRanked c goal ranked × (¬ AddsState d ranked k) × IsFirstOf d (IsInitial d) s
 IsReported d answers c part s = IsFirstOf d (FailsAt d answers c part) s
 
+-- what the parts of a driver's certificate mean
+abbrev pub driver_meaning : DesignTree → (StateData → ℕ → Move → Type 0) → DriverSets → Meaning DriverPart
+driver_meaning d answers c = record {
+  passes = Passes d answers c;
+  condition = driver_condition;
+  goal = driver_goal;
+  reports = IsReported d answers c;
+}
+
 -- a certificate is refused: all parts before one pass, and that one fails
-pub record IsRefused (d : DesignTree) (answers : StateData → ℕ → Move → Type 0) (c : DriverSets)
-    (condition goal : ℕ) (s : StateData) : Type 0 where
-  pub before : List DriverPart
-  pub part : DriverPart
-  pub behind : List DriverPart
-  pub parts : driver_parts c ≡ before ++ part ∷ behind
-  pub passed : AllByRecursion (Passes d answers c) before
-  pub number : condition ≡ driver_condition part
-  pub of_goal : goal ≡ driver_goal part
-  pub reported : IsReported d answers c part s
+abbrev pub IsRefused : DesignTree → (StateData → ℕ → Move → Type 0) → DriverSets → ℕ → ℕ → StateData → Type 0
+IsRefused d answers c condition goal s =
+    IsRefusedAmong (driver_meaning d answers c) (driver_parts c) condition goal s

@@ -1,7 +1,7 @@
 -- What the checker of an environment's certificate answers: that every condition holds, or the first that does not.
-use Rattle.std.specs.Prelude.{◌≡◌, ℕ, ◌<◌, ◌⊎◌, Bool, true, false, Some, List, [], ◌∷◌, ◌++◌, map, length, slice_get}
+use Rattle.std.specs.Prelude.{◌≡◌, ℕ, ◌<◌, ◌⊎◌, Bool, true, false, Some, List, [], ◌∷◌, map, length, slice_get}
 use Rattle.std.specs.Option.{option_map_or}
-use Rattle.std.specs.List.{AllByRecursion, flat_map, list_any, position_or_len, range_with_len}
+use Rattle.std.specs.List.{flat_map, list_any, position_or_len, range_with_len}
 use Rattle.tm_syntax.specs.Design.{DesignTree}
 use Rattle.tm_sem.specs.State.{StateData}
 use Rattle.tm_sem.specs.Step.{IsInitial}
@@ -10,6 +10,7 @@ use Rattle.tm_sem.specs.Fairness.{IsFair, conditions}
 use Rattle.tm_sem.specs.Forcing.{Forced}
 use Rattle.tm_sem.specs.Certificates.{E1, IsIn, IsNew, Level, either, level_before, set_before}
 use Rattle.tm_verdicts.specs.Reported.{IsFirstOf}
+use Rattle.tm_verdicts.specs.Tried.{IsRefusedAmong, Meaning}
 
 -- a part of a condition, with the places of the level, of the chain in it and of the set in that, of which it speaks
 pub data LevelPart : Type 0 where
@@ -62,10 +63,11 @@ chains_of levels k = option_map_or (λ (l : Level). l.chains) (slice_get levels 
 abbrev pub chain_of : List Level → ℕ → ℕ → List (StateData → Bool)
 chain_of levels k i = option_map_or (λ chain. chain) (slice_get (chains_of levels k) i) []
 
--- the places of levels, and those of the chains of a level
+-- the places of levels
 abbrev pub level_places : List Level → List ℕ
 level_places levels = range_with_len 0 (length levels)
 
+-- the places of the chains of a level
 abbrev pub chain_places : List Level → ℕ → List ℕ
 chain_places levels k = range_with_len 0 (length (chains_of levels k))
 
@@ -97,10 +99,11 @@ level_parts_by_condition levels =
 abbrev pub level_parts : List Level → List LevelPart
 level_parts levels = flat_map (λ parts. parts) (level_parts_by_condition levels)
 
--- the level of a place, and the chain of a place in it
+-- the level of a place
 abbrev pub IsLevel : List Level → ℕ → Level → Type 0
 IsLevel levels k l = slice_get levels k ≡ Some l
 
+-- the chain of a place in a level
 abbrev pub IsChain : Level → ℕ → List (StateData → Bool) → Type 0
 IsChain l i chain = slice_get l.chains i ≡ Some chain
 
@@ -168,16 +171,19 @@ IsReported d levels (is_chain k i) s = (¬ Passes d levels (is_chain k i)) × Is
 IsReported d levels begins_lost s = (¬ Passes d levels begins_lost) × IsFirstOf d (IsInitial d) s
 IsReported d levels part s = IsFirstOf d (FailsAt d levels part) s
 
+-- what the parts of an environment's certificate mean
+abbrev pub level_meaning : DesignTree → List Level → Meaning LevelPart
+level_meaning d levels = record {
+  passes = Passes d levels;
+  condition = level_condition;
+  goal = level_goal levels;
+  reports = IsReported d levels;
+}
+
 -- a certificate is refused: all parts before one pass, and that one fails
-pub record IsRefused (d : DesignTree) (levels : List Level) (condition goal : ℕ) (s : StateData) : Type 0 where
-  pub before : List LevelPart
-  pub part : LevelPart
-  pub behind : List LevelPart
-  pub parts : level_parts levels ≡ before ++ part ∷ behind
-  pub passed : AllByRecursion (Passes d levels) before
-  pub number : condition ≡ level_condition part
-  pub of_goal : goal ≡ level_goal levels part
-  pub reported : IsReported d levels part s
+abbrev pub IsRefused : DesignTree → List Level → ℕ → ℕ → StateData → Type 0
+IsRefused d levels condition goal s =
+    IsRefusedAmong (level_meaning d levels) (level_parts levels) condition goal s
 
 -- each level has a goal of the design, and a chain for each fairness condition
 pub record HasShape (d : DesignTree) (levels : List Level) : Type 0 where

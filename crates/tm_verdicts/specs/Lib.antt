@@ -1,3 +1,4 @@
 pub mod Driver
 pub mod Environment
 pub mod Reported
+pub mod Tried

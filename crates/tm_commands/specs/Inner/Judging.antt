@@ -61,6 +61,7 @@ HasJudgedEnvironment d c out after ending =
     × (IsTrue out.tells → after.written ≡ out.written
     ++ environment_text d (length c.levels) (length (conditions d)) (longest_chain (levels_of d c)) v)
 
+-- and cut off for an environment
 abbrev pub HasCutEnvironment : DesignTree → EnvData → SinkData → SinkData → Type 0
 HasCutEnvironment d c out after =
     (text : List ℕ) × ((text ≡ []) ⊎ ((v : Verdict) × IsVerdictOnLevels d c v

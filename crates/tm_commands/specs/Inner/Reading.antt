@@ -40,11 +40,6 @@ abbrev pub refusal_of : FrontError → Stop
 refusal_of (front.Faulty f) = Ends (endings.Faulty f)
 refusal_of front.Memory = Fails failures.Memory
 
--- an end that tells a fault of a specification
-abbrev pub IsFaulty : Ending → Type 0
-IsFaulty (endings.Faulty f) = Unit {0}
-IsFaulty _ = ⊥
-
 -- an end that tells the fault of a text that is no certificate
 abbrev pub IsBadCert : List ℕ → ReadCertError → Ending → Type 0
 IsBadCert name (Bad bad) ending = ending ≡ endings.BadText name (bad_file.Cert bad)

@@ -20,11 +20,18 @@ abbrev pub stop_outcome : Stop → Result Ending Failure
 stop_outcome (Ends ending) = Ok ending
 stop_outcome (Fails failure) = Err failure
 
--- memory ran out, or a read of one of these files failed, which its count shows
-abbrev pub IsReadFailure : List (List ℕ) → FilesData → FilesData → Failure → Type 0
-IsReadFailure names old new Memory = Unit {0}
-IsReadFailure names old new (ReadFault name) = Contains names name × HasFailedRead old new name
-IsReadFailure names old new (WriteFault name) = ⊥
+-- memory ran out, or a read of this file failed, which its count shows
+abbrev pub IsReadFailure : List ℕ → FilesData → FilesData → Failure → Type 0
+IsReadFailure name old new Memory = Unit {0}
+IsReadFailure name old new (ReadFault other) = (other ≡ name) × HasFailedRead old new name
+IsReadFailure name old new (WriteFault other) = ⊥
+
+-- memory ran out, or a read of one of these files failed, which its count shows, and where the files tell it was due
+abbrev pub IsLoadFailure : List (List ℕ) → (List ℕ → Type 0) → FilesData → FilesData → Failure → Type 0
+IsLoadFailure names IsDue old new Memory = Unit {0}
+IsLoadFailure names IsDue old new (ReadFault name) =
+    Contains names name × HasFailedRead old new name × (IsTrue old.tells → IsDue name)
+IsLoadFailure names IsDue old new (WriteFault name) = ⊥
 
 -- memory ran out, or a write of this file failed, which its count shows
 abbrev pub IsWriteFailure : List ℕ → FilesData → FilesData → Failure → Type 0

@@ -1,11 +1,11 @@
 //! Reading and judging a certificate.
-ghost use Rattle.std.specs.Prelude.{◌≡◌, [], ◌∷◌, ℕ, List, IsTrue, IfOk, IfErr};
+ghost use Rattle.std.specs.Prelude.{◌≡◌, ℕ, List, IsTrue, IfOk, IfErr};
 ghost use Rattle.tm_syntax.specs.Design.{DesignTree};
 ghost use Rattle.tm_cert.specs.declared.shape.Kind.{Kind as Wanted};
 ghost use Rattle.tm_cert.specs.CertValue.{IsCertText};
 ghost use Rattle.tm_shape.specs.Shape.{shape_of};
 ghost use Rattle.tm_commands.specs.World.{files_data, OnlyReads};
-ghost use Rattle.tm_commands.specs.Inputs.{TellsCert, NoCert, RefusesOne};
+ghost use Rattle.tm_commands.specs.Inputs.{TellsCert, NoCert, RefusesCert};
 ghost use Rattle.tm_commands.specs.Inner.Reading.{IsBadCert};
 ghost use Rattle.tm_commands.specs.Inner.Stopping.{StopsBy, IsMemory, IsReadFailure, IsRefusal};
 
@@ -36,9 +36,9 @@ pub fn load_cert<F: Files>(
         TellsCert (F.contents files.old) cert.now d wanted c) }
     ensures read { IfOk result (λ c. (text : List ℕ) × IsCertText shape text c) }
     ensures stopped { (d : DesignTree) (wanted : Wanted) → shape ≡ shape_of d wanted → IfErr result (StopsBy
-        (IsRefusal (NoCert (F.contents files.old) cert.now d wanted) (RefusesOne (cert.now ∷ []))
+        (IsRefusal (NoCert (F.contents files.old) cert.now d wanted) (RefusesCert cert.now)
         (files_data ⟦<F as Files>⟧ files.old) (files_data ⟦<F as Files>⟧ files.new))
-        (IsReadFailure (cert.now ∷ [])
+        (IsReadFailure cert.now
         (files_data ⟦<F as Files>⟧ files.old) (files_data ⟦<F as Files>⟧ files.new))) }
     ensures files { OnlyReads (files_data ⟦<F as Files>⟧ files.old) (files_data ⟦<F as Files>⟧ files.new) }
 {

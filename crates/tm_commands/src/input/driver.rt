@@ -8,11 +8,12 @@ ghost use Rattle.tm_sem.specs.StateBits.{state_widths};
 ghost use Rattle.tm_sets.specs.Fitting.{FitsDriver};
 ghost use Rattle.tm_syntax.specs.Design.View.{design_tree};
 ghost use Rattle.tm_syntax.specs.Faults.{IsOfText, IsSound};
-ghost use Rattle.tm_commands.specs.Check.{NoDriver};
+ghost use Rattle.tm_commands.specs.Check.{CheckDriverMayEnd, NoDriver};
 ghost use Rattle.tm_commands.specs.World.{files_data, OnlyReads};
-ghost use Rattle.tm_commands.specs.Inputs.{TellsCert, NoCert, RefusesOne};
+ghost use Rattle.tm_commands.specs.Inputs.{TellsCert, NoCert, RefusesCert};
+ghost use Rattle.tm_commands.specs.Order.{IsDueOfThree};
 ghost use Rattle.tm_commands.specs.Inner.Judging.{IsDriverRead};
-ghost use Rattle.tm_commands.specs.Inner.Stopping.{StopsBy, IsReadFailure, IsRefusal};
+ghost use Rattle.tm_commands.specs.Inner.Stopping.{StopsBy, IsLoadFailure, IsReadFailure, IsRefusal};
 
 use crate::ending::Stop;
 use crate::input::certificate::load_cert;
@@ -47,9 +48,9 @@ fn load_driver_cert<F: Files>(
     ensures fits { IfOk result (FitsDriver (sum (state_widths (design_tree design.now)))
         (length (design_tree design.now).goals) (length (conditions (design_tree design.now)))) }
     ensures stopped { IfErr result (StopsBy (IsRefusal
-        (NoCert (F.contents files.old) cert.now (design_tree design.now) Driver) (RefusesOne (cert.now ∷ []))
+        (NoCert (F.contents files.old) cert.now (design_tree design.now) Driver) (RefusesCert cert.now)
         (files_data ⟦<F as Files>⟧ files.old) (files_data ⟦<F as Files>⟧ files.new))
-        (IsReadFailure (cert.now ∷ [])
+        (IsReadFailure cert.now
         (files_data ⟦<F as Files>⟧ files.old) (files_data ⟦<F as Files>⟧ files.new))) }
     ensures files { OnlyReads (files_data ⟦<F as Files>⟧ files.old) (files_data ⟦<F as Files>⟧ files.new) }
 {
@@ -77,9 +78,10 @@ pub fn load_driver<F: Files>(
         (design_tree i.design) (trees_of i.blocks) i.cert) }
     ensures stopped { IfErr result (StopsBy
         (IsRefusal (NoDriver (F.contents files.old) spec.now driver.now cert.now)
-        (RefusesOne (spec.now ∷ driver.now ∷ cert.now ∷ []))
+        (CheckDriverMayEnd driver.now cert.now)
         (files_data ⟦<F as Files>⟧ files.old) (files_data ⟦<F as Files>⟧ files.new))
-        (IsReadFailure (spec.now ∷ driver.now ∷ cert.now ∷ [])
+        (IsLoadFailure (spec.now ∷ driver.now ∷ cert.now ∷ [])
+        (IsDueOfThree (F.contents files.old) spec.now driver.now cert.now)
         (files_data ⟦<F as Files>⟧ files.old) (files_data ⟦<F as Files>⟧ files.new))) }
     ensures files { OnlyReads (files_data ⟦<F as Files>⟧ files.old) (files_data ⟦<F as Files>⟧ files.new) }
 {

@@ -7,11 +7,12 @@ ghost use Rattle.tm_sem.specs.StateBits.{state_widths};
 ghost use Rattle.tm_sets.specs.Fitting.{FitsEnvironment};
 ghost use Rattle.tm_syntax.specs.Design.View.{design_tree};
 ghost use Rattle.tm_syntax.specs.Faults.{IsOfText, IsSound};
-ghost use Rattle.tm_commands.specs.Check.{NoEnvironment};
+ghost use Rattle.tm_commands.specs.Check.{CheckEnvironmentMayEnd, NoEnvironment};
 ghost use Rattle.tm_commands.specs.World.{files_data, OnlyReads};
-ghost use Rattle.tm_commands.specs.Inputs.{TellsCert, NoCert, RefusesOne};
+ghost use Rattle.tm_commands.specs.Inputs.{TellsCert, NoCert, RefusesCert};
+ghost use Rattle.tm_commands.specs.Order.{IsDueOfTwo};
 ghost use Rattle.tm_commands.specs.Inner.Judging.{IsEnvironmentRead};
-ghost use Rattle.tm_commands.specs.Inner.Stopping.{StopsBy, IsReadFailure, IsRefusal};
+ghost use Rattle.tm_commands.specs.Inner.Stopping.{StopsBy, IsLoadFailure, IsReadFailure, IsRefusal};
 
 use crate::ending::Stop;
 use crate::input::certificate::load_cert;
@@ -53,9 +54,9 @@ fn load_levels<F: Files>(
         (length (design_tree design.now).goals) (length (conditions (design_tree design.now))) l.cert) }
     ensures fairs { IfOk result (λ l. l.fairs ≡ length (conditions (design_tree design.now))) }
     ensures stopped { IfErr result (StopsBy (IsRefusal
-        (NoCert (F.contents files.old) cert.now (design_tree design.now) Environment) (RefusesOne (cert.now ∷ []))
+        (NoCert (F.contents files.old) cert.now (design_tree design.now) Environment) (RefusesCert cert.now)
         (files_data ⟦<F as Files>⟧ files.old) (files_data ⟦<F as Files>⟧ files.new))
-        (IsReadFailure (cert.now ∷ [])
+        (IsReadFailure cert.now
         (files_data ⟦<F as Files>⟧ files.old) (files_data ⟦<F as Files>⟧ files.new))) }
     ensures files { OnlyReads (files_data ⟦<F as Files>⟧ files.old) (files_data ⟦<F as Files>⟧ files.new) }
 {
@@ -83,9 +84,9 @@ pub fn load_environment<F: Files>(
     ensures read { IfOk result (λ i. IsEnvironmentRead F.tells (F.contents files.old) spec.now cert.now
         (design_tree i.design) i.cert i.fairs) }
     ensures stopped { IfErr result (StopsBy
-        (IsRefusal (NoEnvironment (F.contents files.old) spec.now cert.now) (RefusesOne (spec.now ∷ cert.now ∷ []))
+        (IsRefusal (NoEnvironment (F.contents files.old) spec.now cert.now) (CheckEnvironmentMayEnd cert.now)
         (files_data ⟦<F as Files>⟧ files.old) (files_data ⟦<F as Files>⟧ files.new))
-        (IsReadFailure (spec.now ∷ cert.now ∷ [])
+        (IsLoadFailure (spec.now ∷ cert.now ∷ []) (IsDueOfTwo (F.contents files.old) spec.now cert.now)
         (files_data ⟦<F as Files>⟧ files.old) (files_data ⟦<F as Files>⟧ files.new))) }
     ensures files { OnlyReads (files_data ⟦<F as Files>⟧ files.old) (files_data ⟦<F as Files>⟧ files.new) }
 {

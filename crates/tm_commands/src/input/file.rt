@@ -1,5 +1,5 @@
 //! Reading one file, and what stops a command that cannot use it.
-ghost use Rattle.std.specs.Prelude.{◌≡◌, ◌≤◌, [], ◌∷◌, length, Some, IsTrue, IsNone, IfOk, IfErr, IfSome};
+ghost use Rattle.std.specs.Prelude.{◌≡◌, ◌≤◌, length, Some, IsTrue, IsNone, IfOk, IfErr, IfSome};
 ghost use Rattle.tm_base.specs.Files.{IsLonger};
 ghost use Rattle.tm_commands.specs.World.{files_data, OnlyReads, TookMoreThan};
 ghost use Rattle.tm_commands.specs.Inner.Stopping.{StopsBy, IsReadFailure, IsMemory};
@@ -24,7 +24,7 @@ pub fn read_file<F: Files>(
     ensures long { IfOk result (λ r. IsNone r → IsTrue F.tells → IsLonger (F.contents files.old name.now) limit) }
     ensures taken { IfOk result (λ r. IsNone r →
         TookMoreThan limit (files_data ⟦<F as Files>⟧ files.old) (files_data ⟦<F as Files>⟧ files.new)) }
-    ensures failure { IfErr result (IsReadFailure (name.now ∷ [])
+    ensures failure { IfErr result (IsReadFailure name.now
         (files_data ⟦<F as Files>⟧ files.old) (files_data ⟦<F as Files>⟧ files.new)) }
     ensures files { OnlyReads (files_data ⟦<F as Files>⟧ files.old) (files_data ⟦<F as Files>⟧ files.new) }
 {

@@ -4,10 +4,11 @@ ghost use Rattle.tm_syntax.specs.Design.View.{design_tree};
 ghost use Rattle.tm_cir.specs.View.{trees_of};
 ghost use Rattle.tm_cir.specs.Fit.{FitBlocks};
 ghost use Rattle.tm_commands.specs.World.{files_data, OnlyReads};
-ghost use Rattle.tm_commands.specs.Inputs.{TellsBlocks, TellsScript, NoBlocks, NoScript, RefusesOne};
-ghost use Rattle.tm_commands.specs.Run.{Loads, Refused};
+ghost use Rattle.tm_commands.specs.Inputs.{TellsBlocks, TellsScript, NoBlocks, NoScript, RefusesBlocks, RefusesScript};
+ghost use Rattle.tm_commands.specs.Order.{IsDueOfThree};
+ghost use Rattle.tm_commands.specs.Run.{Loads, Refused, RunMayEnd};
 ghost use Rattle.tm_play.specs.Playable.{IsPlayable};
-ghost use Rattle.tm_commands.specs.Inner.Stopping.{StopsBy, IsReadFailure, IsRefusal};
+ghost use Rattle.tm_commands.specs.Inner.Stopping.{StopsBy, IsLoadFailure, IsReadFailure, IsRefusal};
 
 use crate::ending::{Bad, Failure, Stop};
 use crate::input::file::{TEXT_BYTES, bad_text, read_file};
@@ -38,9 +39,9 @@ pub fn load_blocks<F: Files>(
         TellsBlocks (F.contents files.old) driver.now (design_tree design.now) (trees_of b)) }
     ensures fits { IfOk result (λ b. FitBlocks (design_tree design.now) (trees_of b)) }
     ensures stopped { IfErr result (StopsBy
-        (IsRefusal (NoBlocks (F.contents files.old) driver.now (design_tree design.now)) (RefusesOne (driver.now ∷ []))
+        (IsRefusal (NoBlocks (F.contents files.old) driver.now (design_tree design.now)) (RefusesBlocks driver.now)
         (files_data ⟦<F as Files>⟧ files.old) (files_data ⟦<F as Files>⟧ files.new))
-        (IsReadFailure (driver.now ∷ [])
+        (IsReadFailure driver.now
         (files_data ⟦<F as Files>⟧ files.old) (files_data ⟦<F as Files>⟧ files.new))) }
     ensures files { OnlyReads (files_data ⟦<F as Files>⟧ files.old) (files_data ⟦<F as Files>⟧ files.new) }
 {
@@ -66,9 +67,9 @@ fn load_script<F: Files>(
         TellsScript (F.contents files.old) choices.now (design_tree design.now) script) }
     ensures stopped { IfErr result (StopsBy
         (IsRefusal
-        (NoScript (F.contents files.old) choices.now (design_tree design.now)) (RefusesOne (choices.now ∷ []))
+        (NoScript (F.contents files.old) choices.now (design_tree design.now)) (RefusesScript choices.now)
         (files_data ⟦<F as Files>⟧ files.old) (files_data ⟦<F as Files>⟧ files.new))
-        (IsReadFailure (choices.now ∷ [])
+        (IsReadFailure choices.now
         (files_data ⟦<F as Files>⟧ files.old) (files_data ⟦<F as Files>⟧ files.new))) }
     ensures files { OnlyReads (files_data ⟦<F as Files>⟧ files.old) (files_data ⟦<F as Files>⟧ files.new) }
 {
@@ -97,9 +98,10 @@ pub fn load<F: Files>(
     ensures fits { IfOk result (λ i. FitBlocks (design_tree i.design) (trees_of i.blocks)) }
     ensures stopped { IfErr result (StopsBy
         (IsRefusal (Refused (F.contents files.old) spec.now driver.now choices.now)
-        (RefusesOne (spec.now ∷ driver.now ∷ choices.now ∷ []))
+        (RunMayEnd driver.now choices.now)
         (files_data ⟦<F as Files>⟧ files.old) (files_data ⟦<F as Files>⟧ files.new))
-        (IsReadFailure (spec.now ∷ driver.now ∷ choices.now ∷ [])
+        (IsLoadFailure (spec.now ∷ driver.now ∷ choices.now ∷ [])
+        (IsDueOfThree (F.contents files.old) spec.now driver.now choices.now)
         (files_data ⟦<F as Files>⟧ files.old) (files_data ⟦<F as Files>⟧ files.new))) }
     ensures files { OnlyReads (files_data ⟦<F as Files>⟧ files.old) (files_data ⟦<F as Files>⟧ files.new) }
 {

@@ -2,8 +2,9 @@
 ghost use Rattle.std.specs.Prelude.{[], ◌∷◌, IfOk, IfErr};
 ghost use Rattle.tm_commands.specs.World.{files_data, OnlyReads};
 ghost use Rattle.tm_commands.specs.Migrate.{MigrateEnds, MigrateRefuses};
+ghost use Rattle.tm_commands.specs.Order.{IsDueOfTwo};
 ghost use Rattle.tm_commands.specs.Inner.Reading.{IsMigration};
-ghost use Rattle.tm_commands.specs.Inner.Stopping.{StopsBy, IsReadFailure, IsRefusal};
+ghost use Rattle.tm_commands.specs.Inner.Stopping.{StopsBy, IsLoadFailure, IsRefusal};
 
 use crate::ending::Stop;
 use crate::input::certificate::load_cert;
@@ -32,7 +33,7 @@ pub fn load_migration<F: Files>(
     ensures stopped { IfErr result (StopsBy
         (IsRefusal (MigrateEnds (F.contents files.old) spec.now cert.now) (MigrateRefuses cert.now)
         (files_data ⟦<F as Files>⟧ files.old) (files_data ⟦<F as Files>⟧ files.new))
-        (IsReadFailure (spec.now ∷ cert.now ∷ [])
+        (IsLoadFailure (spec.now ∷ cert.now ∷ []) (IsDueOfTwo (F.contents files.old) spec.now cert.now)
         (files_data ⟦<F as Files>⟧ files.old) (files_data ⟦<F as Files>⟧ files.new))) }
     ensures files { OnlyReads (files_data ⟦<F as Files>⟧ files.old) (files_data ⟦<F as Files>⟧ files.new) }
 {

@@ -1,10 +1,10 @@
 //! Reading and judging a specification.
-ghost use Rattle.std.specs.Prelude.{◌≡◌, [], ◌∷◌, IfOk, IfErr};
+ghost use Rattle.std.specs.Prelude.{◌≡◌, IfOk, IfErr};
 ghost use Rattle.tm_syntax.specs.Design.View.{design_tree};
 ghost use Rattle.tm_commands.specs.Headline.{long_fault as fault_of_long_text};
 ghost use Rattle.tm_commands.specs.World.{files_data, OnlyReads};
-ghost use Rattle.tm_commands.specs.Inputs.{NoSpecification};
-ghost use Rattle.tm_commands.specs.Inner.Reading.{IsFaulty, IsRead, refusal_of};
+ghost use Rattle.tm_commands.specs.Inputs.{NoSpecification, RefusesSpecification};
+ghost use Rattle.tm_commands.specs.Inner.Reading.{IsRead, refusal_of};
 ghost use Rattle.tm_commands.specs.Inner.Stopping.{StopsBy, IsReadFailure, IsRefusal};
 
 use crate::ending::{Ending, Failure, Stop};
@@ -51,9 +51,9 @@ pub fn load_specification<F: Files>(
 ) -> Result<Design, Stop>
     ensures read { IfOk result (λ d. IsRead F.tells (F.contents files.old) spec.now (design_tree d)) }
     ensures stopped { IfErr result (StopsBy
-        (IsRefusal (NoSpecification (F.contents files.old) spec.now) IsFaulty
+        (IsRefusal (NoSpecification (F.contents files.old) spec.now) RefusesSpecification
         (files_data ⟦<F as Files>⟧ files.old) (files_data ⟦<F as Files>⟧ files.new))
-        (IsReadFailure (spec.now ∷ [])
+        (IsReadFailure spec.now
         (files_data ⟦<F as Files>⟧ files.old) (files_data ⟦<F as Files>⟧ files.new))) }
     ensures files { OnlyReads (files_data ⟦<F as Files>⟧ files.old) (files_data ⟦<F as Files>⟧ files.new) }
 {

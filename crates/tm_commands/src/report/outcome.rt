@@ -1,10 +1,11 @@
 //! The last lines of a report, which tell how a command ended.
-ghost use Rattle.std.specs.Prelude.{◌≡◌, ◌≤◌, ◌++◌, ℕ, codes, IsTrue, OnOk, OnErr, IfOk, IfErr};
+ghost use Rattle.std.specs.Prelude.{◌≡◌, ◌≢◌, ◌≤◌, ◌++◌, ℕ, codes, IsTrue, Err, OnOk, OnErr, IfOk, IfErr};
 ghost use Rattle.std.specs.Fmt.{decimal};
 ghost use Rattle.std.specs.List.{flat_map};
 ghost use Rattle.tm_base.specs.Sink.{AppendsPrefix};
 ghost use Rattle.tm_commands.specs.Report.{bad_cert_text, bad_driver_text, bad_text, usage_text};
 ghost use Rattle.tm_commands.specs.Report.{ending_text, failure_text, outcome_text};
+ghost use Rattle.tm_commands.specs.declared.ending.Failure.TheVariants.{Memory};
 ghost use Rattle.tm_commands.specs.World.{sink_data};
 ghost use Rattle.tm_commands.specs.Inner.Stopping.{IsSinkFailure};
 
@@ -180,9 +181,10 @@ fn put_ending<O: Sink>(alloc: Global, ending: &Ending, out: &mut O) -> Result<()
     }
 }
 
-/// The line that tells a failure; empty where none does.
+/// The line that tells a failure; empty where none does, which takes no memory.
 fn failure_line(alloc: Global, failure: &Failure) -> Result<Vec<u8>, AllocError>
-    ensures { IfOk result (λ line. line.items ≡ failure_text failure.now) }
+    ensures text { IfOk result (λ line. line.items ≡ failure_text failure.now) }
+    ensures told { OnErr result (failure.now ≢ Memory) }
 {
     match failure {
         Failure::ReadFault(name) => named_line(alloc, b"read fault ", name),
@@ -197,13 +199,14 @@ fn failure_line(alloc: Global, failure: &Failure) -> Result<Vec<u8>, AllocError>
     }
 }
 
-/// Puts the line that tells a failure: none where the output failed or memory ran out.
+/// Puts the line that tells a failure: none, so that no put fails, where the output failed or memory ran out.
 fn put_failure<O: Sink>(alloc: Global, failure: &Failure, out: &mut O) -> Result<(), Failure>
     ensures ok { OnOk result (IsTrue O.tells → O.written out.new ≡ O.written out.old ++ failure_text failure.now) }
     ensures err { OnErr result (IsTrue O.tells →
         AppendsPrefix (failure_text failure.now) (O.written out.old) (O.written out.new)) }
     ensures failure { IfErr result (IsSinkFailure
         (sink_data ⟦<O as Sink>⟧ out.old) (sink_data ⟦<O as Sink>⟧ out.new)) }
+    ensures told { OnErr result (failure.now ≢ Memory) }
     ensures no_fewer_faults { O.faults out.old ≤ O.faults out.new }
 {
     let line = failure_line(alloc, failure)?;
@@ -224,6 +227,7 @@ pub fn put_outcome<O: Sink>(
         AppendsPrefix (outcome_text outcome.now) (O.written out.old) (O.written out.new)) }
     ensures failure { IfErr result (IsSinkFailure
         (sink_data ⟦<O as Sink>⟧ out.old) (sink_data ⟦<O as Sink>⟧ out.new)) }
+    ensures told { OnErr result (outcome.now ≢ Err Memory) }
     ensures no_fewer_faults { O.faults out.old ≤ O.faults out.new }
 {
     match outcome {

@@ -10,10 +10,11 @@ use Rattle.tm_game.specs.declared.opening.Kept.{Kept}
 abbrev pub change_ids : List (ℕ × NodeId) → List NodeId
 change_ids changes = map (λ p. p.1) changes
 
--- the ids of a step, and of some steps
+-- the ids of a step
 abbrev pub step_ids : StepDiagrams → List NodeId
 step_ids step = step.legal ∷ (step.error ∷ change_ids step.next.items)
 
+-- the ids of some steps
 abbrev pub steps_ids : List StepDiagrams → List NodeId
 steps_ids steps = flat_map step_ids steps
 

@@ -1,6 +1,7 @@
 use Rattle.std.proofs.Common.{◌≡◌, true}
 use Rattle.tm_sem.specs.Play.{goal_holds}
-use Rattle.game_cases.proofs.KnownSets.{false_set, states_set}
+use Rattle.tm_game.proofs.MadeSets.{false_set}
+use Rattle.tm_game.proofs.SetTests.{states_set}
 use Rattle.game_cases.proofs.kept.goal_set.Goals as goal
 
 pub returns-then-goal-goals : goal.returns-then-goal-goals

@@ -1,6 +1,6 @@
 use Rattle.std.proofs.Common.{◌≡◌, true}
 use Rattle.tm_sem.specs.Step.{IsInitial, is_driver_turn}
-use Rattle.game_cases.proofs.KnownSets.{states_set}
+use Rattle.tm_game.proofs.SetTests.{states_set}
 use Rattle.game_cases.proofs.kept.kept_set.Goals as goal
 
 pub returns-in-initial : goal.returns-in-initial

@@ -1,7 +1,7 @@
 use Rattle.std.specs.Prelude.{◌&&◌}
 use Rattle.std.proofs.lemmas.Result.{IfOk-weaker}
 use Rattle.tm_game.proofs.Growing.{grows_then, known_kept, set_kept}
-use Rattle.game_cases.proofs.KnownSets.{pair_made}
+use Rattle.tm_game.proofs.MadeSets.{pair_made}
 use Rattle.game_cases.proofs.sets.both.Goals as goal
 
 pub and-requires-clause-f : goal.and-requires-clause-f

@@ -1,4 +1,4 @@
-use Rattle.game_cases.proofs.KnownSets.{false_set, true_set}
+use Rattle.tm_game.proofs.MadeSets.{false_set, true_set}
 use Rattle.game_cases.proofs.sets.constant_set.Goals as goal
 
 pub returns-then-is_full : goal.returns-then-is_full

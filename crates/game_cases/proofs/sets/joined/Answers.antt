@@ -1,7 +1,7 @@
 use Rattle.std.specs.Prelude.{◌&&◌, ◌||◌}
 use Rattle.std.proofs.lemmas.Result.{IfOk-weaker}
 use Rattle.tm_ddops.specs.Connective.{xor}
-use Rattle.game_cases.proofs.KnownSets.{pair_made}
+use Rattle.tm_game.proofs.MadeSets.{pair_made}
 use Rattle.game_cases.proofs.sets.joined.Goals as goal
 
 pub returns-in-And-clause-set : goal.returns-in-And-clause-set

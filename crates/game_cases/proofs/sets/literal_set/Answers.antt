@@ -1,7 +1,8 @@
 use Rattle.std.proofs.Common.{◌<◌, length, rules}
 use Rattle.std.proofs.lemmas.Result.{IfOk-weaker}
 use Rattle.tm_dd.specs.declared.node.TheConstants.{FALSE, TRUE}
-use Rattle.game_cases.proofs.KnownSets.{above_false, above_true, false_set, level_made, true_set}
+use Rattle.tm_game.proofs.MadeSets.{false_set, true_set}
+use Rattle.game_cases.proofs.LevelSets.{above_false, above_true, level_made}
 use Rattle.game_cases.proofs.sets.literal_set.Goals as goal
 
 pub returns-then-literal-order-clause-set : goal.returns-then-literal-order-clause-set

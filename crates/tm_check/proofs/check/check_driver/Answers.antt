@@ -5,7 +5,6 @@ use Rattle.tm_check.specs.Tried.{AreTried}
 use Rattle.tm_check.specs.Verdict.{IsDriverVerdict}
 use Rattle.tm_check.proofs.Checking.{all_parts, ranks_same, set_parts, sets_passed, step_parts, told_of, verdict_is}
 use Rattle.tm_check.proofs.Keeping.{told_kept}
-use Rattle.tm_check.proofs.PartsInOrder.{tried_stop, tried_then}
 use Rattle.tm_check.proofs.check.check_driver.Goals as goal
 use Rattle.tm_cir.specs.Answer.{Answers}
 use Rattle.tm_cir.specs.View.{trees_of}
@@ -15,7 +14,8 @@ use Rattle.tm_sem.specs.Strategy.{Good}
 use Rattle.tm_sets.specs.Sets.{driver_sets}
 use Rattle.tm_syntax.specs.Design.View.{design_tree}
 use Rattle.tm_verdicts.specs.declared.verdict.Verdict.TheVariants.{Accepted}
-use Rattle.tm_verdicts.specs.Driver.{DriverPart}
+use Rattle.tm_verdicts.specs.Driver.{DriverPart, driver_meaning}
+use Rattle.tm_verdicts.proofs.Trying.{tried_stop, tried_then}
 
 pub on_sets-requires : goal.on_sets-requires
 on_sets-requires c =
@@ -46,8 +46,8 @@ returns-in_default-clause-verdict c =
     verdict_is d (Answers bs) cs is.goals is.fairs c.in_ok-first.first
     (subst (λ (parts : List DriverPart). AreTried d (Answers bs) cs parts c.in_ok-first.first)
     (all_parts d (Answers bs) cs)
-    (tried_stop d (Answers bs) cs (set_parts d (Answers bs) cs) (step_parts d (Answers bs) cs) c.in_ok-first.first
-    c.in_default.not-Accepted (c.in_ok-first.ensures.tried d bs cs is)))
+    (tried_stop (driver_meaning d (Answers bs) cs) (set_parts d (Answers bs) cs) (step_parts d (Answers bs) cs)
+    c.in_ok-first.first c.in_default.not-Accepted (c.in_ok-first.ensures.tried d bs cs is)))
 
 pub all_replies-requires-clause-of : goal.all_replies-requires-clause-of
 all_replies-requires-clause-of c =
@@ -148,7 +148,7 @@ returns-clause-verdict c =
     (c.in_ok-first.ensures.tried d bs cs is) in
     let all = subst (λ (parts : List DriverPart). AreTried d (Answers bs) cs parts c.in_ok-verdict.verdict)
     (all_parts d (Answers bs) cs)
-    (tried_then d (Answers bs) cs (set_parts d (Answers bs) cs) (step_parts d (Answers bs) cs)
+    (tried_then (driver_meaning d (Answers bs) cs) (set_parts d (Answers bs) cs) (step_parts d (Answers bs) cs)
     c.in_ok-verdict.verdict sets
     (c.in_ok-verdict.ensures.tried d bs cs later answers (sets_passed d (Answers bs) cs sets))) in
     verdict_is d (Answers bs) cs is.goals is.fairs c.in_ok-verdict.verdict all
@@ -170,7 +170,7 @@ returns-clause-good c = λ accepted.
     (c.in_ok-first.ensures.tried d bs cs is) in
     let all = subst (λ (parts : List DriverPart). AreTried d (Answers bs) cs parts c.in_ok-verdict.verdict)
     (all_parts d (Answers bs) cs)
-    (tried_then d (Answers bs) cs (set_parts d (Answers bs) cs) (step_parts d (Answers bs) cs)
+    (tried_then (driver_meaning d (Answers bs) cs) (set_parts d (Answers bs) cs) (step_parts d (Answers bs) cs)
     c.in_ok-verdict.verdict sets
     (c.in_ok-verdict.ensures.tried d bs cs later answers (sets_passed d (Answers bs) cs sets))) in
     let same : c.in_ok-verdict.verdict ≡ Accepted = cc in

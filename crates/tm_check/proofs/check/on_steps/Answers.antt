@@ -3,15 +3,15 @@ use Rattle.tm_check.specs.Leaving.{AreLeaving}
 use Rattle.tm_check.specs.Tried.{AreTried}
 use Rattle.tm_check.proofs.Checking.{have_passed}
 use Rattle.tm_check.proofs.Keeping.{answers_kept, has_told_kept, leaving_kept, told_kept}
-use Rattle.tm_check.proofs.PartsInOrder.{tried_stop, tried_then}
 use Rattle.tm_check.proofs.check.on_steps.Goals as goal
 use Rattle.tm_cir.specs.Answer.{Answers}
 use Rattle.tm_game.proofs.Growing.{grows_then}
-use Rattle.tm_verdicts.specs.Driver.{falls_when_fair, goals_of, is_answered, never_rises}
+use Rattle.tm_verdicts.specs.Driver.{driver_meaning, falls_when_fair, goals_of, is_answered, never_rises}
+use Rattle.tm_verdicts.proofs.Trying.{tried_stop, tried_then}
 
 pub returns-in_default-clause-tried : goal.returns-in_default-clause-tried
 returns-in_default-clause-tried c = λ d bs cs is are passed.
-    tried_stop d (Answers bs) cs (map is_answered (goals_of cs))
+    tried_stop (driver_meaning d (Answers bs) cs) (map is_answered (goals_of cs))
     (map never_rises (goals_of cs) ++ map falls_when_fair (goals_of cs)) c.in_ok-first.first
     c.in_default.not-Accepted (c.in_ok-first.ensures.tried d bs cs is are)
 
@@ -115,9 +115,9 @@ returns-in-Accepted-second-clause-tried c = λ d bs cs is are passed.
     (answers_kept d c.args.game.now c.answering.new.game c.answering.ensures.grows bs c.args.answers.now are) in
     let second = c.in_ok-second.ensures.tried d bs cs at_second
     (subst (AreLeaving d bs cs c.leaving_sets.new.game) (sym c.deref.ensures.value) leaving_are) have in
-    tried_then d (Answers bs) cs (map is_answered (goals_of cs))
+    tried_then (driver_meaning d (Answers bs) cs) (map is_answered (goals_of cs))
     (map never_rises (goals_of cs) ++ map falls_when_fair (goals_of cs)) c.in_ok-last-in-Accepted-second.last first
-    (tried_then d (Answers bs) cs (map never_rises (goals_of cs)) (map falls_when_fair (goals_of cs))
+    (tried_then (driver_meaning d (Answers bs) cs) (map never_rises (goals_of cs)) (map falls_when_fair (goals_of cs))
     c.in_ok-last-in-Accepted-second.last
     (subst (AreTried d (Answers bs) cs (map never_rises (goals_of cs))) c.in-Accepted-second.is second)
     (c.in_ok-last-in-Accepted-second.ensures.tried d bs cs
@@ -146,7 +146,7 @@ returns-clause-tried c = λ d bs cs is are passed.
     (answers_kept d c.args.game.now c.answering.new.game c.answering.ensures.grows bs c.args.answers.now are) in
     let second = c.in_ok-second.ensures.tried d bs cs at_second
     (subst (AreLeaving d bs cs c.leaving_sets.new.game) (sym c.deref.ensures.value) leaving_are) have in
-    tried_then d (Answers bs) cs (map is_answered (goals_of cs))
+    tried_then (driver_meaning d (Answers bs) cs) (map is_answered (goals_of cs))
     (map never_rises (goals_of cs) ++ map falls_when_fair (goals_of cs)) c.in_ok-second.second first
-    (tried_stop d (Answers bs) cs (map never_rises (goals_of cs)) (map falls_when_fair (goals_of cs))
+    (tried_stop (driver_meaning d (Answers bs) cs) (map never_rises (goals_of cs)) (map falls_when_fair (goals_of cs))
     c.in_ok-second.second c.in_default-second.not-Accepted second)

@@ -1,10 +1,10 @@
 use Rattle.std.proofs.Common.{[], ◌∷◌, subst}
 use Rattle.tm_check.specs.Tried.{AreTried}
 use Rattle.tm_check.proofs.Keeping.{has_told_kept, told_kept}
-use Rattle.tm_check.proofs.PartsInOrder.{tried_stop, tried_then}
 use Rattle.tm_check.proofs.regions.ranked_region.Goals as goal
 use Rattle.tm_cir.specs.Answer.{Answers}
-use Rattle.tm_verdicts.specs.Driver.{adds_state, lies_within}
+use Rattle.tm_verdicts.specs.Driver.{adds_state, driver_meaning, lies_within}
+use Rattle.tm_verdicts.proofs.Trying.{tried_stop, tried_then}
 use Rattle.tm_game.proofs.Growing.{grows_then}
 
 pub adding-requires-clause-told : goal.adding-requires-clause-told
@@ -21,7 +21,8 @@ returns-in_ok-adding-in-Accepted-clause-grows c =
 
 pub returns-in_ok-adding-in-Accepted-clause-tried : goal.returns-in_ok-adding-in-Accepted-clause-tried
 returns-in_ok-adding-in-Accepted-clause-tried c = λ d bs cs is.
-    tried_then d (Answers bs) cs (lies_within c.args.goal c.args.index ∷ []) (adds_state c.args.goal c.args.index ∷ [])
+    tried_then (driver_meaning d (Answers bs) cs) (lies_within c.args.goal c.args.index ∷ [])
+    (adds_state c.args.goal c.args.index ∷ [])
     c.in_ok-adding-in-Accepted.adding
     (subst (AreTried d (Answers bs) cs (lies_within c.args.goal c.args.index ∷ [])) c.in-Accepted.is
     (c.in_ok-lying.ensures.tried d bs cs is))
@@ -30,5 +31,6 @@ returns-in_ok-adding-in-Accepted-clause-tried c = λ d bs cs is.
 
 pub returns-in_default-clause-tried : goal.returns-in_default-clause-tried
 returns-in_default-clause-tried c = λ d bs cs is.
-    tried_stop d (Answers bs) cs (lies_within c.args.goal c.args.index ∷ []) (adds_state c.args.goal c.args.index ∷ [])
+    tried_stop (driver_meaning d (Answers bs) cs) (lies_within c.args.goal c.args.index ∷ [])
+    (adds_state c.args.goal c.args.index ∷ [])
     c.in_ok-lying.lying c.in_default.not-Accepted (c.in_ok-lying.ensures.tried d bs cs is)

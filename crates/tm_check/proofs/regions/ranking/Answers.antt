@@ -1,16 +1,16 @@
 use Rattle.std.proofs.Common.{[], ◌∷◌, length, subst, arith}
 use Rattle.tm_check.specs.Tried.{AreTried}
 use Rattle.tm_check.proofs.Keeping.{has_told_kept, told_kept}
-use Rattle.tm_check.proofs.PartsInOrder.{tried_all, tried_more, tried_none, tried_stops}
 use Rattle.tm_check.proofs.regions.ranking.Goals as goal
 use Rattle.tm_cir.specs.Answer.{Answers}
-use Rattle.tm_verdicts.specs.Driver.{is_ranked}
+use Rattle.tm_verdicts.specs.Driver.{driver_meaning, is_ranked}
+use Rattle.tm_verdicts.proofs.Trying.{tried_all, tried_more, tried_none, tried_stops}
 use Rattle.tm_game.proofs.Growing.{grows_none, grows_then}
 
 pub loop-goal-init : goal.loop-goal-init
 loop-goal-init c = record {
   grows = grows_none c.args.game.now;
-  tried = λ d bs cs is. tried_none d (Answers bs) cs (λ goal. is_ranked goal ∷ []) (length cs.goals);
+  tried = λ d bs cs is. tried_none (driver_meaning d (Answers bs) cs) (λ goal. is_ranked goal ∷ []) (length cs.goals);
 }
 
 pub goal_ranking-requires-clause-told : goal.goal_ranking-requires-clause-told
@@ -29,7 +29,7 @@ returns-in_default-clause-grows c =
 
 pub returns-in_default-clause-tried : goal.returns-in_default-clause-tried
 returns-in_default-clause-tried c = λ d bs cs is.
-    tried_stops d (Answers bs) cs (λ goal. is_ranked goal ∷ []) (length cs.goals) c.loop-goal.goal
+    tried_stops (driver_meaning d (Answers bs) cs) (λ goal. is_ranked goal ∷ []) (length cs.goals) c.loop-goal.goal
     c.in_ok-verdict.verdict (omega (arith, is.diagrams.count))
     c.in_default.not-Accepted (c.loop-goal.invariant.tried d bs cs is)
     (c.in_ok-verdict.ensures.tried d bs cs (told_kept d c.args.game.now c.loop-goal.game c.loop-goal.invariant.grows
@@ -40,10 +40,8 @@ loop-goal-preserved c = record {
   grows = grows_then c.args.game.now c.loop-goal.game c.goal_ranking.new.game c.loop-goal.invariant.grows
       c.goal_ranking.ensures.grows;
   tried = λ d bs cs is.
-      tried_more d (Answers bs) cs (λ goal. is_ranked goal ∷ []) (length cs.goals) c.loop-goal.goal (omega (
-        arith,
-        is.diagrams.count,
-      )) (c.loop-goal.invariant.tried d bs cs is)
+      tried_more (driver_meaning d (Answers bs) cs) (λ goal. is_ranked goal ∷ []) (length cs.goals) c.loop-goal.goal
+      (omega (arith, is.diagrams.count)) (c.loop-goal.invariant.tried d bs cs is)
       (subst (AreTried d (Answers bs) cs (is_ranked c.loop-goal.goal ∷ [])) c.in-Accepted.is
       (c.in_ok-verdict.ensures.tried d bs cs (told_kept d c.args.game.now c.loop-goal.game
       c.loop-goal.invariant.grows bs cs c.args.told.now is)));
@@ -51,7 +49,5 @@ loop-goal-preserved c = record {
 
 pub returns-clause-tried : goal.returns-clause-tried
 returns-clause-tried c = λ d bs cs is.
-    tried_all d (Answers bs) cs (λ goal. is_ranked goal ∷ []) (length cs.goals) c.loop-goal.goal (omega (
-      arith,
-      is.diagrams.count,
-    )) (c.loop-goal.invariant.tried d bs cs is)
+    tried_all (driver_meaning d (Answers bs) cs) (λ goal. is_ranked goal ∷ []) (length cs.goals) c.loop-goal.goal
+    (omega (arith, is.diagrams.count)) (c.loop-goal.invariant.tried d bs cs is)

@@ -1,16 +1,16 @@
 use Rattle.std.proofs.Common.{length, subst, arith}
 use Rattle.tm_check.specs.Tried.{AreTried}
 use Rattle.tm_check.proofs.Keeping.{has_told_kept, told_kept}
-use Rattle.tm_check.proofs.PartsInOrder.{tried_all, tried_more, tried_none, tried_stops}
 use Rattle.tm_check.proofs.regions.regions.Goals as goal
 use Rattle.tm_cir.specs.Answer.{Answers}
-use Rattle.tm_verdicts.specs.Driver.{goal_parts}
+use Rattle.tm_verdicts.specs.Driver.{driver_meaning, goal_parts}
+use Rattle.tm_verdicts.proofs.Trying.{tried_all, tried_more, tried_none, tried_stops}
 use Rattle.tm_game.proofs.Growing.{grows_none, grows_then}
 
 pub loop-goal-init : goal.loop-goal-init
 loop-goal-init c = record {
   grows = grows_none c.args.game.now;
-  tried = λ d bs cs is. tried_none d (Answers bs) cs (goal_parts cs) (length cs.goals);
+  tried = λ d bs cs is. tried_none (driver_meaning d (Answers bs) cs) (goal_parts cs) (length cs.goals);
 }
 
 pub goal_regions-requires-clause-told : goal.goal_regions-requires-clause-told
@@ -29,8 +29,8 @@ returns-in_default-clause-grows c =
 
 pub returns-in_default-clause-tried : goal.returns-in_default-clause-tried
 returns-in_default-clause-tried c = λ d bs cs is.
-    tried_stops d (Answers bs) cs (goal_parts cs) (length cs.goals) c.loop-goal.goal c.in_ok-verdict.verdict (omega
-    (arith, is.diagrams.count))
+    tried_stops (driver_meaning d (Answers bs) cs) (goal_parts cs) (length cs.goals) c.loop-goal.goal
+    c.in_ok-verdict.verdict (omega (arith, is.diagrams.count))
     c.in_default.not-Accepted (c.loop-goal.invariant.tried d bs cs is)
     (c.in_ok-verdict.ensures.tried d bs cs (told_kept d c.args.game.now c.loop-goal.game c.loop-goal.invariant.grows
     bs cs c.args.told.now is))
@@ -40,10 +40,8 @@ loop-goal-preserved c = record {
   grows = grows_then c.args.game.now c.loop-goal.game c.goal_regions.new.game c.loop-goal.invariant.grows
       c.goal_regions.ensures.grows;
   tried = λ d bs cs is.
-      tried_more d (Answers bs) cs (goal_parts cs) (length cs.goals) c.loop-goal.goal (omega (
-        arith,
-        is.diagrams.count,
-      )) (c.loop-goal.invariant.tried d bs cs is)
+      tried_more (driver_meaning d (Answers bs) cs) (goal_parts cs) (length cs.goals) c.loop-goal.goal
+      (omega (arith, is.diagrams.count)) (c.loop-goal.invariant.tried d bs cs is)
       (subst (AreTried d (Answers bs) cs ((goal_parts cs) c.loop-goal.goal)) c.in-Accepted.is
       (c.in_ok-verdict.ensures.tried d bs cs (told_kept d c.args.game.now c.loop-goal.game
       c.loop-goal.invariant.grows bs cs c.args.told.now is)));
@@ -51,5 +49,6 @@ loop-goal-preserved c = record {
 
 pub returns-clause-tried : goal.returns-clause-tried
 returns-clause-tried c = λ d bs cs is.
-    tried_all d (Answers bs) cs (goal_parts cs) (length cs.goals) c.loop-goal.goal (omega (arith, is.diagrams.count))
+    tried_all (driver_meaning d (Answers bs) cs) (goal_parts cs) (length cs.goals) c.loop-goal.goal
+    (omega (arith, is.diagrams.count))
     (c.loop-goal.invariant.tried d bs cs is)

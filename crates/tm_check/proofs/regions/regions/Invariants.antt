@@ -1,17 +1,17 @@
 use Rattle.std.proofs.Common.{List, length}
 use Rattle.tm_check.specs.Told.{IsTold}
-use Rattle.tm_check.proofs.PartsInOrder.{AreTriedTo}
 use Rattle.tm_cir.specs.Answer.{Answers}
 use Rattle.tm_cir.specs.Tree.{BlockTree}
 use Rattle.tm_game.specs.Game.{Grows}
 use Rattle.tm_sem.specs.Certificates.{DriverSets}
 use Rattle.tm_syntax.specs.Design.{DesignTree}
-use Rattle.tm_verdicts.specs.Driver.{goal_parts}
+use Rattle.tm_verdicts.specs.Driver.{driver_meaning, goal_parts}
+use Rattle.tm_verdicts.specs.Tried.{AreTriedTo}
 use Rattle.tm_check.proofs.regions.regions.Given as goal
 
 abbrev pub invariant-loop-goal : goal.invariant-loop-goal
 invariant-loop-goal l = record {
   grows : Grows l.fn.game l.game;
   tried : (d : DesignTree) (bs : List BlockTree) (c : DriverSets) → IsTold d bs c l.fn.game l.told →
-      AreTriedTo d (Answers bs) c (goal_parts c) (length c.goals) l.goal;
+      AreTriedTo (driver_meaning d (Answers bs) c) (goal_parts c) (length c.goals) l.goal;
 }

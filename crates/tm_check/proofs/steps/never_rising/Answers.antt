@@ -1,16 +1,17 @@
 use Rattle.std.proofs.Common.{[], ◌∷◌, length, subst, arith}
 use Rattle.tm_check.specs.Tried.{AreTried}
 use Rattle.tm_check.proofs.Keeping.{has_told_kept, told_kept, leaving_kept}
-use Rattle.tm_check.proofs.PartsInOrder.{tried_all, tried_more, tried_none, tried_stops}
 use Rattle.tm_check.proofs.steps.never_rising.Goals as goal
 use Rattle.tm_cir.specs.Answer.{Answers}
-use Rattle.tm_verdicts.specs.Driver.{never_rises}
+use Rattle.tm_verdicts.specs.Driver.{driver_meaning, never_rises}
+use Rattle.tm_verdicts.proofs.Trying.{tried_all, tried_more, tried_none, tried_stops}
 use Rattle.tm_game.proofs.Growing.{grows_none, grows_then}
 
 pub loop-goal-init : goal.loop-goal-init
 loop-goal-init c = record {
   grows = grows_none c.args.game.now;
-  tried = λ d bs cs is are passed. tried_none d (Answers bs) cs (λ goal. never_rises goal ∷ []) (length cs.goals);
+  tried = λ d bs cs is are passed.
+      tried_none (driver_meaning d (Answers bs) cs) (λ goal. never_rises goal ∷ []) (length cs.goals);
 }
 
 pub goal_rising-requires-clause-told : goal.goal_rising-requires-clause-told
@@ -29,7 +30,7 @@ returns-in_default-clause-grows c =
 
 pub returns-in_default-clause-tried : goal.returns-in_default-clause-tried
 returns-in_default-clause-tried c = λ d bs cs is are passed.
-    tried_stops d (Answers bs) cs (λ goal. never_rises goal ∷ []) (length cs.goals) c.loop-goal.goal
+    tried_stops (driver_meaning d (Answers bs) cs) (λ goal. never_rises goal ∷ []) (length cs.goals) c.loop-goal.goal
     c.in_ok-verdict.verdict (omega (arith, is.diagrams.count))
     c.in_default.not-Accepted (c.loop-goal.invariant.tried d bs cs is are passed)
     (c.in_ok-verdict.ensures.tried d bs cs (told_kept d c.args.game.now c.loop-goal.game c.loop-goal.invariant.grows
@@ -41,10 +42,8 @@ loop-goal-preserved c = record {
   grows = grows_then c.args.game.now c.loop-goal.game c.goal_rising.new.game c.loop-goal.invariant.grows
       c.goal_rising.ensures.grows;
   tried = λ d bs cs is are passed.
-      tried_more d (Answers bs) cs (λ goal. never_rises goal ∷ []) (length cs.goals) c.loop-goal.goal (omega (
-        arith,
-        is.diagrams.count,
-      )) (c.loop-goal.invariant.tried d bs cs is are passed)
+      tried_more (driver_meaning d (Answers bs) cs) (λ goal. never_rises goal ∷ []) (length cs.goals) c.loop-goal.goal
+      (omega (arith, is.diagrams.count)) (c.loop-goal.invariant.tried d bs cs is are passed)
       (subst (AreTried d (Answers bs) cs (never_rises c.loop-goal.goal ∷ [])) c.in-Accepted.is
       (c.in_ok-verdict.ensures.tried d bs cs (told_kept d c.args.game.now c.loop-goal.game
       c.loop-goal.invariant.grows bs cs c.args.told.now is)
@@ -54,10 +53,8 @@ loop-goal-preserved c = record {
 
 pub returns-clause-tried : goal.returns-clause-tried
 returns-clause-tried c = λ d bs cs is are passed.
-    tried_all d (Answers bs) cs (λ goal. never_rises goal ∷ []) (length cs.goals) c.loop-goal.goal (omega (
-      arith,
-      is.diagrams.count,
-    )) (c.loop-goal.invariant.tried d bs cs is are passed)
+    tried_all (driver_meaning d (Answers bs) cs) (λ goal. never_rises goal ∷ []) (length cs.goals) c.loop-goal.goal
+    (omega (arith, is.diagrams.count)) (c.loop-goal.invariant.tried d bs cs is are passed)
 
 pub goal_rising-requires-clause-leaving : goal.goal_rising-requires-clause-leaving
 goal_rising-requires-clause-leaving c =

@@ -1,6 +1,5 @@
 use Rattle.std.proofs.Common.{List, [], ◌∷◌, length}
 use Rattle.tm_check.specs.Told.{IsTold}
-use Rattle.tm_check.proofs.PartsInOrder.{AreTriedTo}
 use Rattle.tm_cir.specs.Answer.{Answers}
 use Rattle.tm_cir.specs.Tree.{BlockTree}
 use Rattle.tm_game.specs.Game.{Grows}
@@ -8,7 +7,8 @@ use Rattle.tm_sem.specs.Certificates.{DriverSets}
 use Rattle.tm_syntax.specs.Design.{DesignTree}
 use Rattle.tm_check.specs.Leaving.{AreLeaving}
 use Rattle.tm_check.specs.Tried.{HavePassed}
-use Rattle.tm_verdicts.specs.Driver.{never_rises}
+use Rattle.tm_verdicts.specs.Driver.{driver_meaning, never_rises}
+use Rattle.tm_verdicts.specs.Tried.{AreTriedTo}
 use Rattle.tm_check.proofs.steps.never_rising.Given as goal
 
 abbrev pub invariant-loop-goal : goal.invariant-loop-goal
@@ -16,5 +16,5 @@ invariant-loop-goal l = record {
   grows : Grows l.fn.game l.game;
   tried : (d : DesignTree) (bs : List BlockTree) (c : DriverSets) → IsTold d bs c l.fn.game l.told →
       AreLeaving d bs c l.fn.game l.leaving → HavePassed d (Answers bs) c →
-      AreTriedTo d (Answers bs) c (λ goal. never_rises goal ∷ []) (length c.goals) l.goal;
+      AreTriedTo (driver_meaning d (Answers bs) c) (λ goal. never_rises goal ∷ []) (length c.goals) l.goal;
 }

@@ -39,7 +39,7 @@ returns-in-Err g c =
     (keeps_cut (command_of (map string_bytes c.args.words.now)) (files_data g.F.Files c.args.files.now)
     (files_data g.F.Files c.obey_words-outcome.new.files) g.O.Sink c.args.out.now c.obey_words-outcome.new.out
     c.put_outcome.new.out c.obey_words-outcome.result c.in-Err.failure c.obey_words-outcome.ensures
-    c.in-Err.ensures.err c.in-Err.ensures.failure) in record {
+    c.in-Err.ensures.err c.in-Err.ensures.failure c.in-Err.ensures.told) in record {
       cause = kept.cause;
       complete = kept.complete;
       good = accepts_good (command_of (map string_bytes c.args.words.now)) (files_data g.F.Files c.args.files.now) _

@@ -7,16 +7,17 @@ use Rattle.tm_envcheck.specs.Inner.Parts.{chain_parts_at}
 use Rattle.tm_envcheck.specs.Tried.{AreTried}
 use Rattle.tm_envcheck.proofs.ChainParts.{chain_in, chains_count, chains_long}
 use Rattle.tm_envcheck.proofs.Growing.{can_kept, over_kept, ready_kept, told_kept}
-use Rattle.tm_envcheck.proofs.Trying.{leads_first, leads_last, leads_next, leads_stop}
 use Rattle.tm_game.proofs.Growing.{grows_none, grows_then}
 use Rattle.tm_verdicts.specs.declared.verdict.Verdict.TheVariants.{Accepted, Refused}
+use Rattle.tm_verdicts.specs.Environment.{level_meaning}
+use Rattle.tm_verdicts.proofs.Trying.{refused_stops, tried_all, tried_more, tried_none}
 use Rattle.tm_envcheck.proofs.chains.over_chains.Goals as goal
 
 pub loop-fair-init : goal.loop-fair-init
 loop-fair-init c = record {
   grows = grows_none c.args.game.now;
-  leads = λ d of k can tells rests.
-      leads_first d of (chain_parts_at c.args.tried of k) (length (chains_in c.args.level.now));
+  tried = λ d of k can tells rests.
+      tried_none (level_meaning d of) (chain_parts_at c.args.tried of k) (length (chains_in c.args.level.now));
 }
 
 pub try_chain-requires-clause-ready : goal.try_chain-requires-clause-ready
@@ -52,10 +53,10 @@ returns-in-Refused-clause-tried c = λ d of k can tells rests.
     (λ (n : ℕ). AreTried d of (flat_map (chain_parts_at c.args.tried of k) (range_with_len 0 n))
     (Refused c.in-Refused.condition c.in-Refused.goal c.in-Refused.state))
     (sym (chains_long d c.args.game.now of k c.args.level.now tells))
-    (leads_stop d of (chain_parts_at c.args.tried of k) i (length (chains_in c.args.level.now))
+    (refused_stops (level_meaning d of) (chain_parts_at c.args.tried of k) (length (chains_in c.args.level.now)) i
     c.in-Refused.condition c.in-Refused.goal c.in-Refused.state
     (omega (arith, within, ap length c.as_slice-chains.ensures.value, chains_count c.args.level.now))
-    (c.loop-fair.invariant.leads d of k can tells rests)
+    (c.loop-fair.invariant.tried d of k can tells rests)
     (subst (AreTried d of (chain_parts_at c.args.tried of k i)) c.in-Refused.is
     (c.in_ok-try_chain.ensures.tried d of k
     (can_kept c.args.game.now c.loop-fair.game c.loop-fair.invariant.grows d can)
@@ -68,10 +69,10 @@ loop-fair-preserved c =
     let within : i < length c.as_slice-chains.result.now = omega (arith, c.loop-fair-test.true) in
     record {
       grows = grows_then _ _ _ c.loop-fair.invariant.grows c.try_chain.ensures.grows;
-      leads = λ d of k can tells rests.
-          leads_next d of (chain_parts_at c.args.tried of k) i (length (chains_in c.args.level.now))
+      tried = λ d of k can tells rests.
+          tried_more (level_meaning d of) (chain_parts_at c.args.tried of k) (length (chains_in c.args.level.now)) i
           (omega (arith, within, ap length c.as_slice-chains.ensures.value, chains_count c.args.level.now))
-          (c.loop-fair.invariant.leads d of k can tells rests)
+          (c.loop-fair.invariant.tried d of k can tells rests)
           (subst (AreTried d of (chain_parts_at c.args.tried of k i)) c.in-Accepted.is
           (c.in_ok-try_chain.ensures.tried d of k
           (can_kept c.args.game.now c.loop-fair.game c.loop-fair.invariant.grows d can)
@@ -85,6 +86,6 @@ returns-clause-tried c = λ d of k can tells rests.
     subst
     (λ (n : ℕ). AreTried d of (flat_map (chain_parts_at c.args.tried of k) (range_with_len 0 n)) Accepted)
     (sym (chains_long d c.args.game.now of k c.args.level.now tells))
-    (leads_last d of (chain_parts_at c.args.tried of k) c.loop-fair.fair (length (chains_in c.args.level.now))
-    (omega (arith, all, ap length c.as_slice-chains.ensures.value, chains_count c.args.level.now))
-    (c.loop-fair.invariant.leads d of k can tells rests))
+    (tried_all (level_meaning d of) (chain_parts_at c.args.tried of k) (length (chains_in c.args.level.now))
+    c.loop-fair.fair (omega (arith, all, ap length c.as_slice-chains.ensures.value, chains_count c.args.level.now))
+    (c.loop-fair.invariant.tried d of k can tells rests))

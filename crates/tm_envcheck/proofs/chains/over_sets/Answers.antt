@@ -3,10 +3,10 @@ use Rattle.std.proofs.lemmas.Option.{slice_get-get_or}
 use Rattle.tm_envcheck.specs.Tried.{AreTried}
 use Rattle.tm_envcheck.proofs.ChainParts.{set_there}
 use Rattle.tm_envcheck.proofs.Growing.{can_kept, over_kept, set_told_kept, told_kept}
-use Rattle.tm_envcheck.proofs.Tests.{false_set, false_test}
-use Rattle.tm_envcheck.proofs.Trying.{leads_first, leads_last, leads_next, leads_stop}
 use Rattle.tm_game.proofs.Growing.{grows_none, grows_then, set_kept}
-use Rattle.tm_verdicts.specs.Environment.{set_parts}
+use Rattle.tm_game.proofs.MadeSets.{false_set, false_test}
+use Rattle.tm_verdicts.specs.Environment.{level_meaning, set_parts}
+use Rattle.tm_verdicts.proofs.Trying.{refused_stops, tried_all, tried_more, tried_none}
 use Rattle.tm_envcheck.proofs.chains.over_sets.Goals as goal
 
 pub loop-set-init : goal.loop-set-init
@@ -14,7 +14,7 @@ loop-set-init c = record {
   grows = grows_none c.args.game.now;
   before = false_set c.args.game.now;
   lower = λ d. sym (false_test d c.args.game.now);
-  leads = λ d of k i can tells there. leads_first d of (set_parts k i) (length c.args.chain.now);
+  tried = λ d of k i can tells there. tried_none (level_meaning d of) (set_parts k i) (length c.args.chain.now);
 }
 
 pub try_set-requires-clause-level : goal.try_set-requires-clause-level
@@ -44,8 +44,9 @@ returns-in-Refused-clause-tried c = λ d of k i can tells there.
     let told = set_there d c.args.game.now of k c.args.level.now tells i c.args.chain.now there c.loop-set.set-index _
     at
     c.loop-set.before (c.loop-set.invariant.lower d) in
-    leads_stop d of (set_parts k i) c.loop-set.set-index (length c.args.chain.now) c.in-Refused.condition
-    c.in-Refused.goal c.in-Refused.state c.loop-set-test.true (c.loop-set.invariant.leads d of k i can tells there)
+    refused_stops (level_meaning d of) (set_parts k i) (length c.args.chain.now) c.loop-set.set-index
+    c.in-Refused.condition c.in-Refused.goal c.in-Refused.state c.loop-set-test.true
+    (c.loop-set.invariant.tried d of k i can tells there)
     (subst (AreTried d of (set_parts k i c.loop-set.set-index)) c.in-Refused.is
     (c.in_ok-try_set.ensures.tried d of k i c.loop-set.set-index
     (can_kept c.args.game.now c.loop-set.game c.loop-set.invariant.grows d can)
@@ -64,11 +65,11 @@ loop-set-preserved c =
       lower = λ d.
           Rattle.tm_envcheck.proofs.ChainParts.set_before_next d c.args.game.now c.args.chain.now c.loop-set.set-index
           _ at;
-      leads = λ d of k i can tells there.
+      tried = λ d of k i can tells there.
           let told = set_there d c.args.game.now of k c.args.level.now tells i c.args.chain.now there
           c.loop-set.set-index _ at c.loop-set.before (c.loop-set.invariant.lower d) in
-          leads_next d of (set_parts k i) c.loop-set.set-index (length c.args.chain.now) c.loop-set-test.true
-          (c.loop-set.invariant.leads d of k i can tells there)
+          tried_more (level_meaning d of) (set_parts k i) (length c.args.chain.now) c.loop-set.set-index
+          c.loop-set-test.true (c.loop-set.invariant.tried d of k i can tells there)
           (subst (AreTried d of (set_parts k i c.loop-set.set-index)) c.in-Accepted.is
           (c.in_ok-try_set.ensures.tried d of k i c.loop-set.set-index
           (can_kept c.args.game.now c.loop-set.game c.loop-set.invariant.grows d can)
@@ -80,5 +81,5 @@ loop-set-preserved c =
 
 pub returns-clause-tried : goal.returns-clause-tried
 returns-clause-tried c = λ d of k i can tells there.
-    leads_last d of (set_parts k i) c.loop-set.set-index (length c.args.chain.now) (omega arith)
-    (c.loop-set.invariant.leads d of k i can tells there)
+    tried_all (level_meaning d of) (set_parts k i) (length c.args.chain.now) c.loop-set.set-index (omega arith)
+    (c.loop-set.invariant.tried d of k i can tells there)

@@ -3,9 +3,9 @@ use Rattle.std.proofs.lemmas.Result.{IfOk-weaker}
 use Rattle.tm_envcheck.specs.Tried.{AreTried}
 use Rattle.tm_envcheck.proofs.ChainParts.{grows_tried, lies_in_tried}
 use Rattle.tm_envcheck.proofs.Growing.{can_kept, over_kept, set_told_kept, told_kept}
-use Rattle.tm_envcheck.proofs.Trying.{tried_stop, tried_then}
 use Rattle.tm_game.proofs.Growing.{grows_then, of_kept, set_kept}
-use Rattle.tm_verdicts.specs.Environment.{grows, lies_in}
+use Rattle.tm_verdicts.specs.Environment.{grows, level_meaning, lies_in}
+use Rattle.tm_verdicts.proofs.Trying.{refused_stop, tried_then}
 use Rattle.tm_envcheck.proofs.chains.try_set.Goals as goal
 
 pub returns-in_err-fails_at-clause-grows : goal.returns-in_err-fails_at-clause-grows
@@ -16,7 +16,7 @@ returns-in-Refused-clause-grows c = grows_then _ _ _ c.without.ensures.grows c.f
 
 pub returns-in-Refused-clause-tried : goal.returns-in-Refused-clause-tried
 returns-in-Refused-clause-tried c = λ d of k i x can tells set_told.
-    tried_stop d of (grows k i x ∷ []) (lies_in k i x ∷ []) c.in-Refused.condition c.in-Refused.goal
+    refused_stop (level_meaning d of) (grows k i x ∷ []) (lies_in k i x ∷ []) c.in-Refused.condition c.in-Refused.goal
     c.in-Refused.state
     (subst (AreTried d of (grows k i x ∷ [])) c.in-Refused.is
     (grows_tried d c.args.game.now of k c.args.level.now tells can i x c.args.before c.args.set set_told
@@ -62,7 +62,7 @@ returns-clause-tried c =
     (set_kept c.args.game.now c.without.new.game c.without.ensures.grows c.args.set c.requires.set)
     (set_told_kept c.args.game.now c.without.new.game c.without.ensures.grows d of k i x c.args.before c.args.set
     c.requires.before c.requires.set set_told) in
-    tried_then d of (grows k i x ∷ []) (lies_in k i x ∷ []) v
+    tried_then (level_meaning d of) (grows k i x ∷ []) (lies_in k i x ∷ []) v
     (subst (AreTried d of (grows k i x ∷ [])) c.in-Accepted.is
     (grows_tried d c.args.game.now of k c.args.level.now tells can i x c.args.before c.args.set set_told
     c.without.new.game c.without.ensures.grows c.in_ok-lost.lost c.in_ok-lost.ensures.value _

@@ -4,8 +4,8 @@ use Rattle.std.proofs.lemmas.Result.{IfOk-weaker}
 use Rattle.tm_envcheck.specs.Inner.Over.{chains_in}
 use Rattle.tm_envcheck.proofs.ChainParts.{fair_told, waits_tried}
 use Rattle.tm_envcheck.proofs.Growing.{ready_kept, sets_kept}
-use Rattle.tm_envcheck.proofs.Tests.{states_set}
 use Rattle.tm_game.proofs.Growing.{grows_then, of_kept, set_kept}
+use Rattle.tm_game.proofs.SetTests.{states_set}
 use Rattle.tm_sem.specs.Fairness.{IsFair}
 use Rattle.tm_envcheck.proofs.chains.waiting.Goals as goal
 
@@ -18,7 +18,7 @@ without-requires-clause-b c =
       c.requires.level.fairs,
       ap length c.fairs.ensures.value,
     ) in
-    states_set c.requires.ready.design.0 c.args.game.now c.requires.ready c.requires.ready.design.1
+    states_set c.requires.ready.design.0 c.args.game.now c.requires.ready.design.1 c.requires.ready.order
     (λ s. IsFair c.requires.ready.design.0 s c.args.fair) _
     (fair_told c.requires.ready.design.0 c.args.game.now c.fairs.result.now c.fairs.ensures.value
     (c.fairs.ensures.states c.requires.ready.design.0 c.requires.ready.design.1) c.args.fair (record { 0 = 0 }) below)

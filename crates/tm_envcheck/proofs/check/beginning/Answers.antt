@@ -1,14 +1,14 @@
 use Rattle.std.proofs.lemmas.Result.{IfOk-weaker}
 use Rattle.tm_envcheck.proofs.Growing.{can_kept, ready_kept}
 use Rattle.tm_envcheck.proofs.Reporting.{begins_lost_tried, last_in}
-use Rattle.tm_envcheck.proofs.Tests.{states_set}
 use Rattle.tm_game.proofs.Growing.{grows_then}
+use Rattle.tm_game.proofs.SetTests.{states_set}
 use Rattle.tm_sem.specs.Step.{IsInitial}
 use Rattle.tm_envcheck.proofs.check.beginning.Goals as goal
 
 pub both-requires-clause-a : goal.both-requires-clause-a
 both-requires-clause-a c =
-    states_set c.requires.ready.design.0 c.args.game.now c.requires.ready c.requires.ready.design.1
+    states_set c.requires.ready.design.0 c.args.game.now c.requires.ready.design.1 c.requires.ready.order
     (IsInitial c.requires.ready.design.0) c.initial-initial.result
     (c.initial-initial.ensures.states c.requires.ready.design.0 c.requires.ready.design.1)
 

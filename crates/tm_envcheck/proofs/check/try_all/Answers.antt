@@ -5,18 +5,19 @@ use Rattle.tm_envcheck.specs.declared.conditions.LevelCondition.TheVariants.{Sha
 use Rattle.tm_envcheck.specs.Inner.Parts.{parts_at, step_parts}
 use Rattle.tm_envcheck.specs.Tried.{AreTried}
 use Rattle.tm_envcheck.proofs.Growing.{can_kept, overs_kept, ready_kept, tell_kept}
-use Rattle.tm_envcheck.proofs.Trying.{tried_stop, tried_then}
 use Rattle.tm_envcheck.proofs.Whole.{whole}
 use Rattle.tm_game.proofs.Growing.{grows_then}
 use Rattle.tm_verdicts.specs.declared.verdict.Verdict.TheVariants.{Refused}
-use Rattle.tm_verdicts.specs.Environment.{LevelPart, begins_lost, level_places}
+use Rattle.tm_verdicts.specs.Environment.{LevelPart, begins_lost, level_meaning, level_places}
+use Rattle.tm_verdicts.proofs.Trying.{refused_stop, tried_then}
 use Rattle.tm_envcheck.proofs.check.try_all.Goals as goal
 
 pub returns-in-Refused-clause-tried : goal.returns-in-Refused-clause-tried
 returns-in-Refused-clause-tried c = λ d of can tell.
     subst (λ (parts : List LevelPart). AreTried d of parts
     (Refused c.in-Refused.condition c.in-Refused.goal c.in-Refused.state)) (whole of)
-    (tried_stop d of (flat_map (parts_at Shape of) (level_places of)) ((begins_lost ∷ []) ++ step_parts of)
+    (refused_stop (level_meaning d of) (flat_map (parts_at Shape of) (level_places of))
+    ((begins_lost ∷ []) ++ step_parts of)
     c.in-Refused.condition c.in-Refused.goal c.in-Refused.state
     (subst (AreTried d of (flat_map (parts_at Shape of) (level_places of))) c.in-Refused.is
     (c.in_ok-over_levels.ensures.tried d of can tell (λ k. tt))))
@@ -39,11 +40,12 @@ pub returns-in-Refused-2-clause-tried : goal.returns-in-Refused-2-clause-tried
 returns-in-Refused-2-clause-tried c = λ d of can tell.
     subst (λ (parts : List LevelPart). AreTried d of parts
     (Refused c.in-Refused-2.condition c.in-Refused-2.goal c.in-Refused-2.state)) (whole of)
-    (tried_then d of (flat_map (parts_at Shape of) (level_places of)) ((begins_lost ∷ []) ++ step_parts of)
+    (tried_then (level_meaning d of) (flat_map (parts_at Shape of) (level_places of))
+    ((begins_lost ∷ []) ++ step_parts of)
     (Refused c.in-Refused-2.condition c.in-Refused-2.goal c.in-Refused-2.state)
     (subst (AreTried d of (flat_map (parts_at Shape of) (level_places of))) c.in-Accepted.is
     (c.in_ok-over_levels.ensures.tried d of can tell (λ k. tt)))
-    (tried_stop d of (begins_lost ∷ []) (step_parts of) c.in-Refused-2.condition c.in-Refused-2.goal
+    (refused_stop (level_meaning d of) (begins_lost ∷ []) (step_parts of) c.in-Refused-2.condition c.in-Refused-2.goal
     c.in-Refused-2.state
     (subst (AreTried d of (begins_lost ∷ [])) c.in-Refused-2.is
     (c.in_ok-beginning.ensures.tried d of
@@ -77,10 +79,11 @@ returns-clause-tried c =
     let told = tell_kept c.args.game.now c.over_levels.new.game c.over_levels.ensures.grows d of c.args.levels.now
     c.requires.levels tell in
     subst (λ (parts : List LevelPart). AreTried d of parts v) (whole of)
-    (tried_then d of (flat_map (parts_at Shape of) (level_places of)) ((begins_lost ∷ []) ++ step_parts of) v
+    (tried_then (level_meaning d of) (flat_map (parts_at Shape of) (level_places of))
+    ((begins_lost ∷ []) ++ step_parts of) v
     (subst (AreTried d of (flat_map (parts_at Shape of) (level_places of))) c.in-Accepted.is
     (c.in_ok-over_levels.ensures.tried d of can tell (λ k. tt)))
-    (tried_then d of (begins_lost ∷ []) (step_parts of) v
+    (tried_then (level_meaning d of) (begins_lost ∷ []) (step_parts of) v
     (subst (AreTried d of (begins_lost ∷ [])) c.in-Accepted-2.is
     (c.in_ok-beginning.ensures.tried d of still told))
     (tried d of (can_kept c.over_levels.new.game c.beginning.new.game c.beginning.ensures.grows d still)

@@ -2,14 +2,14 @@ use Rattle.std.proofs.Common.{◌≡◌, true}
 use Rattle.std.proofs.lemmas.Result.{IfOk-weaker}
 use Rattle.tm_envcheck.proofs.Growing.{ready_kept}
 use Rattle.tm_envcheck.proofs.LevelParts.{forced_on_tried}
-use Rattle.tm_envcheck.proofs.Tests.{states_set}
 use Rattle.tm_game.proofs.Growing.{grows_then, of_kept, set_kept}
+use Rattle.tm_game.proofs.SetTests.{states_set}
 use Rattle.tm_sem.specs.Play.{goal_holds}
 use Rattle.tm_envcheck.proofs.conditions.forced_on.Goals as goal
 
 pub both-requires-clause-b : goal.both-requires-clause-b
 both-requires-clause-b c =
-    states_set c.requires.ready.design.0 c.args.game.now c.requires.ready c.requires.ready.design.1
+    states_set c.requires.ready.design.0 c.args.game.now c.requires.ready.design.1 c.requires.ready.order
     (λ s. goal_holds c.requires.ready.design.0 s c.args.level.now.goal ≡ true) c.goal-holds.result
     (c.goal-holds.ensures.states c.requires.ready.design.0 c.requires.ready.design.1)
 

@@ -3,14 +3,15 @@ use Rattle.std.proofs.lemmas.Option.{slice_get_read}
 use Rattle.tm_envcheck.specs.Inner.Parts.{parts_at}
 use Rattle.tm_envcheck.specs.Tried.{AreTried}
 use Rattle.tm_envcheck.proofs.Growing.{can_kept, over_kept, ready_kept, told_kept}
-use Rattle.tm_envcheck.proofs.Trying.{leads_first, leads_last, leads_next, leads_stop}
 use Rattle.tm_game.proofs.Growing.{grows_none, grows_then}
+use Rattle.tm_verdicts.specs.Environment.{level_meaning}
+use Rattle.tm_verdicts.proofs.Trying.{refused_stops, tried_all, tried_more, tried_none}
 use Rattle.tm_envcheck.proofs.conditions.over_levels.Goals as goal
 
 pub loop-level-init : goal.loop-level-init
 loop-level-init c = record {
   grows = grows_none c.args.game.now;
-  leads = λ d of can tell rests. leads_first d of (parts_at c.args.tried of) (length of);
+  tried = λ d of can tell rests. tried_none (level_meaning d of) (parts_at c.args.tried of) (length of);
 }
 
 pub try_level-requires-clause-ready : goal.try_level-requires-clause-ready
@@ -34,9 +35,9 @@ pub returns-in-Refused-clause-tried : goal.returns-in-Refused-clause-tried
 returns-in-Refused-clause-tried c = λ d of can tell rests.
     let at = slice_get_read c.args.levels.now (length c.args.levels.now) c.loop-level.level-index c.level-item.result
     refl c.loop-level-test.true c.level-item.is in
-    leads_stop d of (parts_at c.args.tried of) c.loop-level.level-index (length of) c.in-Refused.condition
-    c.in-Refused.goal c.in-Refused.state
-    (omega (arith, c.loop-level-test.true, tell.count)) (c.loop-level.invariant.leads d of can tell rests)
+    refused_stops (level_meaning d of) (parts_at c.args.tried of) (length of) c.loop-level.level-index
+    c.in-Refused.condition c.in-Refused.goal c.in-Refused.state
+    (omega (arith, c.loop-level-test.true, tell.count)) (c.loop-level.invariant.tried d of can tell rests)
     (subst (AreTried d of (parts_at c.args.tried of c.loop-level.level-index)) c.in-Refused.is
     (c.in_ok-try_level.ensures.tried d of c.loop-level.level-index
     (can_kept c.args.game.now c.loop-level.game c.loop-level.invariant.grows d can)
@@ -47,11 +48,11 @@ returns-in-Refused-clause-tried c = λ d of can tell rests.
 pub loop-level-preserved : goal.loop-level-preserved
 loop-level-preserved c = record {
   grows = grows_then _ _ _ c.loop-level.invariant.grows c.try_level.ensures.grows;
-  leads = λ d of can tell rests.
+  tried = λ d of can tell rests.
       let at = slice_get_read c.args.levels.now (length c.args.levels.now) c.loop-level.level-index
       c.level-item.result refl c.loop-level-test.true c.level-item.is in
-      leads_next d of (parts_at c.args.tried of) c.loop-level.level-index (length of)
-      (omega (arith, c.loop-level-test.true, tell.count)) (c.loop-level.invariant.leads d of can tell rests)
+      tried_more (level_meaning d of) (parts_at c.args.tried of) (length of) c.loop-level.level-index
+      (omega (arith, c.loop-level-test.true, tell.count)) (c.loop-level.invariant.tried d of can tell rests)
       (subst (AreTried d of (parts_at c.args.tried of c.loop-level.level-index)) c.in-Accepted.is
       (c.in_ok-try_level.ensures.tried d of c.loop-level.level-index
       (can_kept c.args.game.now c.loop-level.game c.loop-level.invariant.grows d can)
@@ -62,6 +63,6 @@ loop-level-preserved c = record {
 
 pub returns-clause-tried : goal.returns-clause-tried
 returns-clause-tried c = λ d of can tell rests.
-    leads_last d of (parts_at c.args.tried of) c.loop-level.level-index (length of)
+    tried_all (level_meaning d of) (parts_at c.args.tried of) (length of) c.loop-level.level-index
     (omega (arith, c.loop-level-test.false, c.loop-level.auto.level-index-end, tell.count))
-    (c.loop-level.invariant.leads d of can tell rests)
+    (c.loop-level.invariant.tried d of can tell rests)

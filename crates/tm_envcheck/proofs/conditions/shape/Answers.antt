@@ -3,15 +3,16 @@ use Rattle.std.specs.List.{flat_map}
 use Rattle.std.proofs.lemmas.Result.{IfOk-weaker}
 use Rattle.tm_envcheck.specs.Tried.{AreTried}
 use Rattle.tm_envcheck.proofs.Growing.{can_kept, over_kept, ready_kept, told_kept}
-use Rattle.tm_envcheck.proofs.Trying.{tried_stop, tried_then}
 use Rattle.tm_game.proofs.Growing.{grows_then}
 use Rattle.tm_verdicts.specs.declared.verdict.Verdict.TheVariants.{Refused}
-use Rattle.tm_verdicts.specs.Environment.{chain_parts, chain_places, has_new, holds_before}
+use Rattle.tm_verdicts.specs.Environment.{chain_parts, chain_places, has_new, holds_before, level_meaning}
+use Rattle.tm_verdicts.proofs.Trying.{refused_stop, tried_then}
 use Rattle.tm_envcheck.proofs.conditions.shape.Goals as goal
 
 pub returns-in-Refused-clause-tried : goal.returns-in-Refused-clause-tried
 returns-in-Refused-clause-tried c = λ d of k can tells.
-    tried_stop d of (holds_before k ∷ []) (has_new k ∷ flat_map (chain_parts of k) (chain_places of k))
+    refused_stop (level_meaning d of) (holds_before k ∷ [])
+    (has_new k ∷ flat_map (chain_parts of k) (chain_places of k))
     c.in-Refused.condition c.in-Refused.goal c.in-Refused.state
     (subst (AreTried d of (holds_before k ∷ [])) c.in-Refused.is
     (c.in_ok-holding_before.ensures.tried d of k can tells))
@@ -34,12 +35,12 @@ returns-in-Refused-2-clause-grows c = grows_then _ _ _ c.holding_before.ensures.
 
 pub returns-in-Refused-2-clause-tried : goal.returns-in-Refused-2-clause-tried
 returns-in-Refused-2-clause-tried c = λ d of k can tells.
-    tried_then d of (holds_before k ∷ []) (has_new k ∷ flat_map (chain_parts of k) (chain_places of k))
+    tried_then (level_meaning d of) (holds_before k ∷ []) (has_new k ∷ flat_map (chain_parts of k) (chain_places of k))
     (Refused c.in-Refused-2.condition c.in-Refused-2.goal c.in-Refused-2.state)
     (subst (AreTried d of (holds_before k ∷ [])) c.in-Accepted.is
     (c.in_ok-holding_before.ensures.tried d of k can tells))
-    (tried_stop d of (has_new k ∷ []) (flat_map (chain_parts of k) (chain_places of k)) c.in-Refused-2.condition
-    c.in-Refused-2.goal c.in-Refused-2.state
+    (refused_stop (level_meaning d of) (has_new k ∷ []) (flat_map (chain_parts of k) (chain_places of k))
+    c.in-Refused-2.condition c.in-Refused-2.goal c.in-Refused-2.state
     (subst (AreTried d of (has_new k ∷ [])) c.in-Refused-2.is
     (c.in_ok-having_new.ensures.tried d of k
     (can_kept c.args.game.now c.holding_before.new.game c.holding_before.ensures.grows d can)
@@ -69,10 +70,10 @@ returns-clause-tried c =
     let still = can_kept c.args.game.now c.holding_before.new.game c.holding_before.ensures.grows d can in
     let told = told_kept c.args.game.now c.holding_before.new.game c.holding_before.ensures.grows d of k
     c.args.level.now c.requires.level tells in
-    tried_then d of (holds_before k ∷ []) (has_new k ∷ flat_map (chain_parts of k) (chain_places of k)) v
-    (subst (AreTried d of (holds_before k ∷ [])) c.in-Accepted.is
+    tried_then (level_meaning d of) (holds_before k ∷ []) (has_new k ∷ flat_map (chain_parts of k) (chain_places of k))
+    v (subst (AreTried d of (holds_before k ∷ [])) c.in-Accepted.is
     (c.in_ok-holding_before.ensures.tried d of k can tells))
-    (tried_then d of (has_new k ∷ []) (flat_map (chain_parts of k) (chain_places of k)) v
+    (tried_then (level_meaning d of) (has_new k ∷ []) (flat_map (chain_parts of k) (chain_places of k)) v
     (subst (AreTried d of (has_new k ∷ [])) c.in-Accepted-2.is (c.in_ok-having_new.ensures.tried d of k still told))
     (tried d of k (can_kept c.holding_before.new.game c.having_new.new.game c.having_new.ensures.grows d still)
     (told_kept c.holding_before.new.game c.having_new.new.game c.having_new.ensures.grows d of k c.args.level.now

@@ -8,8 +8,8 @@ use Rattle.tm_envcheck.specs.Inner.Over.{AreLevelsOver}
 use Rattle.tm_envcheck.proofs.LoadedChains.{level_fits}
 use Rattle.tm_envcheck.proofs.FirstLevels.{last_pushed, loaded_push, no_levels, none_over, over_push}
 use Rattle.tm_envcheck.proofs.Growing.{overs_kept, sets_kept}
-use Rattle.tm_envcheck.proofs.Tests.{false_set}
 use Rattle.tm_game.proofs.Growing.{grows_none, grows_then}
+use Rattle.tm_game.proofs.MadeSets.{false_set}
 use Rattle.tm_sets.specs.Fitting.{FitsLevel}
 use Rattle.tm_envcheck.proofs.levels.load_levels.Goals as goal
 

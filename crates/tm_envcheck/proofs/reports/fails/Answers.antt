@@ -1,12 +1,12 @@
 use Rattle.std.proofs.lemmas.Result.{IfOk-weaker}
 use Rattle.tm_envcheck.proofs.Reporting.{initial_reported}
-use Rattle.tm_envcheck.proofs.Tests.{states_set}
+use Rattle.tm_game.proofs.SetTests.{states_set}
 use Rattle.tm_sem.specs.Step.{IsInitial}
 use Rattle.tm_envcheck.proofs.reports.fails.Goals as goal
 
 pub fails_at-requires : goal.fails_at-requires
 fails_at-requires c =
-    states_set c.requires.design.0 c.args.game.now c.requires c.requires.design.1 (IsInitial c.requires.design.0)
+    states_set c.requires.design.0 c.args.game.now c.requires.design.1 c.requires.order (IsInitial c.requires.design.0)
     c.initial-initial.result
     (c.initial-initial.ensures.states c.requires.design.0 c.requires.design.1)
 

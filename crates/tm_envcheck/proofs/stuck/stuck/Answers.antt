@@ -7,9 +7,9 @@ use Rattle.tm_envcheck.specs.Inner.Told.{chain_told}
 use Rattle.tm_envcheck.proofs.ChainParts.{set_before_next}
 use Rattle.tm_envcheck.proofs.Growing.{means_at, ready_kept}
 use Rattle.tm_envcheck.proofs.Falling.{settled_more, stuck_all, stuck_first, stuck_more, union_more}
-use Rattle.tm_envcheck.proofs.Tests.{false_set, false_test}
 use Rattle.tm_game.specs.Least.{test_of}
 use Rattle.tm_game.proofs.Growing.{grows_none, grows_then, of_kept, set_kept}
+use Rattle.tm_game.proofs.MadeSets.{false_set, false_test}
 use Rattle.tm_envcheck.proofs.stuck.stuck.Goals as goal
 
 pub loop-set-init : goal.loop-set-init

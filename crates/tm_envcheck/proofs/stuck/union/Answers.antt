@@ -6,8 +6,8 @@ use Rattle.tm_dd.specs.declared.node.NodeId.{NodeId}
 use Rattle.tm_dd.specs.Table.{means}
 use Rattle.tm_dd.proofs.Meaning.{means-FALSE}
 use Rattle.tm_envcheck.proofs.Falling.{union_more}
-use Rattle.tm_envcheck.proofs.Tests.{false_set}
 use Rattle.tm_game.proofs.Growing.{grows_none, grows_then, set_kept}
+use Rattle.tm_game.proofs.MadeSets.{false_set}
 use Rattle.tm_envcheck.proofs.stuck.union.Goals as goal
 
 pub loop-set-init : goal.loop-set-init

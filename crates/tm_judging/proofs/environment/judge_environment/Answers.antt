@@ -2,11 +2,8 @@ use Rattle.std.proofs.Common.{◌≡◌, sym, subst, ◌∙◌, rules}
 use Rattle.std.specs.Prelude.{sum}
 use Rattle.tm_levels.specs.Order.{IsOrder}
 use Rattle.tm_sem.specs.StateBits.{state_widths}
-use Rattle.tm_sets.specs.Sets.{levels_of}
 use Rattle.tm_syntax.specs.Design.View.{design_tree}
-use Rattle.tm_room.proofs.Room.{are_small}
-use Rattle.tm_judging.proofs.Judging.{can_check_environment, fits_game, same_game, verdict_of}
-use Rattle.tm_judging.proofs.OneVerdict.{only_environment_verdict}
+use Rattle.tm_judging.proofs.Judging.{can_check_environment, fits_game, only_verdict_of, verdict_of}
 use Rattle.tm_judging.proofs.environment.judge_environment.Goals as goal
 
 pub ordered_game-requires-clause-sound : goal.ordered_game-requires-clause-sound
@@ -26,10 +23,8 @@ check_environment-requires-clause-of c = (design_tree c.args.design.now, c.in_ok
 
 pub check_environment-requires-clause-cert : goal.check_environment-requires-clause-cert
 check_environment-requires-clause-cert c =
-    let same : c.deref.result.now ≡ c.args.cert.now.order = search rules in
-    fits_game (design_tree c.args.design.now) c.args.cert.now c.in_ok-game.game c.requires
-    (same_game (design_tree c.args.design.now) c.deref.result.now c.args.cert.now.order c.in_ok-game.game
-    same c.in_ok-game.ensures)
+    fits_game (design_tree c.args.design.now) c.deref.result.now c.args.cert.now c.in_ok-game.game c.requires
+    c.in_ok-game.ensures
 
 pub check_environment-requires-clause-order : goal.check_environment-requires-clause-order
 check_environment-requires-clause-order c =
@@ -38,50 +33,30 @@ check_environment-requires-clause-order c =
 
 pub returns-clause-verdict : goal.returns-clause-verdict
 returns-clause-verdict c =
-    let same : c.deref.result.now ≡ c.args.cert.now.order = search rules in
-    verdict_of (design_tree c.args.design.now) c.args.cert.now c.in_ok-game.game c.check_environment.result
-    (can_check_environment (design_tree c.args.design.now) c.args.cert.now.order c.in_ok-game.game
-    (c.sound_designs_of_texts_are_regular.ensures c.args.design.now c.requires.sound c.requires.of_text)
-    (c.sound_designs_of_texts_have_initial_states.ensures (design_tree c.args.design.now) c.requires.sound
-    c.requires.of_text)
-    (same_game (design_tree c.args.design.now) c.deref.result.now c.args.cert.now.order c.in_ok-game.game
-    same c.in_ok-game.ensures))
+    let check = can_check_environment (c.sound_designs_of_texts_are_regular.ensures c.args.design.now)
+    (c.sound_designs_of_texts_have_initial_states.ensures (design_tree c.args.design.now)) c.requires
+    c.in_ok-game.ensures in
+    verdict_of (design_tree c.args.design.now) c.args.cert.now c.in_ok-game.game c.check_environment.result check
     c.check_environment.ensures.verdict
 
 pub returns-clause-only : goal.returns-clause-only
 returns-clause-only c =
-    let same : c.deref.result.now ≡ c.args.cert.now.order = search rules in
-    only_environment_verdict (design_tree c.args.design.now)
-    (are_small c.args.design.now c.requires.sound c.requires.of_text)
-    (c.sound_designs_of_texts_are_regular.ensures c.args.design.now c.requires.sound c.requires.of_text).initial
-    (levels_of (design_tree c.args.design.now) c.args.cert.now) c.check_environment.result
-    (verdict_of (design_tree c.args.design.now) c.args.cert.now c.in_ok-game.game c.check_environment.result
-    (can_check_environment (design_tree c.args.design.now) c.args.cert.now.order c.in_ok-game.game
-    (c.sound_designs_of_texts_are_regular.ensures c.args.design.now c.requires.sound c.requires.of_text)
-    (c.sound_designs_of_texts_have_initial_states.ensures (design_tree c.args.design.now) c.requires.sound
-    c.requires.of_text)
-    (same_game (design_tree c.args.design.now) c.deref.result.now c.args.cert.now.order c.in_ok-game.game
-    same c.in_ok-game.ensures))
-    c.check_environment.ensures.verdict)
+    let check = can_check_environment (c.sound_designs_of_texts_are_regular.ensures c.args.design.now)
+    (c.sound_designs_of_texts_have_initial_states.ensures (design_tree c.args.design.now)) c.requires
+    c.in_ok-game.ensures in
+    only_verdict_of c.args.design.now c.args.cert.now c.in_ok-game.game c.check_environment.result c.requires check
+    c.check_environment.ensures.verdict
 
 pub returns-clause-lost : goal.returns-clause-lost
 returns-clause-lost c =
-    let same : c.deref.result.now ≡ c.args.cert.now.order = search rules in
-    c.check_environment.ensures.lost (design_tree c.args.design.now)
-    (can_check_environment (design_tree c.args.design.now) c.args.cert.now.order c.in_ok-game.game
-    (c.sound_designs_of_texts_are_regular.ensures c.args.design.now c.requires.sound c.requires.of_text)
-    (c.sound_designs_of_texts_have_initial_states.ensures (design_tree c.args.design.now) c.requires.sound
-    c.requires.of_text)
-    (same_game (design_tree c.args.design.now) c.deref.result.now c.args.cert.now.order c.in_ok-game.game
-    same c.in_ok-game.ensures))
+    let check = can_check_environment (c.sound_designs_of_texts_are_regular.ensures c.args.design.now)
+    (c.sound_designs_of_texts_have_initial_states.ensures (design_tree c.args.design.now)) c.requires
+    c.in_ok-game.ensures in
+    c.check_environment.ensures.lost (design_tree c.args.design.now) check
 
 pub returns-clause-within : goal.returns-clause-within
 returns-clause-within c =
-    let same : c.deref.result.now ≡ c.args.cert.now.order = search rules in
-    c.check_environment.ensures.within (design_tree c.args.design.now)
-    (can_check_environment (design_tree c.args.design.now) c.args.cert.now.order c.in_ok-game.game
-    (c.sound_designs_of_texts_are_regular.ensures c.args.design.now c.requires.sound c.requires.of_text)
-    (c.sound_designs_of_texts_have_initial_states.ensures (design_tree c.args.design.now) c.requires.sound
-    c.requires.of_text)
-    (same_game (design_tree c.args.design.now) c.deref.result.now c.args.cert.now.order c.in_ok-game.game
-    same c.in_ok-game.ensures))
+    let check = can_check_environment (c.sound_designs_of_texts_are_regular.ensures c.args.design.now)
+    (c.sound_designs_of_texts_have_initial_states.ensures (design_tree c.args.design.now)) c.requires
+    c.in_ok-game.ensures in
+    c.check_environment.ensures.within (design_tree c.args.design.now) check

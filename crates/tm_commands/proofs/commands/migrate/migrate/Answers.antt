@@ -29,6 +29,6 @@ pub returns : goal.returns
 returns g c =
     unmigrated_obeys c.args.spec.now c.args.cert.now c.args.name.now g.F.Files c.args.files.now
     c.load_migration.new.files c.write_file.new.files (sink_data g.O.Sink c.args.out.now) c.load_migration.ensures.files
-    c.write_file.ensures.files c.in-Err-write_file.unwritten
-    (spelled_fit (migrate c.args.spec.now c.args.cert.now c.args.name.now) c.requires)
+    c.write_file.ensures.files c.in-Ok.migration.shape c.in-Ok.migration.cert c.in-Err-write_file.unwritten
+    c.in-Ok.ensures.loaded (spelled_fit (migrate c.args.spec.now c.args.cert.now c.args.name.now) c.requires)
     c.in-Err-write_file.ensures.failure

@@ -21,9 +21,11 @@ is_allowed-requires-clause-state c =
 pub returns-then-allowed : goal.returns-then-allowed
 returns-then-allowed c = λ bs cs text halts.
     allowed_ends (design_tree c.args.design.now) bs cs text c.args.halt c.in-Stuck.step c.in-Stuck.state
-    c.in-Stuck.action c.in-Stuck.is halts c.in_ok-allowed-in-Stuck.allowed c.in_ok-allowed-in-Stuck.ensures (search rules)
+    c.in-Stuck.action c.in-Stuck.is halts c.in_ok-allowed-in-Stuck.allowed c.in_ok-allowed-in-Stuck.ensures
+    (search rules)
 
 pub returns : goal.returns
 returns c = λ bs cs text halts.
     refused_ends (design_tree c.args.design.now) bs cs text c.args.halt c.in-Stuck.step c.in-Stuck.state
-    c.in-Stuck.action c.in-Stuck.is halts c.in_ok-allowed-in-Stuck.allowed c.in_ok-allowed-in-Stuck.ensures (search rules)
+    c.in-Stuck.action c.in-Stuck.is halts c.in_ok-allowed-in-Stuck.allowed c.in_ok-allowed-in-Stuck.ensures
+    (search rules)

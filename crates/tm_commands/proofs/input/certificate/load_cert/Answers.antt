@@ -1,7 +1,7 @@
-use Rattle.std.proofs.Common.{◌≡◌, ◌∷◌, [], rules, refl, arith}
+use Rattle.std.proofs.Common.{◌≡◌, rules}
 use Rattle.tm_commands.specs.declared.ending.Bad.TheVariants.{TooLong}
 use Rattle.tm_commands.specs.declared.ending.Ending.TheVariants.{BadText}
-use Rattle.tm_commands.specs.Inputs.{NoCert, long_cert, RefusesOne, bad_one}
+use Rattle.tm_commands.specs.Inputs.{NoCert, long_cert, RefusesCert, refuses_long_cert}
 use Rattle.tm_commands.specs.World.{files_data}
 use Rattle.tm_commands.specs.Inner.Stopping.{IsRefusal}
 use Rattle.tm_commands.proofs.Loading.{refused_by}
@@ -11,14 +11,14 @@ use Rattle.tm_commands.proofs.input.certificate.load_cert.Goals as goal
 pub returns-in_default-clause-stopped : goal.returns-in_default-clause-stopped
 returns-in_default-clause-stopped g c = λ d wanted shaped.
     let refusal : IsRefusal (NoCert (g.F.Files.contents c.args.files.now) c.args.cert.now d wanted)
-    (RefusesOne (c.args.cert.now ∷ [])) (files_data g.F.Files c.args.files.now)
+    (RefusesCert c.args.cert.now) (files_data g.F.Files c.args.files.now)
     (files_data g.F.Files c.read_file.new.files) (BadText c.args.cert.now TooLong) =
     record {
       cause = λ told. long_cert (c.in_ok-text.ensures.long (cc) told);
-      named = bad_one (0, omega arith, refl);
+      named = refuses_long_cert;
       long = record { specification = λ is. cc; file = λ name is. c.in_ok-text.ensures.taken (cc) };
     } in
-    refused_by (c.args.cert.now ∷ []) (BadText c.args.cert.now TooLong) c.bad_text.result refusal c.bad_text.ensures
+    refused_by c.args.cert.now (BadText c.args.cert.now TooLong) c.bad_text.result refusal c.bad_text.ensures
 
 pub returns-in-Ok-clause-told : goal.returns-in-Ok-clause-told
 returns-in-Ok-clause-told g c = λ d wanted shaped.

@@ -3,39 +3,46 @@ use Rattle.tm_cert.specs.declared.cert.Cert.TheVariants as certs
 use Rattle.tm_cert.specs.declared.shape.Kind.TheVariants.{Driver}
 use Rattle.tm_cir.specs.View.{trees_of}
 use Rattle.tm_syntax.specs.Design.View.{design_tree}
-use Rattle.tm_commands.specs.Check.{no_design, no_blocks, no_cert}
+use Rattle.tm_commands.specs.Check.{no_design, no_blocks, no_cert, may_refuse_design, may_refuse_blocks}
+use Rattle.tm_commands.specs.Check.{may_refuse_cert}
 use Rattle.tm_commands.specs.Inputs.{TellsBlocks, TellsCert, NoBlocks, NoCert}
+use Rattle.tm_commands.specs.Order.{IsDueOfThree, spec_is_due, driver_is_due, third_is_due}
 use Rattle.tm_commands.specs.World.{files_data}
-use Rattle.tm_commands.proofs.Loading.{named_later, reads_none, reads_on, stops_later}
-use Rattle.tm_commands.proofs.Specifying.{faulty_refuses, specified, text_of}
+use Rattle.tm_commands.proofs.Loading.{reads_none, reads_on, stops_later}
+use Rattle.tm_commands.proofs.Specifying.{specified, text_of}
 use Rattle.tm_commands.proofs.input.driver.load_driver.Goals as goal
 
 pub returns-in-Err-clause-stopped : goal.returns-in-Err-clause-stopped
 returns-in-Err-clause-stopped g c =
     stops_later g.F.Files c.args.files.now c.args.files.now c.load_specification.new.files
-    (c.args.spec.now ∷ c.args.driver.now ∷ c.args.cert.now ∷ []) c.args.spec.now c.in-Err.no_specification
-    (0, omega arith, refl) (reads_none (files_data g.F.Files c.args.files.now)) (λ e told none. no_design none)
-    (λ e faulty. named_later (c.args.spec.now ∷ c.args.driver.now ∷ c.args.cert.now ∷ []) c.args.spec.now e
-    (0, omega arith, refl) (faulty_refuses c.args.spec.now e faulty))
-    c.in-Err.ensures.stopped
+    (c.args.spec.now ∷ c.args.driver.now ∷ c.args.cert.now ∷ [])
+    (IsDueOfThree (g.F.Files.contents c.args.files.now) c.args.spec.now c.args.driver.now c.args.cert.now)
+    c.args.spec.now c.in-Err.no_specification (0, omega arith, refl) (λ told. spec_is_due)
+    (reads_none (files_data g.F.Files c.args.files.now)) (λ e told none. no_design none)
+    (λ e refused. may_refuse_design refused) c.in-Err.ensures.stopped
 
 pub returns-in-Err-load_blocks-clause-stopped : goal.returns-in-Err-load_blocks-clause-stopped
 returns-in-Err-load_blocks-clause-stopped g c =
     stops_later g.F.Files c.args.files.now c.load_specification.new.files c.load_blocks.new.files
-    (c.args.spec.now ∷ c.args.driver.now ∷ c.args.cert.now ∷ []) c.args.driver.now c.in-Err-load_blocks.unread
-    (1, omega arith, refl) c.load_specification.ensures.files
+    (c.args.spec.now ∷ c.args.driver.now ∷ c.args.cert.now ∷ [])
+    (IsDueOfThree (g.F.Files.contents c.args.files.now) c.args.spec.now c.args.driver.now c.args.cert.now)
+    c.args.driver.now c.in-Err-load_blocks.unread (1, omega arith, refl)
+    (λ told. driver_is_due (specified c.in-Ok.ensures.read told)) c.load_specification.ensures.files
     (λ e told none. no_blocks (specified c.in-Ok.ensures.read told)
     (subst (λ (f : List ℕ → Option (List ℕ)). NoBlocks f c.args.driver.now (design_tree c.in-Ok.design) e)
     c.load_specification.ensures.files.same_contents none))
-    (λ e. named_later (c.args.spec.now ∷ c.args.driver.now ∷ c.args.cert.now ∷ []) c.args.driver.now e
-    (1, omega arith, refl))
-    c.in-Err-load_blocks.ensures.stopped
+    (λ e refused. may_refuse_blocks refused) c.in-Err-load_blocks.ensures.stopped
 
 pub returns-in-Err-load_driver_cert-clause-stopped : goal.returns-in-Err-load_driver_cert-clause-stopped
 returns-in-Err-load_driver_cert-clause-stopped g c =
     stops_later g.F.Files c.args.files.now c.load_blocks.new.files c.load_driver_cert.new.files
-    (c.args.spec.now ∷ c.args.driver.now ∷ c.args.cert.now ∷ []) c.args.cert.now
-    c.in-Err-load_driver_cert.uncertified (2, omega arith, refl)
+    (c.args.spec.now ∷ c.args.driver.now ∷ c.args.cert.now ∷ [])
+    (IsDueOfThree (g.F.Files.contents c.args.files.now) c.args.spec.now c.args.driver.now c.args.cert.now)
+    c.args.cert.now c.in-Err-load_driver_cert.uncertified (2, omega arith, refl)
+    (λ told. third_is_due (specified c.in-Ok.ensures.read told)
+    (subst (λ (f : List ℕ → Option (List ℕ)).
+    TellsBlocks f c.args.driver.now (design_tree c.in-Ok.design) (trees_of c.in-Ok-load_blocks.blocks))
+    c.load_specification.ensures.files.same_contents (c.in-Ok-load_blocks.ensures.told told)))
     (reads_on c.load_specification.ensures.files c.load_blocks.ensures.files)
     (λ e told none. no_cert (specified c.in-Ok.ensures.read told)
     (subst (λ (f : List ℕ → Option (List ℕ)).
@@ -43,9 +50,7 @@ returns-in-Err-load_driver_cert-clause-stopped g c =
     c.load_specification.ensures.files.same_contents (c.in-Ok-load_blocks.ensures.told told))
     (subst (λ (f : List ℕ → Option (List ℕ)). NoCert f c.args.cert.now (design_tree c.in-Ok.design) Driver e)
     (c.load_blocks.ensures.files.same_contents ∙ c.load_specification.ensures.files.same_contents) none))
-    (λ e. named_later (c.args.spec.now ∷ c.args.driver.now ∷ c.args.cert.now ∷ []) c.args.cert.now e
-    (2, omega arith, refl))
-    c.in-Err-load_driver_cert.ensures.stopped
+    (λ e refused. may_refuse_cert refused) c.in-Err-load_driver_cert.ensures.stopped
 
 pub load_driver_cert-requires-clause-sound : goal.load_driver_cert-requires-clause-sound
 load_driver_cert-requires-clause-sound g c = c.in-Ok.ensures.read.is.sound

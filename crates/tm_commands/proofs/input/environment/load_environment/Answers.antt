@@ -2,21 +2,22 @@ use Rattle.std.proofs.Common.{ℕ, List, Option, [], ◌∷◌, refl, subst, ari
 use Rattle.tm_cert.specs.declared.cert.Cert.TheVariants as certs
 use Rattle.tm_cert.specs.declared.shape.Kind.TheVariants.{Environment}
 use Rattle.tm_syntax.specs.Design.View.{design_tree}
-use Rattle.tm_commands.specs.Check.{no_spec, no_levels}
+use Rattle.tm_commands.specs.Check.{no_spec, no_levels, may_refuse_spec, may_refuse_levels}
 use Rattle.tm_commands.specs.Inputs.{TellsCert, NoCert}
+use Rattle.tm_commands.specs.Order.{IsDueOfTwo, first_is_due, cert_is_due}
 use Rattle.tm_commands.specs.World.{files_data}
-use Rattle.tm_commands.proofs.Loading.{named_later, reads_none, reads_on, stops_later}
-use Rattle.tm_commands.proofs.Specifying.{faulty_refuses, specified, text_of}
+use Rattle.tm_commands.proofs.Loading.{reads_none, reads_on, stops_later}
+use Rattle.tm_commands.proofs.Specifying.{specified, text_of}
 use Rattle.tm_commands.proofs.input.environment.load_environment.Goals as goal
 
 pub returns-in-Err-clause-stopped : goal.returns-in-Err-clause-stopped
 returns-in-Err-clause-stopped g c =
     stops_later g.F.Files c.args.files.now c.args.files.now c.load_specification.new.files
-    (c.args.spec.now ∷ c.args.cert.now ∷ []) c.args.spec.now c.in-Err.no_specification (0, omega arith, refl)
+    (c.args.spec.now ∷ c.args.cert.now ∷ [])
+    (IsDueOfTwo (g.F.Files.contents c.args.files.now) c.args.spec.now c.args.cert.now) c.args.spec.now
+    c.in-Err.no_specification (0, omega arith, refl) (λ told. first_is_due)
     (reads_none (files_data g.F.Files c.args.files.now)) (λ e told none. no_spec none)
-    (λ e faulty. named_later (c.args.spec.now ∷ c.args.cert.now ∷ []) c.args.spec.now e (0, omega arith, refl)
-    (faulty_refuses c.args.spec.now e faulty))
-    c.in-Err.ensures.stopped
+    (λ e refused. may_refuse_spec refused) c.in-Err.ensures.stopped
 
 pub load_levels-requires-clause-sound : goal.load_levels-requires-clause-sound
 load_levels-requires-clause-sound g c = c.in-Ok.ensures.read.is.sound
@@ -44,13 +45,14 @@ returns-in-Ok-load_levels-clause-read g c = record {
 pub returns-in-Err-load_levels-clause-stopped : goal.returns-in-Err-load_levels-clause-stopped
 returns-in-Err-load_levels-clause-stopped g c =
     stops_later g.F.Files c.args.files.now c.load_specification.new.files c.load_levels.new.files
-    (c.args.spec.now ∷ c.args.cert.now ∷ []) c.args.cert.now c.in-Err-load_levels.uncertified (1, omega arith, refl)
-    c.load_specification.ensures.files
+    (c.args.spec.now ∷ c.args.cert.now ∷ [])
+    (IsDueOfTwo (g.F.Files.contents c.args.files.now) c.args.spec.now c.args.cert.now) c.args.cert.now
+    c.in-Err-load_levels.uncertified (1, omega arith, refl)
+    (λ told. cert_is_due (specified c.in-Ok.ensures.read told)) c.load_specification.ensures.files
     (λ e told none. no_levels (specified c.in-Ok.ensures.read told)
     (subst (λ (f : List ℕ → Option (List ℕ)). NoCert f c.args.cert.now (design_tree c.in-Ok.design) Environment e)
     c.load_specification.ensures.files.same_contents none))
-    (λ e. named_later (c.args.spec.now ∷ c.args.cert.now ∷ []) c.args.cert.now e (1, omega arith, refl))
-    c.in-Err-load_levels.ensures.stopped
+    (λ e refused. may_refuse_levels refused) c.in-Err-load_levels.ensures.stopped
 
 pub returns-in-Err-load_levels-clause-files : goal.returns-in-Err-load_levels-clause-files
 returns-in-Err-load_levels-clause-files g c = reads_on c.load_specification.ensures.files c.load_levels.ensures.files

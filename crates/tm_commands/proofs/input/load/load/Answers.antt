@@ -2,47 +2,53 @@ use Rattle.std.proofs.Common.{ℕ, List, Option, [], ◌∷◌, refl, subst, ◌
 use Rattle.tm_syntax.specs.Design.View.{design_tree}
 use Rattle.tm_cir.specs.View.{trees_of}
 use Rattle.tm_commands.specs.Inputs.{TellsBlocks, TellsScript, NoBlocks, NoScript}
-use Rattle.tm_commands.specs.Run.{no_design, no_blocks, no_script}
+use Rattle.tm_commands.specs.Run.{no_design, no_blocks, no_script, may_refuse_design, may_refuse_blocks}
+use Rattle.tm_commands.specs.Run.{may_refuse_script}
+use Rattle.tm_commands.specs.Order.{IsDueOfThree, spec_is_due, driver_is_due, third_is_due}
 use Rattle.tm_commands.specs.World.{files_data}
-use Rattle.tm_commands.proofs.Loading.{named_later, reads_none, reads_on, stops_later}
-use Rattle.tm_commands.proofs.Specifying.{faulty_refuses, playable, specified}
+use Rattle.tm_commands.proofs.Loading.{reads_none, reads_on, stops_later}
+use Rattle.tm_commands.proofs.Specifying.{playable, specified}
 use Rattle.tm_commands.proofs.input.load.load.Goals as goal
 
 pub returns-in-Err-clause-stopped : goal.returns-in-Err-clause-stopped
 returns-in-Err-clause-stopped g c =
     stops_later g.F.Files c.args.files.now c.args.files.now c.load_specification.new.files
-    (c.args.spec.now ∷ c.args.driver.now ∷ c.args.choices.now ∷ []) c.args.spec.now c.in-Err.no_design
-    (0, omega arith, refl) (reads_none (files_data g.F.Files c.args.files.now)) (λ e told none. no_design none)
-    (λ e faulty. named_later (c.args.spec.now ∷ c.args.driver.now ∷ c.args.choices.now ∷ []) c.args.spec.now e
-    (0, omega arith, refl) (faulty_refuses c.args.spec.now e faulty))
-    c.in-Err.ensures.stopped
+    (c.args.spec.now ∷ c.args.driver.now ∷ c.args.choices.now ∷ [])
+    (IsDueOfThree (g.F.Files.contents c.args.files.now) c.args.spec.now c.args.driver.now c.args.choices.now)
+    c.args.spec.now c.in-Err.no_design (0, omega arith, refl) (λ told. spec_is_due)
+    (reads_none (files_data g.F.Files c.args.files.now)) (λ e told none. no_design none)
+    (λ e refused. may_refuse_design refused) c.in-Err.ensures.stopped
 
 pub returns-in-Err-load_blocks-clause-stopped : goal.returns-in-Err-load_blocks-clause-stopped
 returns-in-Err-load_blocks-clause-stopped g c =
     stops_later g.F.Files c.args.files.now c.load_specification.new.files c.load_blocks.new.files
-    (c.args.spec.now ∷ c.args.driver.now ∷ c.args.choices.now ∷ []) c.args.driver.now c.in-Err-load_blocks.no_blocks
-    (1, omega arith, refl) c.load_specification.ensures.files
+    (c.args.spec.now ∷ c.args.driver.now ∷ c.args.choices.now ∷ [])
+    (IsDueOfThree (g.F.Files.contents c.args.files.now) c.args.spec.now c.args.driver.now c.args.choices.now)
+    c.args.driver.now c.in-Err-load_blocks.no_blocks (1, omega arith, refl)
+    (λ told. driver_is_due (specified c.in-Ok.ensures.read told)) c.load_specification.ensures.files
     (λ e told none. no_blocks (specified c.in-Ok.ensures.read told)
     (subst (λ (f : List ℕ → Option (List ℕ)). NoBlocks f c.args.driver.now (design_tree c.in-Ok.design) e)
     c.load_specification.ensures.files.same_contents none))
-    (λ e. named_later (c.args.spec.now ∷ c.args.driver.now ∷ c.args.choices.now ∷ []) c.args.driver.now e
-    (1, omega arith, refl))
-    c.in-Err-load_blocks.ensures.stopped
+    (λ e refused. may_refuse_blocks refused) c.in-Err-load_blocks.ensures.stopped
 
 pub returns-in-Err-load_script-clause-stopped : goal.returns-in-Err-load_script-clause-stopped
 returns-in-Err-load_script-clause-stopped g c =
     stops_later g.F.Files c.args.files.now c.load_blocks.new.files c.load_script.new.files
-    (c.args.spec.now ∷ c.args.driver.now ∷ c.args.choices.now ∷ []) c.args.choices.now c.in-Err-load_script.no_script
-    (2, omega arith, refl) (reads_on c.load_specification.ensures.files c.load_blocks.ensures.files)
+    (c.args.spec.now ∷ c.args.driver.now ∷ c.args.choices.now ∷ [])
+    (IsDueOfThree (g.F.Files.contents c.args.files.now) c.args.spec.now c.args.driver.now c.args.choices.now)
+    c.args.choices.now c.in-Err-load_script.no_script (2, omega arith, refl)
+    (λ told. third_is_due (specified c.in-Ok.ensures.read told)
+    (subst (λ (f : List ℕ → Option (List ℕ)).
+    TellsBlocks f c.args.driver.now (design_tree c.in-Ok.design) (trees_of c.in-Ok-load_blocks.blocks))
+    c.load_specification.ensures.files.same_contents (c.in-Ok-load_blocks.ensures.told told)))
+    (reads_on c.load_specification.ensures.files c.load_blocks.ensures.files)
     (λ e told none. no_script (specified c.in-Ok.ensures.read told)
     (subst (λ (f : List ℕ → Option (List ℕ)).
     TellsBlocks f c.args.driver.now (design_tree c.in-Ok.design) (trees_of c.in-Ok-load_blocks.blocks))
     c.load_specification.ensures.files.same_contents (c.in-Ok-load_blocks.ensures.told told))
     (subst (λ (f : List ℕ → Option (List ℕ)). NoScript f c.args.choices.now (design_tree c.in-Ok.design) e)
     (c.load_blocks.ensures.files.same_contents ∙ c.load_specification.ensures.files.same_contents) none))
-    (λ e. named_later (c.args.spec.now ∷ c.args.driver.now ∷ c.args.choices.now ∷ []) c.args.choices.now e
-    (2, omega arith, refl))
-    c.in-Err-load_script.ensures.stopped
+    (λ e refused. may_refuse_script refused) c.in-Err-load_script.ensures.stopped
 
 pub load_script-requires : goal.load_script-requires
 load_script-requires g c = playable c.in-Ok.ensures.read

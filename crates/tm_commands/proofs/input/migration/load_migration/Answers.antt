@@ -2,19 +2,21 @@ use Rattle.std.proofs.Common.{ℕ, List, Option, [], ◌∷◌, refl, subst, ari
 use Rattle.tm_cert.specs.declared.shape.Kind.TheVariants.{Either}
 use Rattle.tm_syntax.specs.Design.View.{design_tree}
 use Rattle.tm_commands.specs.Inputs.{TellsCert, NoCert}
-use Rattle.tm_commands.specs.Migrate.{no_spec, no_cert}
+use Rattle.tm_commands.specs.Migrate.{no_spec, no_cert, refuses_spec, refuses_cert}
+use Rattle.tm_commands.specs.Order.{IsDueOfTwo, first_is_due, cert_is_due}
 use Rattle.tm_commands.specs.World.{files_data}
 use Rattle.tm_commands.proofs.Loading.{reads_none, reads_on, stops_later}
-use Rattle.tm_commands.proofs.Migrating.{cert_refused, faulty_spec_refuses}
 use Rattle.tm_commands.proofs.Specifying.{specified, text_of}
 use Rattle.tm_commands.proofs.input.migration.load_migration.Goals as goal
 
 pub returns-in-Err-clause-stopped : goal.returns-in-Err-clause-stopped
 returns-in-Err-clause-stopped g c =
     stops_later g.F.Files c.args.files.now c.args.files.now c.load_specification.new.files
-    (c.args.spec.now ∷ c.args.cert.now ∷ []) c.args.spec.now c.in-Err.no_specification (0, omega arith, refl)
+    (c.args.spec.now ∷ c.args.cert.now ∷ [])
+    (IsDueOfTwo (g.F.Files.contents c.args.files.now) c.args.spec.now c.args.cert.now) c.args.spec.now
+    c.in-Err.no_specification (0, omega arith, refl) (λ told. first_is_due)
     (reads_none (files_data g.F.Files c.args.files.now)) (λ e told none. no_spec none)
-    (faulty_spec_refuses c.args.cert.now) c.in-Err.ensures.stopped
+    (λ e refused. refuses_spec refused) c.in-Err.ensures.stopped
 
 pub cert_shape-requires : goal.cert_shape-requires
 cert_shape-requires g c = record { sound = c.in-Ok.ensures.read.is.sound; read = text_of c.in-Ok.ensures.read }
@@ -34,12 +36,14 @@ returns-in-Ok-load_cert-clause-loaded g c = record {
 pub returns-clause-stopped : goal.returns-clause-stopped
 returns-clause-stopped g c =
     stops_later g.F.Files c.args.files.now c.load_specification.new.files c.load_cert.new.files
-    (c.args.spec.now ∷ c.args.cert.now ∷ []) c.args.cert.now c.in-Err-load_cert.no_cert (1, omega arith, refl)
-    c.load_specification.ensures.files
+    (c.args.spec.now ∷ c.args.cert.now ∷ [])
+    (IsDueOfTwo (g.F.Files.contents c.args.files.now) c.args.spec.now c.args.cert.now) c.args.cert.now
+    c.in-Err-load_cert.no_cert (1, omega arith, refl)
+    (λ told. cert_is_due (specified c.in-Ok.ensures.read told)) c.load_specification.ensures.files
     (λ e told none. no_cert (specified c.in-Ok.ensures.read told)
     (subst (λ (f : List ℕ → Option (List ℕ)). NoCert f c.args.cert.now (design_tree c.in-Ok.design) Either e)
     c.load_specification.ensures.files.same_contents none))
-    (cert_refused c.args.cert.now)
+    (λ e refused. refuses_cert refused)
     (c.in-Err-load_cert.ensures.stopped (design_tree c.in-Ok.design) Either c.in_ok-shape.ensures)
 
 pub returns-clause-files : goal.returns-clause-files

@@ -3,9 +3,8 @@ use Rattle.tm_syntax.specs.declared.fault.Faulty.{Faulty as Fault}
 use Rattle.tm_syntax.specs.Design.View.{design_tree}
 use Rattle.tm_commands.specs.declared.ending.Ending.TheVariants.{Faulty}
 use Rattle.tm_commands.specs.Headline.{long_fault}
-use Rattle.tm_commands.specs.Inputs.{NoSpecification, faulty_spec}
+use Rattle.tm_commands.specs.Inputs.{NoSpecification, faulty_spec, RefusesSpecification, refuses_specification}
 use Rattle.tm_commands.specs.World.{files_data}
-use Rattle.tm_commands.specs.Inner.Reading.{IsFaulty}
 use Rattle.tm_commands.specs.Inner.Stopping.{IsRefusal}
 use Rattle.tm_commands.proofs.Loading.{long_spec}
 use Rattle.tm_commands.proofs.Specifying.{text_is_read, text_refuses}
@@ -13,16 +12,17 @@ use Rattle.tm_commands.proofs.input.specification.load_specification.Goals as go
 
 pub returns-in_default-clause-stopped : goal.returns-in_default-clause-stopped
 returns-in_default-clause-stopped g c =
-    let refusal : IsRefusal (NoSpecification (g.F.Files.contents c.args.files.now) c.args.spec.now) IsFaulty
+    let refusal : IsRefusal (NoSpecification (g.F.Files.contents c.args.files.now) c.args.spec.now) RefusesSpecification
     (files_data g.F.Files c.args.files.now) (files_data g.F.Files c.read_file.new.files) (Faulty long_fault) =
     record {
       cause =
           λ told. faulty_spec (long_spec (g.F.Files.contents c.args.files.now) c.args.spec.now
           (c.in_ok-text.ensures.long (cc) told));
-      named = tt;
+      named = refuses_specification;
       long = record { specification = λ is. c.in_ok-text.ensures.taken (cc); file = λ name is. cc };
     } in
-    subst (λ (f : Fault). IsRefusal (NoSpecification (g.F.Files.contents c.args.files.now) c.args.spec.now) IsFaulty
+    subst (λ (f : Fault).
+    IsRefusal (NoSpecification (g.F.Files.contents c.args.files.now) c.args.spec.now) RefusesSpecification
     (files_data g.F.Files c.args.files.now) (files_data g.F.Files c.read_file.new.files)
     (Faulty f)) (sym c.long_fault.ensures) refusal
 
