@@ -3,8 +3,8 @@
 //! The words of a line stand apart by single blanks. Three kinds of lines are no words of a command: `show NAME` writes
 //! what a file holds, `fill NAME N` makes a file of N blanks, and `fail CALL PUT WORDS` obeys the words over files in
 //! memory (`s`, `d`, `c` and `k` hold the specification, the driver, the played choices and the certificate of `flag`,
-//! `lost` and `loss` a specification that is lost and its certificate), where the call of the files and the put of these
-//! numbers fail (0 is none), and tells also whether there is a file `o` afterwards.
+//! `lost` and `loss` a specification that is lost and its certificate), where the call of the files and the put of
+//! these numbers fail (0 is none), and tells also whether there is a file `o` afterwards.
 #![tactic(auto)]
 
 mod failing;

@@ -2,11 +2,14 @@
 use std::alloc::{AllocError, AllocFailed};
 use thiserror::Error;
 
-/// Why a task has no answer: it asks for a function that was not made, or memory is wanting.
+/// Why a task has no answer: it asks for a function that was not made, its width is none of 1 to 64, or memory is
+/// wanting.
 #[derive(Debug, Drop, Error)]
 pub enum Failure {
     #[error("no function has this number")]
     UnknownFunction,
+    #[error("a width that is none of 1 to 64")]
+    Width,
     #[error("out of memory")]
     Memory,
 }

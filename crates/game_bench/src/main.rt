@@ -10,7 +10,8 @@
 //! - `stay`: for each goal the nodes of the set from which the driver can stay in it;
 //! - `solve`: who wins, and what solving counts.
 //!
-//! All but `terms` ask of a game whose levels are the bits of a state by place. With ` by weight` behind the word, as in
+//! All but `terms` ask of a game whose levels are the bits of a state by place. With ` by weight` behind the word, as
+//! in
 //! `solve by weight`, the levels are in the weight order.
 #![tactic(auto)]
 

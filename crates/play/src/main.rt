@@ -1,8 +1,8 @@
 //! Plays the choices of a file against the driver of another one, over a specification: `play SPEC DRIVER CHOICES`.
 //!
-//! It is what `termite run` does, without all else that `termite` stands on, so it is there soon after a first clone. It
-//! makes no game, so in a specification with the word `assume` it does not tell whether an answer without an outcome is
-//! allowed.
+//! It is what `termite run` does, without all else that `termite` stands on, so it is there soon after a first clone.
+//! It makes no game, so in a specification with the word `assume` it does not tell whether an answer without an outcome
+//! is allowed.
 #![tactic(auto)]
 
 mod fault;

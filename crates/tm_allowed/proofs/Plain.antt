@@ -1,5 +1,5 @@
--- A text without the word `assume` assumes nothing: by the grammar, each form at a time. Where a form begins with tokens
--- among which the word does not stand, it leaves such tokens.
+-- A text without the word `assume` assumes nothing: by the grammar, each form at a time. Where a form begins with
+-- tokens among which the word does not stand, it leaves such tokens.
 use Rattle.std.proofs.Common.{◌≡◌, ℕ, ◌+◌, Bool, true, false, Option, None, List, [], ◌∷◌, ◌++◌, refl, sym, ap, subst, ◌||◌, ◌∙◌, map}
 use Rattle.std.specs.Prelude.{IfSome}
 use Rattle.std.specs.List.{AllByRecursion, flat_map, enumerate_from}

@@ -30,8 +30,9 @@ pub fn texts_without_the_word_assume_nothing()
         → has_assume tokens ≡ false → AssumesNothing spec }
 {}
 
-/// In a design that assumes nothing a driver's move is allowed where the turn rule permits it: the driver can be picked,
-/// the arguments are in range, and a leave is of a process at a magic block. Each run ends then for some choices.
+/// In a design that assumes nothing a driver's move is allowed where the turn rule permits it: the driver can be
+/// picked, the arguments are in range, and a leave is of a process at a magic block. Each run ends then for some
+/// choices.
 pub fn permitted_moves_are_allowed()
     ensures { (d : DesignTree) (s : StateData) (move : Move) → IsSound d → IsOfText d.spec → AssumesNothing d.spec
         → IsState d s → is_driver_move move ≡ true → is_some (work d s move) ≡ true

@@ -36,8 +36,8 @@ pub(crate) struct Todo<'t> {
     pub row: Row<'t>,
 }
 
-// The atoms that have been noted, the tasks whose bodies have been entered, and what is still to be walked, the next one
-// last. A body that has been entered adds no atom when it is walked again, so it is entered once.
+// The atoms that have been noted, the tasks whose bodies have been entered, and what is still to be walked, the next
+// one last. A body that has been entered adds no atom when it is walked again, so it is entered once.
 #[derive(Drop)]
 pub(crate) struct Walk<'t> {
     pub pool: Pool<'t>,

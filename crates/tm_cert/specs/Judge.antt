@@ -32,6 +32,7 @@ of_key key judge ms = and_then (value_at key key ms) (judge key)
 abbrev pub format_of : List ℕ → ℕ → Judged Format
 format_of path n = if n == 1 then Ok First else (if n == 2 then Ok Second else Err (Range path))
 
+-- the format that a value gives
 abbrev pub format_at : List ℕ → Data → Judged Format
 format_at path d = and_then (number_at path d) (format_of path)
 
@@ -61,6 +62,7 @@ side_at kind path d = ok_or (option_and_then (wanted_side kind) (option_and_then
 abbrev pub same_bits : ℕ → List ℕ → ℕ → Judged ℕ
 same_bits bits path n = if n == bits then Ok n else Err (Range path)
 
+-- the number of bits that a value gives
 abbrev pub bits_at : ℕ → List ℕ → Data → Judged ℕ
 bits_at bits path d = and_then (number_at path d) (same_bits bits path)
 
@@ -94,6 +96,7 @@ environment_of shape format order nodes ms =
     (λ levels. and_then (only_keys (λ key. key) (keys_of format Environment) ms)
     (λ _. Ok (cert.Environment (record { order = order; nodes = nodes; levels = levels }))))
 
+-- the certificate of a side
 abbrev pub cert_of : CertShape → Format → List ℕ → List Entry → Members → Side → Judged Cert
 cert_of shape format order nodes ms Driver = driver_of shape format order nodes ms
 cert_of shape format order nodes ms Environment = environment_of shape format order nodes ms

@@ -16,9 +16,9 @@ use tm_dd::NodeId;
 use tm_ddops::Manager;
 use tm_term::{Term, TermId, Terms};
 
-/// The levels that change where each of the first inputs gets the value of a term, with the diagrams of what they become.
-/// An input that gets its own value is left alone. What is made of terms is remembered, and every id keeps its meaning,
-/// also where memory runs out.
+/// The levels that change where each of the first inputs gets the value of a term, with the diagrams of what they
+/// become. An input that gets its own value is left alone. What is made of terms is remembered, and every id keeps its
+/// meaning, also where memory runs out.
 pub fn changes(
     alloc: Global,
     terms: &Terms,

@@ -13,8 +13,8 @@ use tm_dd::NodeId;
 use tm_ddops::Manager;
 use tm_term::{TermId, Terms};
 
-/// The diagram that is true exactly where a term of one bit is 1. What is made of terms is remembered, and every id keeps
-/// its meaning, also where memory runs out.
+/// The diagram that is true exactly where a term of one bit is 1. What is made of terms is remembered, and every id
+/// keeps its meaning, also where memory runs out.
 pub fn truth(
     alloc: Global,
     terms: &Terms,

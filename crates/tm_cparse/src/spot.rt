@@ -1,10 +1,10 @@
 //! Tokens where they stand in a text, and readers of single ones.
 ghost use Rattle.std.specs.Prelude.{◌≡◌, ◌≢◌, ◌<◌, ◌∷◌, [], Some, length, MatchOption, IfOk, IfErr, IfSome};
-ghost use Rattle.tm_cir.specs.Text.Token.{label, constant, sign, word};
-ghost use Rattle.tm_cparse.specs.View.{token_tree, word_tree, sign_tree, tokens_of};
+ghost use Rattle.tm_cir.specs.Text.Token.{label, constant, sign};
+ghost use Rattle.tm_cparse.specs.View.{token_tree, sign_tree, tokens_of};
 ghost use Rattle.tm_cparse.specs.Inner.Reading.{first_of, label_number, constant_value, IsMissing, IsNoLabel, IsNoConstant, IsNoAmount};
 
-use crate::token::{Sign, Token, Word};
+use crate::token::{Sign, Token};
 use std::alloc::{AllocError, AllocFailed};
 
 /// A token in a text: whether it is spelled so over the design (a name of no item is not, nor is a label of more than
@@ -78,15 +78,6 @@ pub fn need(spots: &[Spot], token: Token) -> Result<&[Spot], Stop<'_>>
         Some(rest) => Ok(rest),
         None => Err(Stop::Unexpected(spots)),
     }
-}
-
-/// The tokens behind the first one, which has to be this word.
-pub fn need_word(spots: &[Spot], needed: Word) -> Result<&[Spot], Stop<'_>>
-    ensures taken { IfOk result (λ rest. tokens_of spots.now ≡ word (word_tree needed) ∷ tokens_of rest.now) }
-    ensures shorter { IfOk result (λ rest. length rest.now < length spots.now) }
-    ensures refused { IfErr result (IsMissing (word (word_tree needed)) spots.now) }
-{
-    need(spots, Token::Word(needed))
 }
 
 /// The tokens behind the first one, which has to be this sign.

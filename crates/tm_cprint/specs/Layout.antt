@@ -16,9 +16,11 @@ use Rattle.tm_cir.specs.Text.Spelling.{sign_text, item_name}
 abbrev pub variable_name : DesignTree → ℕ → List ℕ
 variable_name d k = option_map_or (λ (v : Var). item_name 118 k v.path) (slice_get d.vars k) []
 
+-- the name of the location of a process (112 is `p`)
 abbrev pub location_name : DesignTree → ℕ → List ℕ
 location_name d k = option_map_or (λ (p : Item). item_name 112 k p.path) (slice_get d.processes k) []
 
+-- the name of a controllable task (116 is `t`)
 abbrev pub task_name : DesignTree → ℕ → List ℕ
 task_name d k = option_map_or (λ (t : Item). item_name 116 k t.path) (slice_get d.tasks k) []
 

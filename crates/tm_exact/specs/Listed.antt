@@ -7,14 +7,17 @@ use Rattle.tm_sem.specs.State.{StateData}
 use Rattle.tm_solve.specs.Sets.{IsAmong}
 use Rattle.tm_exact.specs.Exact.{first_values, for_values, states_of}
 
+-- both parts of a conjunction hold
 pub and_parts : (a b : Bool) → (a && b) ≡ true → (a ≡ true) × (b ≡ true)
 and_parts true b e = (refl, e)
 and_parts false b e = absurd (cc)
 
+-- where both parts hold, so does their conjunction
 pub and_both : (a b : Bool) → a ≡ true → b ≡ true → (a && b) ≡ true
 and_both true b p q = q
 and_both false b p q = absurd (cc)
 
+-- two denials are none
 pub not_not : (a : Bool) → not (not a) ≡ a
 not_not true = refl
 not_not false = refl

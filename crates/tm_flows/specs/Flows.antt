@@ -135,8 +135,8 @@ pub record Continues (x : CellTables) (number : Place → List Place → Option 
   pub leads : (u : Table) → Extends n u → (v : List ℕ) → AreInputs u v →
       Leads x u v number (piece v) f before g after
 
--- what leads from a flow and ends to others leaves the state variable of a number alone: the term that it had in the flow
--- it has in the one behind, and where runs have stopped, if it had it where runs had stopped before
+-- what leads from a flow and ends to others leaves the state variable of a number alone: the term that it had in the
+-- flow it has in the one behind, and where runs have stopped, if it had it where runs had stopped before
 pub record Leaves (i : ℕ) (f : Option FlowTerms) (before : EndTerms) (g : Option FlowTerms) (after : EndTerms) :
     Type 0 where
   pub flow : (id : TermId) → IfSome f (HasTerm i id) → IfSome g (HasTerm i id)

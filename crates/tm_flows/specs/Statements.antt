@@ -3,7 +3,7 @@ use Rattle.std.specs.Prelude.{◌≡◌, ℕ, ◌+◌, ◌==◌, Bool, Option, S
 use Rattle.std.specs.List.{list_any}
 use Rattle.tm_base.specs.declared.place.Place.{Place}
 use Rattle.tm_syntax.specs.declared.design.Ty.{Ty}
-use Rattle.tm_syntax.specs.Tree.{ExprTree, StmtTree, StmtRow}
+use Rattle.tm_syntax.specs.Tree.{ExprTree, StmtTree}
 use Rattle.tm_syntax.specs.Design.{DesignTree}
 use Rattle.tm_syntax.specs.Design.Cells.{Called}
 use Rattle.tm_syntax.specs.Design.Scope.{Scope}
@@ -13,7 +13,7 @@ use Rattle.tm_term.specs.Table.{Table}
 use Rattle.tm_term.specs.Value.{AreInputs, value_of, Extends}
 use Rattle.tm_sem.specs.Run.{Ending, failed, finished}
 use Rattle.tm_sem.specs.Value.{Memory, overruns, value}
-use Rattle.tm_flat.specs.BitRun.{Reader, row_ending, stmt_ending, unless_overrun}
+use Rattle.tm_flat.specs.BitRun.{Reader, stmt_ending, unless_overrun}
 use Rattle.tm_flat.specs.Positions.{stmt_after}
 use Rattle.tm_flat.specs.Steps.{IsTerm}
 use Rattle.tm_flat.specs.Writes.{stmt_writes}
@@ -50,12 +50,8 @@ abbrev pub stmt_piece : Readers → Scope → List Place → StmtTree → ℕ �
 stmt_piece r scope trail s k v m =
     unless_overrun r.design scope m s (stmt_ending (reads r v) scope trail s k m)
 
--- so do statements in a row
-abbrev pub row_piece : Readers → Scope → List Place → StmtRow → ℕ → List ℕ → Memory → Ending
-row_piece r scope trail row k v m = row_ending (reads r v) scope trail row k m
-
--- a statement of a body leads from a flow to another one, and to ends, in each design of the tables, and leaves each state
--- variable alone that it does not write
+-- a statement of a body leads from a flow to another one, and to ends, in each design of the tables, and leaves each
+-- state variable alone that it does not write
 abbrev pub LeadsThrough : ScopedCells → ℕ → StmtTree → Table → Table → FlowTerms → EndTerms → Option FlowTerms →
     EndTerms → Type 0
 LeadsThrough s first stmt t n f before g after =

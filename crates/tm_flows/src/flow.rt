@@ -14,8 +14,8 @@ use tm_flatten::{TermMemory, denial, make};
 use tm_scope::{CellNumber, SiteBody};
 use tm_term::{Term, TermId, Terms};
 
-/// Where runs stand: a truth that says whether one stands there, the terms of its memory, and the position of the choice
-/// bits at which it goes on.
+/// Where runs stand: a truth that says whether one stands there, the terms of its memory, and the position of the
+/// choice bits at which it goes on.
 ///
 /// Contracts see all three.
 #[derive(Drop)]
@@ -88,8 +88,8 @@ impl Flow {
         })
     }
 
-    /// The runs of this flow after a term was put into a cell, as a body of an instance numbers it. `AllocError` is want
-    /// of memory.
+    /// The runs of this flow after a term was put into a cell, as a body of an instance numbers it. `AllocError` is
+    /// want of memory.
     pub fn with(self, at: SiteBody, cell: CellNumber, id: TermId) -> Result<Flow, AllocError>
         ensures { IfOk result (PutsAt at cell id self) }
     {

@@ -22,8 +22,8 @@ pub struct Operand {
     pub value: TermId,
 }
 
-/// Values an expression where runs stand, where its place asks for this type: those at which it overruns fail. `text` is
-/// a buffer. `AllocError` is want of memory.
+/// Values an expression where runs stand, where its place asks for this type: those at which it overruns fail. `text`
+/// is a buffer. `AllocError` is want of memory.
 pub fn value_operand<'s>(
     reader: &TermReader<'s>,
     terms: &mut Terms,

@@ -42,8 +42,8 @@ fn design_of(alloc: Global, spec: Spec) -> Result<Design, FrontError>
 
 /// The design that the text of a specification tells.
 ///
-/// `Faulty` is the fault of the text, one of `F1` to `F12`. `Memory` is want of memory. Near linear in the text and in the
-/// bodies of its instances.
+/// `Faulty` is the fault of the text, one of `F1` to `F12`. `Memory` is want of memory. Near linear in the text and in
+/// the bodies of its instances.
 pub fn read_specification(alloc: Global, text: &[u8]) -> Result<Specification, FrontError>
     requires { length text.now ≤ specification_limit }
     ensures read { IfOk result (λ s. (ts : List tokens.Token)

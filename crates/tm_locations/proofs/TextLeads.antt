@@ -358,7 +358,8 @@ module _ (d : DesignTree) where
     all-fit are n s here =
         subtree-fits 0 (length d.instances) are.all (main-fits are) n (omega arith) (within n s here) s here
 
--- where names are known and told apart, all that is asked fits, and the instances are those of the text, paths lead by it
+-- where names are known and told apart, all that is asked fits, and the instances are those of the text, paths lead by
+-- it
 pub joined_leads : (d : DesignTree) → IsFree d.spec kind.UnknownName → IsFree d.spec kind.Twice →
     IsFree d.spec kind.Mismatch → AreInstances d.spec d.instances → LeadsByText d
 joined_leads d known once matching instances = λ n s path there.

@@ -47,8 +47,8 @@ impl<'s> Model for Machine<'s> {
     ghost coded = { design_contract.the_row.coded };
 }
 
-/// The locations of each process of a design, in order. Linear in the statements of the processes and of the bodies that
-/// these call and that may pause. `AllocError` is want of memory.
+/// The locations of each process of a design, in order. Linear in the statements of the processes and of the bodies
+/// that these call and that may pause. `AllocError` is want of memory.
 pub fn locate<'s>(alloc: Global, tables: &'s Tables<'s>) -> Result<Vec<Locations<'s>>, AllocError>
     ensures { IfOk result (λ all. AreLocated tables.now (length tables.now.processes.items) all.items) }
 {

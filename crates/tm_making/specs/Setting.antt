@@ -42,6 +42,7 @@ values_at x v = input_values x.levels v
 abbrev pub choices_of : Setting → List ℕ
 choices_of x = range_with_len (x.state_levels + room) room
 
+-- the levels of the bits of arguments
 abbrev pub arguments_of : Setting → List ℕ
 arguments_of x = range_with_len x.state_levels room
 

@@ -7,8 +7,8 @@ ghost use Rattle.tm_syntax.specs.Faults.{IsOfText, IsSound};
 ghost use Rattle.tm_marks.specs.Markable.{IsMarkable};
 
 /// A design of a text that keeps its facts, of which a memory holds the lists, has types with values, goals and
-/// fairness conditions that are truths over settled cells, parameters with cells, small numbers, and no more inputs than
-/// can be numbered.
+/// fairness conditions that are truths over settled cells, parameters with cells, small numbers, and no more inputs
+/// than can be numbered.
 pub fn sound_designs_of_texts_are_markable()
     ensures { (d : resolved.Design) → IsSound (design_tree d) → IsOfText (design_tree d).spec → IsMarkable d }
 {}

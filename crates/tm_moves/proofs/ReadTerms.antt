@@ -1,4 +1,5 @@
--- The terms that a memory tells of its cells are those that it has: a table in which one id alone has a value other than
+-- The terms that a memory tells of its cells are those that it has: a table in which one id alone has a value other
+-- than
 -- 0 tells ids apart.
 use Rattle.std.proofs.Common.{◌≡◌, ℕ, zero, suc, Option, None, Some, List, [], ◌∷◌, map, slice_get, refl, sym, ap, ◌∙◌, arith}
 use Rattle.tm_syntax.specs.Design.Cells.{Cell, in_state}

@@ -64,7 +64,8 @@ StmtsLead w d p scope trail ss from now flow g =
     (λ i. row_writes (body_after (call_depth d.spec) d) (body_writes (call_depth d.spec) d i) d scope i (row_of ss)
     flow.position) from.terms now.terms (Some flow) from.ends g now.ends
 
--- what the tables ask of the work of a process: it is of statements of bodies that have types, and its choices have bits
+-- what the tables ask of the work of a process: it is of statements of bodies that have types, and its choices have
+-- bits
 pub record MayBeWalked (w : WalkTables) (items : List WorkItem) : Type 0 where
   pub typed : ItemsAreTyped w.tables items
   pub fits : InEach w (λ e. ItemsFit room e items 0)

@@ -22,8 +22,8 @@ tables_by m = record {
   first = first_choice (design_tree m.design.now);
 }
 
--- what a design has, with the locations of a process: its bodies may be walked, its choices and arguments fit into their
--- bits, and its inputs are those of the terms, by numbers that an input can have
+-- what a design has, with the locations of a process: its bodies may be walked, its choices and arguments fit into
+-- their bits, and its inputs are those of the terms, by numbers that an input can have
 pub record IsMovable (w : WalkTables) (d : DesignTree) (p : ℕ) (t : Table) : Type 0 where
   pub walkable : AreWalkable w
   pub cells : HasCells w.tables d

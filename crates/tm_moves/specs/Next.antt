@@ -19,8 +19,8 @@ use Rattle.tm_moves.specs.Arrived.{TellsArrival}
 abbrev pub moved : {X : Type 0} → List X → Option ℕ → X → List X
 moved xs mover x = option_map_or (λ p. slice_set xs p x) mover xs
 
--- the numbers of a state were made terms: these of its variables, the inputs of its locations but for that of the mover,
--- and who has moved
+-- the numbers of a state were made terms: these of its variables, the inputs of its locations but for that of the
+-- mover, and who has moved
 pub record MakesNext (t n : Table) (d : DesignTree) (values : List TermId) (mover : Option ℕ) (place : TermId)
     (last : ℕ) (next : List TermId) : Type 0 where
   pub grown : Extends t n

@@ -138,8 +138,8 @@ impl<'s> Mover<'s> {
         }
     }
 
-    /// The step of runs that have stopped or failed. The numbers of locations are terms of a width, and `last` tells who
-    /// has moved. Linear in the locations and in the cells of the flows that stopped there. `AllocError` is want of
+    /// The step of runs that have stopped or failed. The numbers of locations are terms of a width, and `last` tells
+    /// who has moved. Linear in the locations and in the cells of the flows that stopped there. `AllocError` is want of
     /// memory.
     pub fn finish(
         &self,

@@ -23,7 +23,8 @@ pub struct Mover<'s> {
 }
 
 impl<'s> Mover<'s> {
-    /// A design with these tables, and with the locations of a process. `depth` is how deep the calls of its text may nest.
+    /// A design with these tables, and with the locations of a process. `depth` is how deep the calls of its text may
+    /// nest.
     pub fn new(
         design: &'s Design,
         scopes: &'s Scopes<'s>,

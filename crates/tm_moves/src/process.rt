@@ -24,8 +24,8 @@ use tm_flows::{Ends, Flow};
 use tm_term::Term;
 use tm_walk::Course;
 
-/// Runs that have come to the end of their work stop at the location of a number, if there are some. `AllocError` is want
-/// of memory.
+/// Runs that have come to the end of their work stop at the location of a number, if there are some. `AllocError` is
+/// want of memory.
 pub fn stop_behind(course: &mut Course, number: usize, left: Option<Flow>) -> Result<(), AllocError>
     requires sound { IsSound course.old.terms }
     requires within { number < length course.old.ends.stops }

@@ -103,7 +103,7 @@ fn walk_node<'s>(
     walker: &Walker<'s>,
     stand: &Stand<'s>,
     course: &mut Course,
-    work: &Work<'_>,
+    work: &Work<'s>,
     flow: Flow,
 ) -> Result<Option<Flow>, AllocError>
     requires { RowWalks (known_by walker.now) stand.now (row_of (work_stmts work.now)) course.old flow }
@@ -145,7 +145,7 @@ impl<'s> Mover<'s> {
         &self,
         walker: &Walker<'s>,
         course: &mut Course,
-        node: &RestNode<'_>,
+        node: &RestNode<'s>,
         flow: Flow,
     ) -> Result<Option<Flow>, AllocError>
         requires walker { known_by walker.now ≡ tables_by self.now }

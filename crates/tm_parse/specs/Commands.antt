@@ -112,9 +112,11 @@ mutual
 abbrev pub AnIfFrom : List ℕ → ℕ → Reach → StmtTree → List Token → List Token → Type 0
 AnIfFrom text depth reach s a b = IsIfFrom text reach depth s a b
 
+-- what may stand behind the first branch of an `if`, as a form
 abbrev pub AnElse : List ℕ → ℕ → Reach → StmtRow → List Token → List Token → Type 0
 AnElse text depth reach other a b = IsElse text reach depth other a b
 
+-- what stands behind `else`, as a form
 abbrev pub AnElseFrom : List ℕ → ℕ → Reach → StmtRow → List Token → List Token → Type 0
 AnElseFrom text depth reach other a b = IsElseFrom text reach depth other a b
 
@@ -147,6 +149,7 @@ sort_of_kind (token.Word word.Wait) = Some (sort.Flat flat.Wait)
 sort_of_kind (token.Sign sign.Ellipsis) = Some (sort.Flat flat.Magic)
 sort_of_kind _ = None
 
+-- the sort of the statement that a token begins, if there is one
 abbrev pub stmt_sort : Option TokenKind → Option StmtSort
 stmt_sort None = None
 stmt_sort (Some kind) = sort_of_kind kind
@@ -220,6 +223,7 @@ ABraced text depth reach body a b = IsBraced text (IsBound reach) depth body a b
 abbrev pub AnAnswering : List ℕ → ℕ → Reach → BodyTree → List Token → List Token → Type 0
 AnAnswering text depth reach body a b = IsAnswering text (IsBound reach) depth body a b
 
+-- whether a kind of token is a name
 abbrev pub is_name : TokenKind → Bool
 is_name token.Name = true
 is_name _ = false

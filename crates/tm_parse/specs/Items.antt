@@ -35,9 +35,11 @@ abbrev pub InParentheses : ℕ → {X : Type 0} → (Reach → X → List Token 
     List Token → List Token → Type 0
 InParentheses depth {X} Is reach xs a b = MayBeEnclosed (IsBound reach) depth (Is reach) xs a b
 
+-- the declaration of an instance, as a form
 abbrev pub AnInstance : List ℕ → ℕ → Reach → InstanceTree → List Token → List Token → Type 0
 AnInstance text depth reach d a b = IsInstance text (IsBound reach) depth d a b
 
+-- the declaration of a process, as a form
 abbrev pub AProcess : List ℕ → ℕ → Reach → ProcessTree → List Token → List Token → Type 0
 AProcess text depth reach d a b = IsProcess text (IsBound reach) depth d a b
 
@@ -122,6 +124,7 @@ decl_of_kind (token.Word word.Task) = Some sort.Task
 decl_of_kind (token.Word word.Procedure) = Some sort.Procedure
 decl_of_kind _ = None
 
+-- the sort of the declaration that a token begins, if there is one
 abbrev pub decl_sort : Option TokenKind → Option DeclSort
 decl_sort None = None
 decl_sort (Some kind) = decl_of_kind kind
@@ -177,12 +180,15 @@ pub data IsHead (text : List ℕ) (reach : Reach) : TemplateTree → List Token 
       IsName text name b c → InParentheses 0 (λ _. IsPort text) reach ports c d →
       IsHead text reach (bare name ports) a d
 
+-- a template, as a form
 abbrev pub ATemplate : List ℕ → Reach → TemplateTree → List Token → List Token → Type 0
 ATemplate text reach t a b = IsTemplate text (IsBound reach) 0 t a b
 
+-- an enum, as a form
 abbrev pub AnEnum : List ℕ → Reach → EnumTree → List Token → List Token → Type 0
 AnEnum text reach d a b = IsEnum text (IsBound reach) 0 d a b
 
+-- an item of a specification, as a form
 abbrev pub AnItem : List ℕ → Reach → ItemTree → List Token → List Token → Type 0
 AnItem text reach d a b = IsItem text (IsBound reach) 0 d a b
 

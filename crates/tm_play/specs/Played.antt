@@ -100,8 +100,8 @@ pub data IsPart (d : DesignTree) (bs : List BlockTree) (c : ScriptData) : List �
   nothing : IsPart d bs c []
   part : {n : ℕ} {s : StateData} {g : ℕ} {text : List ℕ} → Reaches d bs c n s g text → IsPart d bs c text
 
--- a play with these lines goes on to the step of this number, where the driver's answer at a valid state has no outcome,
--- although the turn rule permits it: whether it is allowed tells why the play stops
+-- a play with these lines goes on to the step of this number, where the driver's answer at a valid state has no
+-- outcome, although the turn rule permits it: whether it is allowed tells why the play stops
 pub record IsStuck (d : DesignTree) (bs : List BlockTree) (c : ScriptData) (text : List ℕ) (step : ℕ) (s : StateData)
     (m : Move) : Type 0 where
   pub state : IsState d s

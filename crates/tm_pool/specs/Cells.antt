@@ -1,5 +1,5 @@
--- The cells of a list of predicates, the lower and the upper part of a set (de Alfaro and Roy 2007), and what predicates
--- leave undecided.
+-- The cells of a list of predicates, the lower and the upper part of a set (de Alfaro and Roy 2007), and what
+-- predicates leave undecided.
 use Rattle.std.specs.Prelude.{◌≡◌, ℕ, Bool, true, List, All, Some, slice_get}
 use Rattle.tm_syntax.specs.Design.{DesignTree}
 use Rattle.tm_sem.specs.State.{StateData}

@@ -1,5 +1,5 @@
--- The pool of predicates of a design (predicate abstraction, as in Walker and Ryzhyk 2014): the atoms of its conditions,
--- and the bits of its states.
+-- The pool of predicates of a design (predicate abstraction, as in Walker and Ryzhyk 2014): the atoms of its
+-- conditions, and the bits of its states.
 use Rattle.std.specs.Prelude.{ℕ, Bool, true, false, not, ◌&&◌, ◌==◌, List, ◌++◌, map, slice_get, slice_index_or, take}
 use Rattle.std.specs.Option.{option_map_or}
 use Rattle.std.specs.List.{filter, list_any, sum, range_with_len}

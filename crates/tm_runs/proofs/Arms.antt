@@ -1,17 +1,15 @@
 -- What is done of a statement is done of the form that it is.
-use Rattle.std.proofs.Common.{◌≡◌, Result, Ok, Err, List, ◌++◌, sym, subst}
-use Rattle.std.specs.Prelude.{IfOk}
+use Rattle.std.proofs.Common.{◌≡◌, Result, List, ◌∷◌, ◌++◌, sym, subst}
 use Rattle.tm_base.specs.declared.place.Place.{Place}
+use Rattle.tm_syntax.specs.declared.design.Design.{Design}
 use Rattle.tm_syntax.specs.Tree.{StmtTree}
 use Rattle.tm_scope.specs.Cells.{ScopedCells}
 use Rattle.tm_runs.specs.declared.course.Course.{Course}
 use Rattle.tm_runs.specs.declared.halt.Halt.{Halt}
-use Rattle.tm_runs.specs.Runs.{DoesStmt, HaltsWithin, StmtMayPass, behind, item_of}
-
--- what holds holds where there is a value
-pub always : {A E : Type 0} (P : Type 0) (r : Result A E) → P → IfOk r (λ _. P)
-always P (Ok x) h = h
-always P (Err e) h = tt
+use Rattle.tm_runs.specs.declared.todo.Level.{Level}
+use Rattle.tm_runs.specs.Inner.Owed.{Owed, one}
+use Rattle.tm_runs.specs.Inner.Steps.{Steps}
+use Rattle.tm_runs.specs.Runs.{DoesStmt, HaltsWithin, behind, item_of}
 
 module _ (s : ScopedCells) (from to : Course) (whole form : StmtTree) (is : whole ≡ form) where
   pub as_does : {A : Type 0} (r : Result A Halt) → DoesStmt s form from to r → DoesStmt s whole from to r
@@ -26,12 +24,8 @@ module _ (s : ScopedCells) (from to : Course) (whole form : StmtTree) (is : whol
       subst (λ t. HaltsWithin s.tables (item_of s (from.trail ++ calls) t) (behind calls from) (behind calls to) h)
       (sym is) (halts calls)
 
-  pub as_passes : {A : Type 0} (r : Result A Halt) → IfOk r (λ _. StmtMayPass s form) →
-      IfOk r (λ _. StmtMayPass s whole)
-  as_passes r h = subst (λ t. IfOk r (λ _. StmtMayPass s t)) (sym is) h
-
--- what is found for each place is found for one
-pub at_place : {A E : Type 0} (r : Result A E) (P : Place → Type 0) (at : Place) → IfOk r (λ _. (at : Place) → P at) →
-    IfOk r (λ _. P at)
-at_place (Ok x) P at h = h at
-at_place (Err e) P at h = tt
+pub as_steps : {A : Type 0} (d : Design) (level : Level) (ts new : List Owed) (from to : Course)
+    (whole form : StmtTree) → whole ≡ form → (r : Result A Halt) → Steps d (one level form ∷ ts) new from to r →
+    Steps d (one level whole ∷ ts) new from to r
+as_steps d level ts new from to whole form is r h =
+    subst (λ s. Steps d (one level s ∷ ts) new from to r) (sym is) h

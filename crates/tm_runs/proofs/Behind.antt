@@ -1,16 +1,14 @@
 -- What holds of a course holds of it with further calls behind its trail.
 use Rattle.std.proofs.Common.{Option, None, Some, List, ◌++◌, ap}
 use Rattle.tm_base.specs.declared.place.Place.{Place}
-use Rattle.tm_syntax.specs.declared.design.Ty.{Ty}
 use Rattle.tm_syntax.specs.declared.tree.Ident.{Ident}
 use Rattle.tm_syntax.specs.Tree.{ExprTree, element}
 use Rattle.tm_scope.specs.Cells.{ScopedCells}
-use Rattle.tm_scope.specs.declared.cells.site_body.CellNumber.{CellNumber}
 use Rattle.tm_scope.specs.declared.cells.site_body.SiteBody.{SiteBody}
 use Rattle.tm_runs.specs.declared.course.Course.{Course}
 use Rattle.tm_runs.specs.declared.halt.Halt.{Halt}
 use Rattle.tm_runs.specs.declared.halt.Halt.TheVariants as halt
-use Rattle.tm_runs.specs.Arguments.{AreGiven, HaltsAtAnswer, HaltsAtSome, IsAnswered}
+use Rattle.tm_runs.specs.Arguments.{AreGiven, HaltsAtAnswer, HaltsAtSome}
 use Rattle.tm_runs.specs.Runs.{HaltsAt, HaltsAtTarget, IsSame, behind}
 
 module _ (calls : List Place) (from : Course) where
@@ -53,14 +51,4 @@ module _ (calls : List Place) (from : Course) where
       choices = g.choices;
       keeps = g.keeps;
       within = g.within;
-    }
-
-    pub answered_behind : (outer inner : ScopedCells) (ty : Ty) (answer : Option ExprTree) (cell : Option CellNumber) →
-        IsAnswered outer inner ty answer cell from to →
-        IsAnswered outer inner ty answer cell (behind calls from) (behind calls to)
-    answered_behind outer inner ty answer cell a = record {
-      trail = ap (λ trail. trail ++ calls) a.trail;
-      choices = a.choices;
-      value = a.value;
-      nothing = a.nothing;
     }

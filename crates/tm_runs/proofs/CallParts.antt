@@ -1,15 +1,14 @@
 -- What holds of a call where the task is found that it runs.
-use Rattle.std.proofs.Common.{◌≡◌, ℕ, ◌+◌, Bool, true, false, Option, None, Some, Result, Ok, Err, List, [], ◌++◌, append_assoc, length, sym, ap, ◌∙◌, subst, arith}
+use Rattle.std.proofs.Common.{◌≡◌, ℕ, Bool, true, false, Option, None, Some, List, [], length, sym, ap, ◌∙◌, subst, arith}
 use Rattle.std.specs.Prelude.{◌&&◌, nat_eq, not}
 use Rattle.std.specs.List.{AllByRecursion}
 use Rattle.std.specs.Option.{option_map_or}
 use Rattle.std.proofs.lemmas.Bool.Decides.{nat_tests}
 use Rattle.tm_syntax.specs.declared.design.Design.{Design}
-use Rattle.tm_base.specs.declared.place.Place.{Place}
 use Rattle.tm_syntax.specs.declared.member.Member.{Member}
 use Rattle.tm_syntax.specs.declared.tree.Ident.{Ident}
 use Rattle.tm_syntax.specs.declared.tree.TaskKind.TheVariants.{Procedure}
-use Rattle.tm_syntax.specs.Tree.{ExprTree, TaskTree, TemplateTree, assign, invoke, result}
+use Rattle.tm_syntax.specs.Tree.{ExprTree, TaskTree, TemplateTree, assign, result}
 use Rattle.tm_syntax.specs.Tree.View.{body_tree, task_tree}
 use Rattle.tm_syntax.specs.Faults.Mismatches.{call_fits}
 use Rattle.tm_syntax.specs.Scopes.Context.{Context}
@@ -19,7 +18,6 @@ use Rattle.tm_syntax.specs.Scopes.Pauses.{is_controllable}
 use Rattle.tm_syntax.specs.Scopes.Types.{named_type}
 use Rattle.tm_syntax.specs.Design.Cells.{called}
 use Rattle.tm_syntax.specs.Design.View.{design_tree}
-use Rattle.tm_syntax.specs.Design.Work.{call_place}
 use Rattle.tm_scope.specs.Cells.{ScopedCells, scope_of}
 use Rattle.tm_typing.specs.Promises.{HasAskedType}
 use Rattle.tm_typing.specs.Statements.{HasCallee, HasResult}
@@ -27,22 +25,19 @@ use Rattle.tm_typing.proofs.Fitting.{all_of_both}
 use Rattle.tm_locations.proofs.TextLeads.{sound_leads}
 use Rattle.tm_operands.specs.Parameters.{task_at}
 use Rattle.tm_operands.specs.Typed.{context_at}
-use Rattle.tm_runs.specs.declared.course.Course.{Course}
 use Rattle.tm_runs.specs.declared.frame.CalledTask.{CalledTask}
 use Rattle.tm_runs.specs.declared.frame.Frame.{Frame}
-use Rattle.tm_runs.specs.declared.halt.Halt.{Halt}
-use Rattle.tm_runs.specs.Arguments.{AreGiven}
 use Rattle.tm_runs.specs.Calls.{IsCallee}
 use Rattle.tm_runs.specs.Frames.{AreArguments, BodyMayPass, CallFits, IsCalled, StmtFits}
 use Rattle.tm_steady.specs.Promised.{StmtIsPromised}
-use Rattle.tm_runs.specs.Runs.{Does, DoesBody, DoesStmt, GetsThrough, HaltsWithin, TargetAt, behind, body_work, crossing}
+use Rattle.tm_runs.specs.Runs.{TargetAt, crossing}
 use Rattle.tm_runs.specs.Tables.{IsReady, tables_of}
-use Rattle.tm_runs.proofs.Behind.{given_behind}
 use Rattle.tm_runs.proofs.CalledTasks.{called_by_text}
 use Rattle.tm_runs.proofs.Found.{own_cells}
-use Rattle.tm_runs.proofs.Invoking.{args_typed, invoke_does}
+use Rattle.tm_runs.proofs.Invoking.{args_typed}
 use Rattle.tm_runs.proofs.Targets.{target_type}
-use Rattle.tm_runs.proofs.Weights.{body_weight, call_weight, call_weight-called, weighs}
+use Rattle.tm_runs.specs.Inner.Weights.{body_weight, call_weight, weighs}
+use Rattle.tm_runs.proofs.Weights.{call_weight-called}
 
 -- a path that may be called calls a task
 pub calls_something : (d : Design) (order : List Member) → IsReady d order → (f : Frame) (names : List Ident)
@@ -70,13 +65,13 @@ module _ {d : Design} {f : Frame} {names : List Ident} {k : CalledTask} (is : Is
   pub callee_here : IsCallee f.reader.tables f.reader.at names k.frame.reader.at k.task.now
   callee_here = subst (λ x. IsCallee x f.reader.at names k.frame.reader.at k.task.now) (sym tables) is.callee
 
-  -- the call weighs more than the body
-  pub weighs_more : weighs d f names ≡ 1 + body_weight (weighs d k.frame) (body_tree k.task.now.body)
+  -- the call weighs what the body does
+  pub weighs_more : weighs d f names ≡ body_weight (weighs d k.frame) (body_tree k.task.now.body)
   weighs_more =
       let runs = is.callee.runs (design_tree d) (own_cells d) in
       call_weight-called (design_tree d) (scope_of f.reader.at) names f.depth k.frame.depth runs.called is.depth
       runs.is
-      ∙ (λ i. 1 + body_weight (call_weight k.frame.depth (design_tree d) (runs.scope i)) (runs.body i))
+      ∙ (λ i. body_weight (call_weight k.frame.depth (design_tree d) (runs.scope i)) (runs.body i))
 
   -- what a run gets through is not sure to cross
   pub call_passes : BodyMayPass k.frame.reader (body_tree k.task.now.body) → (c : Context) →
@@ -100,50 +95,6 @@ module _ {d : Design} {f : Frame} {names : List Ident} {k : CalledTask} (is : Is
       (subst (λ (o : Option (TemplateTree × TaskTree)).
       AllByRecursion (λ (a : Asked). HasAskedType (record { context = c; asked = a }))
       (asked_args (option_map_or (λ t. t.1.params) o []) es)) to typed)
-
-  -- the work of the body, as the call leads to it
-  entered : {A : Type 0} (from mid to : Course) (calls : List Place) → mid.trail ≡ from.trail → (r : Result A Halt) →
-      Does k.frame.reader.tables
-      (body_work k.frame.reader ((call_place names ++ mid.trail) ++ calls) (body_tree k.task.now.body))
-      (behind calls mid) (behind calls to) r →
-      Does f.reader.tables
-      (body_work k.frame.reader (call_place names ++ (from.trail ++ calls)) (body_tree k.task.now.body))
-      (behind calls mid) (behind calls to) r
-  entered from mid to calls trail r does =
-      subst (λ x. Does x
-      (body_work k.frame.reader (call_place names ++ (from.trail ++ calls)) (body_tree k.task.now.body))
-      (behind calls mid) (behind calls to) r) same_tables
-      (subst (λ t. Does k.frame.reader.tables (body_work k.frame.reader t (body_tree k.task.now.body))
-      (behind calls mid) (behind calls to) r)
-      (ap (λ t. (call_place names ++ t) ++ calls) trail ∙ append_assoc (call_place names) from.trail calls) does)
-
-  pub entered_goes : (from mid to : Course) (calls : List Place) → mid.trail ≡ from.trail →
-      GetsThrough k.frame.reader.tables
-      (body_work k.frame.reader ((call_place names ++ mid.trail) ++ calls) (body_tree k.task.now.body))
-      (behind calls mid) (behind calls to) →
-      GetsThrough f.reader.tables
-      (body_work k.frame.reader (call_place names ++ (from.trail ++ calls)) (body_tree k.task.now.body))
-      (behind calls mid) (behind calls to)
-  entered_goes from mid to calls trail through = entered {A = ℕ} from mid to calls trail (Ok 0) through
-
-  pub entered_stops : (from mid to : Course) (calls : List Place) → mid.trail ≡ from.trail → (h : Halt) →
-      HaltsWithin k.frame.reader.tables
-      (body_work k.frame.reader ((call_place names ++ mid.trail) ++ calls) (body_tree k.task.now.body))
-      (behind calls mid) (behind calls to) h →
-      HaltsWithin f.reader.tables
-      (body_work k.frame.reader (call_place names ++ (from.trail ++ calls)) (body_tree k.task.now.body))
-      (behind calls mid) (behind calls to) h
-  entered_stops from mid to calls trail h halts = entered {A = ℕ} from mid to calls trail (Err h) halts
-
-  -- what is done of the body is done of the call
-  pub call_does : {A : Type 0} (args : List ExprTree) (from mid to : Course) →
-      AreGiven f.reader k.frame.reader.at args from mid → (r : Result A Halt) →
-      DoesBody k.frame.reader (call_place names ++ mid.trail) (body_tree k.task.now.body) mid to r →
-      DoesStmt f.reader (invoke names args) from to r
-  call_does args from mid to given r does calls =
-      invoke_does f.reader names args k.frame.reader k callee_here (behind calls from) (behind calls mid)
-      (given_behind calls from mid f.reader k.frame.reader.at args given) (behind calls to) r
-      (entered from mid to calls given.trail r (does calls))
 
   -- what a called procedure returns, where it is assigned
   module _ (c : Context) (stands : context_at f.reader ≡ Some c) (target : List Ident) (count : ℕ)

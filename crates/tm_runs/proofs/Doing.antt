@@ -14,7 +14,7 @@ use Rattle.tm_runs.specs.declared.halt.Halt.TheVariants as halt
 use Rattle.tm_values.specs.Kept.{Keeps}
 use Rattle.tm_runs.specs.Runs.{Stands, GetsThrough, HaltsWithin, Does, HaltsAt, IsSame, at_end}
 use Rattle.tm_values.specs.Valued.{Overruns}
-use Rattle.tm_runs.proofs.Going.{goes_past, goes_into, ends_at, ends_into, ends_before}
+use Rattle.tm_runs.proofs.Going.{goes_past, ends_at, ends_before}
 
 -- one stand after the other
 pub same_then : (a b c : Course) → IsSame a b → IsSame b c → IsSame a c
@@ -98,41 +98,6 @@ module _ (x : CellTables) (item : WorkItem) (from to : Course) where
       ≡ comes_to (run.at_end from.choices (stopped at to.trail o.memory))) →
       HaltsWithin x (item ∷ []) from to h
   stops at h is same ends = stops_at from.choices at h is same ends
-
-  -- one that leads to others: what these do it does
-  module _ (mid : Course) (store : mid.store ≡ from.store) (front : List WorkItem)
-      (leads : (o : Stands x from.store) →
-      progress o.design o.memory from.choices item ≡ goes_on front o.memory mid.choices) where
-    pub halts_into : (h : Halt) → HaltsWithin x front mid to h → HaltsWithin x (item ∷ []) from to h
-    halts_into (halt.Stopped at) h =
-        (λ o.
-        let n = h (stands_on x from mid store o) in (
-          n.0,
-          n.1,
-          ends_into o.design item o.memory from.choices front o.memory mid.choices
-              (stopped at to.trail n.0) (leads o) n.2,
-        ))
-    halts_into halt.Failed h =
-        (λ o. ends_into o.design item o.memory from.choices front o.memory mid.choices failed (leads o)
-        (h (stands_on x from mid store o)))
-    halts_into halt.Blocked h =
-        (λ o. ends_into o.design item o.memory from.choices front o.memory mid.choices blocked (leads o)
-        (h (stands_on x from mid store o)))
-    halts_into halt.Memory h = tt
-
-    pub does_into : {A : Type 0} (r : Result A Halt) → mid.trail ≡ from.trail → Does x front mid to r →
-        Does x (item ∷ []) from to r
-    does_into (Ok done) trail g = record {
-      trail = g.trail ∙ trail;
-      goes = λ o.
-          let n = g.goes (stands_on x from mid store o) in (
-            n.0,
-            n.1,
-            goes_into o.design item o.memory from.choices front o.memory n.0 mid.choices to.choices
-                (leads o) n.2,
-          );
-    }
-    does_into (Err h) trail halts = halts_into h halts
 
 -- an end within some items is one before others
 pub halts_before : (x : CellTables) (items others : List WorkItem) (from to : Course) (h : Halt) →

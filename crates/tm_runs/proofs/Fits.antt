@@ -1,13 +1,11 @@
 -- The parts of what may be done in a body of an instance may be done.
-use Rattle.std.proofs.Common.{◌≡◌, ℕ, ◌+◌, ◌<◌, true, None, Some, List, ◌∷◌, map, length, drop, get_or, slice_get, refl, ap, ◌∙◌, add-one}
-use Rattle.std.proofs.Math.Seq.{drop-cons}
+use Rattle.std.proofs.Common.{◌≡◌, ℕ, true, None, Some, List, ◌∷◌, map, slice_get, ap, ◌∙◌}
 use Rattle.std.proofs.lemmas.Option.{slice_get-map}
 use Rattle.std.specs.Option.{option_map}
 use Rattle.std.specs.declared.alloc.Global.{Global}
 use Rattle.std.specs.declared.vec.Vec.{Vec}
-use Rattle.tm_syntax.specs.declared.tree.LocalDef.{LocalDef}
 use Rattle.tm_syntax.specs.declared.tree.Stmt.{Stmt}
-use Rattle.tm_syntax.specs.Tree.View.{local_tree, stmt_trees}
+use Rattle.tm_syntax.specs.Tree.View.{stmt_trees}
 use Rattle.tm_base.specs.declared.place.Place.{Place}
 use Rattle.tm_syntax.specs.declared.design.Design.{Design}
 use Rattle.tm_syntax.specs.Tree.{ExprTree, StmtRow, StmtTree, alternatives_of, branch, choose, forever, repeat, row_of}
@@ -18,7 +16,7 @@ use Rattle.tm_scope.specs.Cells.{scope_of}
 use Rattle.tm_scope.specs.Inner.Calls.{row_calls, stmt_calls}
 use Rattle.tm_operands.specs.Typed.{context_at}
 use Rattle.tm_runs.specs.declared.frame.Frame.{Frame}
-use Rattle.tm_runs.specs.Frames.{BlocksFit, RowFits, StmtFits, local_stmt, local_stmts}
+use Rattle.tm_runs.specs.Frames.{BlocksFit, RowFits, StmtFits}
 use Rattle.tm_runs.specs.Runs.{crossing}
 use Rattle.tm_runs.proofs.Nesting.{nests_block, nests_both}
 use Rattle.tm_runs.proofs.Performing.{block_here, branch_first, branch_second, choose_at, forever_body, repeat_body, row_head, row_tail}
@@ -94,12 +92,6 @@ module _ (d : Design) (f : Frame) where
     promised = block_here f.reader bs k ts h.promised there;
     nested = nests_block f.depth (design_tree d) (scope_of f.reader.at) bs k (row_of ts) there h.nested;
   }
-
--- the declaration of the local of an index, and those behind it
-pub locals_from : (locals : List LocalDef) (i : ℕ) (l : LocalDef) → i < length locals → l ≡ get_or locals i l →
-    local_stmts (map local_tree (drop i locals))
-    ≡ local_stmt (local_tree l) ∷ local_stmts (map local_tree (drop (i + 1) locals))
-locals_from locals i l inside at = rw (add-one, drop-cons locals i l, ← at) refl
 
 -- the block of an index
 pub block_there : (blocks : List (Vec Stmt Global)) (k : ℕ) (block : Vec Stmt Global) →

@@ -1,5 +1,5 @@
 -- What a machine does of a call, by what it does of the body.
-use Rattle.std.proofs.Common.{◌≡◌, Some, Result, Ok, Err, List, [], ◌∷◌, ◌++◌, length, refl, sym, ap, ◌∙◌}
+use Rattle.std.proofs.Common.{◌≡◌, Some, List, [], ◌∷◌, ◌++◌, length, refl, sym, ap, ◌∙◌}
 use Rattle.std.specs.Prelude.{if◌then◌else◌}
 use Rattle.std.specs.List.{AllByRecursion}
 use Rattle.std.specs.Option.{option_map_or}
@@ -27,10 +27,8 @@ use Rattle.tm_runs.specs.Arguments.{AreGiven, HaltsAtSome}
 use Rattle.tm_runs.specs.Calls.{IsCallee}
 use Rattle.tm_runs.specs.Frames.{AreArguments, CallFits, StmtFits}
 use Rattle.tm_values.specs.Kept.{Keeps}
-use Rattle.tm_runs.specs.Runs.{Does, HaltsWithin, Stands, body_work, item_of, told}
-use Rattle.tm_runs.proofs.Calling.{call_goes, call_halts}
+use Rattle.tm_runs.specs.Runs.{HaltsWithin, Stands, body_work, item_of, told}
 use Rattle.tm_runs.proofs.Doing.{fails}
-use Rattle.tm_runs.proofs.Going.{goes_nowhere}
 
 -- a call that may be done calls what may be called
 pub call_fits : (d : Design) (f : Frame) (names : List Ident) (args : List ExprTree) →
@@ -84,17 +82,6 @@ module _ (s : ScopedCells) (names : List Ident) (args : List ExprTree) (inner : 
             ∙ (λ i. goes_on (body_items (runs.scope i) (call_place names ++ from.trail) (runs.body i) ++ [])
             (with_arguments d scope m runs.called.params args) (sym given.choices i)),
       )
-
-  -- what is done of the body is done of the call
-  pub invoke_does : {A : Type 0} (to : Course) (r : Result A Halt) → Does s.tables front mid to r →
-      Does s.tables (item_of s from.trail (invoke names args)) from to r
-  invoke_does to (Ok done) h =
-      call_goes s.tables (perform (scope_of s.at) from.trail (invoke names args)) from mid to front (λ _. [])
-      invoke_leads to (h.trail ∙ given.trail) h
-      (λ o m keeps. (m, keeps, goes_nowhere o.design m to.choices))
-  invoke_does to (Err h) halts =
-      call_halts s.tables (perform (scope_of s.at) from.trail (invoke names args)) from mid to front (λ _. [])
-      invoke_leads h halts
 
 -- a halt at an argument is one of the call
 pub invoke_halts : (s : ScopedCells) (from to : Course) (names : List Ident) (args : List ExprTree) (h : Halt) →

@@ -6,12 +6,14 @@ pub mod Behind
 pub mod Bodies
 pub mod CallParts
 pub mod CalledTasks
-pub mod Calling
 pub mod Doing
+pub mod Entering
+pub mod Finishing
 pub mod Fits
 pub mod Found
 pub mod Giving
 pub mod Going
+pub mod GoingOver
 pub mod Invoking
 pub mod Nesting
 pub mod Passed
@@ -20,8 +22,9 @@ pub mod Performing
 pub mod Progress
 pub mod Readers
 pub mod Returning
-pub mod Rows
-pub mod TableCalls
 pub mod Shapes
+pub mod Stacks
+pub mod Stepping
+pub mod TableCalls
 pub mod Targets
 pub mod Weights

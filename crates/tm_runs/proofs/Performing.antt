@@ -1,21 +1,21 @@
 -- What a machine does of a statement, by what it does of its parts.
-use Rattle.std.proofs.Common.{◌≡◌, ℕ, Bool, true, false, Option, None, Some, Result, List, [], ◌∷◌, ◌++◌, map, refl, sym, ap, ◌∙◌, subst}
+use Rattle.std.proofs.Common.{◌≡◌, ℕ, Bool, true, false, Option, None, Some, List, [], ◌∷◌, ◌++◌, refl, sym, ap, ◌∙◌}
 use Rattle.std.specs.Prelude.{if◌then◌else◌, slice_get}
 use Rattle.tm_base.specs.declared.place.Place.{Place}
 use Rattle.tm_syntax.specs.declared.design.Ty.TheVariants as types
 use Rattle.tm_syntax.specs.declared.tree.Ident.{Ident}
 use Rattle.tm_syntax.specs.Tree.{ExprTree, ValueTree, plain, StmtTree, assign, branch, repeat, forever, choose, assert, assume, pause, wait, magic, StmtRow, BlockRow, row_of, alternatives_of, blocks_of}
-use Rattle.tm_syntax.specs.Design.Work.{WorkItem, perform, performs}
+use Rattle.tm_syntax.specs.Design.Work.{perform, performs}
 use Rattle.tm_scope.specs.Cells.{ScopedCells, scope_of}
 use Rattle.tm_sem.specs.Run.{chooses_block, goes_on, progress}
 use Rattle.tm_runs.specs.declared.course.Course.{Course}
 use Rattle.tm_runs.specs.declared.halt.Halt.{Halt}
 use Rattle.tm_runs.specs.declared.halt.Halt.TheVariants as halt
-use Rattle.tm_runs.specs.Runs.{Stands, GetsThrough, HaltsWithin, Does, HaltsAt, IsSame, StmtAt, RowAt, BlocksAt, TargetAt, HasTargetType, at_end, item_of, items_of, told}
+use Rattle.tm_runs.specs.Runs.{Stands, GetsThrough, HaltsWithin, HaltsAt, IsSame, StmtAt, RowAt, BlocksAt, TargetAt, HasTargetType, at_end, item_of, told}
 use Rattle.tm_operands.specs.Typed.{HasTypeAt}
 use Rattle.tm_values.specs.Valued.{Holds}
-use Rattle.tm_runs.proofs.Doing.{blocks, does_into, fails, halts_at, halts_before, halts_into, passes, stands_on, stops}
-use Rattle.tm_runs.proofs.Passing.{stmts_of_row, blocks_of_alternatives}
+use Rattle.tm_runs.proofs.Doing.{blocks, fails, halts_at, passes, stands_on, stops}
+use Rattle.tm_runs.proofs.Passing.{blocks_of_alternatives}
 use Rattle.tm_runs.proofs.Progress.{assert_overruns, assert_holds, assert_fails, assume_overruns, assume_holds, assume_fails, branch_overruns, branch_goes, repeat_overruns, repeat_goes, repeat_stops, block_taken, block_refused}
 use Rattle.tm_steady.proofs.Promised.{branch_rows, repeat_row, forever_row, choose_blocks, row_first, block_at, assert_typed, assume_typed, branch_typed, repeat_typed, value_typed}
 
@@ -124,38 +124,6 @@ module _ (s : ScopedCells) where
         named = ty.1;
         typed = ty.2;
       }
-
-  -- the items of a row
-  row_items : (trail : List Place) (ts : List StmtTree) → performs (scope_of s.at) trail (row_of ts)
-      ≡ items_of s trail ts
-  row_items trail ts = ap (map (perform (scope_of s.at) trail)) (stmts_of_row ts)
-
-  module _ (from mid to : Course) (store : mid.store ≡ from.store) (trail : mid.trail ≡ from.trail) where
-    -- what is done of the items of a row is done of what a statement leads to
-    module _ (t : StmtTree) (ts : List StmtTree) (leads : (o : Stands s.tables from.store) →
-        progress o.design o.memory from.choices (perform (scope_of s.at) from.trail t)
-        ≡ goes_on (performs (scope_of s.at) from.trail (row_of ts)) o.memory mid.choices) where
-      pub row_does : {A : Type 0} (r : Result A Halt) → Does s.tables (items_of s mid.trail ts) mid to r →
-          Does s.tables (item_of s from.trail t) from to r
-      row_does r h =
-          does_into s.tables (perform (scope_of s.at) from.trail t) from to mid store
-          (performs (scope_of s.at) from.trail (row_of ts)) leads r trail
-          (subst (λ items. Does s.tables items mid to r)
-          (ap (λ trail. items_of s trail ts) trail ∙ sym (row_items from.trail ts)) h)
-
-    -- and of what a loop leads to
-    module _ (t : StmtTree) (ts : List StmtTree) (others : List WorkItem)
-        (leads : (o : Stands s.tables from.store) →
-        progress o.design o.memory from.choices (perform (scope_of s.at) from.trail t)
-        ≡ goes_on (performs (scope_of s.at) from.trail (row_of ts) ++ others) o.memory mid.choices) where
-      pub loop_halts : (h : Halt) → HaltsWithin s.tables (items_of s mid.trail ts) mid to h →
-          HaltsWithin s.tables (item_of s from.trail t) from to h
-      loop_halts h halts =
-          halts_into s.tables (perform (scope_of s.at) from.trail t) from to mid store
-          (performs (scope_of s.at) from.trail (row_of ts) ++ others) leads h
-          (halts_before s.tables (performs (scope_of s.at) from.trail (row_of ts)) others mid to h
-          (subst (λ items. HaltsWithin s.tables items mid to h)
-          (ap (λ trail. items_of s trail ts) trail ∙ sym (row_items from.trail ts)) halts))
 
   module _ (from : Course) (e : ExprTree) where
     -- a branch, by its condition

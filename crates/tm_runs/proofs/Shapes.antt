@@ -1,6 +1,5 @@
 -- What a statement is whose lists are handed on as slices, and what the statements of a slice are.
-use Rattle.std.proofs.Common.{◌≡◌, ℕ, ◌+◌, ◌<◌, Option, List, ◌∷◌, length, map, drop, get_or, refl, sym, ap, ◌∙◌, add-one}
-use Rattle.std.proofs.Math.Seq.{drop-cons}
+use Rattle.std.proofs.Common.{◌≡◌, Option, List, map, sym, ap, ◌∙◌}
 use Rattle.std.specs.Option.{option_map}
 use Rattle.std.specs.declared.alloc.Global.{Global}
 use Rattle.std.specs.declared.vec.Vec.{Vec}
@@ -53,8 +52,3 @@ pub choose_shape : {s : Stmt} {at : Place} (blocks : Vec (Vec Stmt Global) Globa
     s ≡ Choice at blocks → bs ≡ blocks.items → stmt_tree s ≡ choose at (alternatives_of (block_rows bs))
 choose_shape {s} {at} blocks {bs} is same =
     ap stmt_tree is ∙ view-Choice at blocks ∙ ap (λ bs. choose at (alternatives_of (block_rows bs))) (sym same)
-
--- the statements from an index on are the one there and those behind it
-pub stmts_from : (stmts : List Stmt) (i : ℕ) (s : Stmt) → i < length stmts → s ≡ get_or stmts i s →
-    stmt_trees (drop i stmts) ≡ stmt_tree s ∷ stmt_trees (drop (i + 1) stmts)
-stmts_from stmts i s inside at = rw (add-one, drop-cons stmts i s, ← at) refl

@@ -1,57 +1,29 @@
--- How much there is to be done of statements, at most, where calls nest at most so deep.
-use Rattle.std.proofs.Common.{◌≡◌, ℕ, zero, suc, ◌+◌, ◌≤◌, Some, List, [], ◌∷◌, ◌++◌, slice_get, ap, ◌∙◌, arith}
+-- How the weights of the parts of what is to be done sum up.
+use Rattle.std.proofs.Common.{◌≡◌, ℕ, zero, suc, ◌+◌, ◌<◌, ◌≤◌, Some, List, [], ◌∷◌, ◌++◌, slice_get, ap, ◌∙◌, arith}
 use Rattle.std.specs.Option.{option_map_or}
-use Rattle.tm_syntax.specs.declared.design.Design.{Design}
 use Rattle.tm_syntax.specs.declared.tree.Ident.{Ident}
-use Rattle.tm_syntax.specs.Tree.{ValueTree, star, result, plain, StmtTree, assign, invoke, branch, repeat, forever, choose, assert, assume, pause, wait, magic, StmtRow, nothing, then, BlockRow, nowhere, or_else, alternatives_of, row_of, BodyTree}
-use Rattle.tm_syntax.specs.Scopes.Parts.{body_stmts}
+use Rattle.tm_syntax.specs.Tree.{StmtTree, assign, invoke, branch, repeat, forever, choose, assert, assume, pause, wait, magic, StmtRow, alternatives_of, row_of, BodyTree}
 use Rattle.tm_syntax.specs.Design.{DesignTree}
 use Rattle.tm_syntax.specs.Design.Cells.{Called, called}
 use Rattle.tm_syntax.specs.Design.Scope.{Scope}
-use Rattle.tm_syntax.specs.Design.View.{design_tree}
-use Rattle.tm_scope.specs.Cells.{scope_of}
-use Rattle.tm_runs.specs.declared.frame.Frame.{Frame}
 use Rattle.tm_runs.specs.Frames.{local_stmts}
-
--- the weight of a value, given those of calls
-abbrev pub value_weight : (List Ident → ℕ) → ValueTree → ℕ
-value_weight within (star _) = 0
-value_weight within (result names _) = within names
-value_weight within (plain _) = 0
-
-abbrev mutual
-  pub stmt_weight : (List Ident → ℕ) → StmtTree → ℕ
-  stmt_weight within (assign _ _ value) = 1 + value_weight within value
-  stmt_weight within (invoke names _) = 1 + within names
-  stmt_weight within (branch _ first second) = 1 + (row_weight within first + row_weight within second)
-  stmt_weight within (repeat _ _ body) = 1 + row_weight within body
-  stmt_weight within (forever _ body) = 1 + row_weight within body
-  stmt_weight within (choose _ blocks) = 1 + block_weight within blocks
-  stmt_weight within (assert _ _) = 0
-  stmt_weight within (assume _ _) = 0
-  stmt_weight within (pause _) = 0
-  stmt_weight within (wait _ _) = 0
-  stmt_weight within (magic _) = 0
-
-  pub row_weight : (List Ident → ℕ) → StmtRow → ℕ
-  row_weight within nothing = 0
-  row_weight within (then first others) = 1 + (stmt_weight within first + row_weight within others)
-
-  pub block_weight : (List Ident → ℕ) → BlockRow → ℕ
-  block_weight within nowhere = 0
-  block_weight within (or_else first others) = row_weight within first + block_weight within others
-
--- the weight of a body: its locals and its statements
-abbrev pub body_weight : (List Ident → ℕ) → BodyTree → ℕ
-body_weight within body = 1 + row_weight within (row_of (body_stmts body))
-
--- the weight of what a path calls
-abbrev pub call_weight : ℕ → DesignTree → Scope → List Ident → ℕ
-call_weight zero d scope names = 0
-call_weight (suc depth) d scope names =
-    option_map_or (λ (c : Called). 1 + body_weight (call_weight depth d c.scope) c.body) (called d scope names) 0
+use Rattle.tm_runs.specs.Inner.Weights.{block_weight, body_weight, call_weight, row_weight, stmt_weight}
 
 module _ (within : List Ident → ℕ) where
+  -- each statement takes a step
+  pub stmt_weighs : (s : StmtTree) → 0 < stmt_weight within s
+  stmt_weighs (assign _ _ value) = omega arith
+  stmt_weighs (invoke names _) = omega arith
+  stmt_weighs (branch _ first second) = omega arith
+  stmt_weighs (repeat _ _ body) = omega arith
+  stmt_weighs (forever _ body) = omega arith
+  stmt_weighs (choose _ blocks) = omega arith
+  stmt_weighs (assert _ _) = omega arith
+  stmt_weighs (assume _ _) = omega arith
+  stmt_weighs (pause _) = omega arith
+  stmt_weighs (wait _ _) = omega arith
+  stmt_weighs (magic _) = omega arith
+
   -- statements in front of others
   pub row_weight-append : (ss ts : List StmtTree) →
       row_weight within (row_of (ss ++ ts)) ≡ row_weight within (row_of ss) + row_weight within (row_of ts)
@@ -67,20 +39,16 @@ module _ (within : List Ident → ℕ) where
       let weight = ap (row_weight within) same in omega (arith, weight)
   block_lighter (b ∷ bs) (suc k) block is = let rest = block_lighter bs k block is in omega (arith, rest)
 
--- a called body weighs less than its call
+-- a called body weighs what its call does
 pub call_weight-called : (d : DesignTree) (scope : Scope) (names : List Ident) (depth n : ℕ) (c : Called) →
     depth ≡ suc n → called d scope names ≡ Some c →
-    call_weight depth d scope names ≡ 1 + body_weight (call_weight n d c.scope) c.body
+    call_weight depth d scope names ≡ body_weight (call_weight n d c.scope) c.body
 call_weight-called d scope names depth n c is_suc is =
     ap (λ k. call_weight k d scope names) is_suc
-    ∙ ap (λ o. option_map_or (λ (c : Called). 1 + body_weight (call_weight n d c.scope) c.body) o 0) is
-
--- the weights of what a frame of a design calls
-abbrev pub weighs : Design → Frame → List Ident → ℕ
-weighs d f = call_weight f.depth (design_tree d) (scope_of f.reader.at)
+    ∙ ap (λ o. option_map_or (λ (c : Called). body_weight (call_weight n d c.scope) c.body) o 0) is
 
 -- a body weighs more than its locals and its statements
 pub body_parts_weigh : (within : List Ident → ℕ) (body : BodyTree) →
     body_weight within body
-    ≡ 1 + (row_weight within (row_of (local_stmts body.locals)) + row_weight within (row_of body.stmts))
-body_parts_weigh within body = ap (λ n. 1 + n) (row_weight-append within (local_stmts body.locals) body.stmts)
+    ≡ 4 + (row_weight within (row_of (local_stmts body.locals)) + row_weight within (row_of body.stmts))
+body_parts_weigh within body = ap (λ n. 4 + n) (row_weight-append within (local_stmts body.locals) body.stmts)

@@ -34,16 +34,19 @@ pub record StmtFits (d : Design) (f : Frame) (s : StmtTree) : Type 0 where
   pub promised : StmtAt f.reader s
   pub nested : NestsWithin f.depth (design_tree d) (scope_of f.reader.at) (stmt_calls s)
 
+-- the same of the statements of a row
 pub record RowFits (d : Design) (f : Frame) (ss : List StmtTree) : Type 0 where
   pub tables : f.reader.tables ≡ tables_of d
   pub promised : RowAt f.reader ss
   pub nested : NestsWithin f.depth (design_tree d) (scope_of f.reader.at) (row_calls (row_of ss))
 
+-- the same of blocks
 pub record BlocksFit (d : Design) (f : Frame) (bs : List StmtRow) : Type 0 where
   pub tables : f.reader.tables ≡ tables_of d
   pub promised : BlocksAt f.reader bs
   pub nested : NestsWithin f.depth (design_tree d) (scope_of f.reader.at) (block_calls (alternatives_of bs))
 
+-- the same of a body
 pub record BodyFits (d : Design) (f : Frame) (body : BodyTree) : Type 0 where
   pub tables : f.reader.tables ≡ tables_of d
   pub context : Context
@@ -55,6 +58,7 @@ pub record BodyFits (d : Design) (f : Frame) (body : BodyTree) : Type 0 where
 abbrev pub local_stmt : LocalTree → StmtTree
 local_stmt l = assign (l.name ∷ []) None l.value
 
+-- the same of several
 abbrev pub local_stmts : List LocalTree → List StmtTree
 local_stmts ls = map local_stmt ls
 

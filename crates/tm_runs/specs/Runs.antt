@@ -100,21 +100,17 @@ abbrev pub DoesStmt : {A : Type 0} → ScopedCells → StmtTree → Course → C
 DoesStmt s stmt from to r =
     (calls : List Place) → Does s.tables (item_of s (from.trail ++ calls) stmt) (behind calls from) (behind calls to) r
 
+-- the same of a row
 abbrev pub DoesRow : {A : Type 0} → ScopedCells → List StmtTree → Course → Course → Result A Halt → Type 0
 DoesRow s stmts from to r =
     (calls : List Place) →
     Does s.tables (items_of s (from.trail ++ calls) stmts) (behind calls from) (behind calls to) r
 
+-- the same of a body, which a trail has reached
 abbrev pub DoesBody : {A : Type 0} → ScopedCells → List Place → BodyTree → Course → Course → Result A Halt → Type 0
 DoesBody s trail body from to r =
     (calls : List Place) →
     Does s.tables (body_work s (trail ++ calls) body) (behind calls from) (behind calls to) r
-
--- a machine halts within a row
-abbrev pub HaltsInRow : ScopedCells → List StmtTree → Course → Course → Halt → Type 0
-HaltsInRow s stmts from to h =
-    (calls : List Place) →
-    HaltsWithin s.tables (items_of s (from.trail ++ calls) stmts) (behind calls from) (behind calls to) h
 
 -- a statement of a body of an instance is promised with all that stand within it, and so is a row or blocks
 pub record StmtAt (s : ScopedCells) (stmt : StmtTree) : Type 0 where
@@ -122,11 +118,13 @@ pub record StmtAt (s : ScopedCells) (stmt : StmtTree) : Type 0 where
   pub stands : context_at s ≡ Some context
   pub promised : StmtIsPromised context stmt
 
+-- the same of a row
 pub record RowAt (s : ScopedCells) (stmts : List StmtTree) : Type 0 where
   pub context : Context
   pub stands : context_at s ≡ Some context
   pub promised : RowIsPromised context (row_of stmts)
 
+-- the same of blocks
 pub record BlocksAt (s : ScopedCells) (blocks : List StmtRow) : Type 0 where
   pub context : Context
   pub stands : context_at s ≡ Some context
@@ -140,6 +138,7 @@ crossing c names = call_crosses c.spec c.template names
 abbrev pub StmtMayPass : ScopedCells → StmtTree → Type 0
 StmtMayPass s stmt = (c : Context) → context_at s ≡ Some c → stmt_crosses (crossing c) stmt ≡ false
 
+-- the same of a row
 abbrev pub RowMayPass : ScopedCells → List StmtTree → Type 0
 RowMayPass s stmts = (c : Context) → context_at s ≡ Some c → row_crosses (crossing c) (row_of stmts) ≡ false
 

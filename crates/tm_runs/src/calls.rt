@@ -1,19 +1,68 @@
 //! Calls.
-ghost use Rattle.std.specs.Prelude.{◌++◌, ℕ, IfOk, map};
+ghost use Rattle.std.specs.Prelude.{◌≡◌, ◌∷◌, ℕ, IfErr, IfOk};
 ghost use Rattle.std.specs.Option.{option_map};
 ghost use Rattle.tm_syntax.specs.Tree as trees;
-ghost use Rattle.tm_syntax.specs.Tree.View.{body_tree, expr_tree, expr_trees, local_tree};
-ghost use Rattle.tm_syntax.specs.Design.Work.{call_place};
-ghost use Rattle.tm_runs.specs.Frames.{BodyFits, BodyMayPass, CallFits, IsCalled, RowFits, StmtFits, local_stmts};
-ghost use Rattle.tm_runs.specs.Runs.{DoesBody, DoesRow, DoesStmt, RowMayPass, StmtMayPass};
+ghost use Rattle.tm_syntax.specs.Tree.View.{body_tree, expr_tree, expr_trees};
+ghost use Rattle.tm_runs.specs.declared.halt.Halt.TheVariants as halts;
+ghost use Rattle.tm_runs.specs.Frames.{CallFits, IsCalled, StmtFits, local_stmts};
+ghost use Rattle.tm_runs.specs.Inner.Owed.{answer, leave, level_of, one, owed, row};
+ghost use Rattle.tm_runs.specs.Inner.Steps.{IsEntered, Steps};
 
 use crate::assign::target;
 use crate::course::Course;
 use crate::frame::{CalledTask, Frame};
 use crate::halt::Halt;
 use crate::runner::Runner;
-use std::slice::from_ref;
-use tm_syntax::tree::{Body, Expr, Ident, LocalDef};
+use crate::todo::{Answer, Todo, push, push_body};
+use tm_scope::CellNumber;
+use tm_syntax::tree::{Expr, Ident};
+
+// Enters the body of a called task, which is left to be done, and behind it the end of the call.
+fn enter<'t>(
+    called: &CalledTask<'t>,
+    course: &mut Course,
+    todo: &mut Vec<Todo<'t>>,
+    path: &'t [Ident],
+) -> Result<(), Halt>
+    ensures entered { IfOk result (λ _. IsEntered path.now course.old course.new) }
+    ensures left { IfOk result (λ _. owed todo.new.items
+        ≡ row (level_of called.now.frame) (local_stmts (body_tree called.now.task.now.body).locals)
+        ∷ row (level_of called.now.frame) (body_tree called.now.task.now.body).stmts
+        ∷ leave path.now ∷ owed todo.old.items) }
+    ensures memory { IfErr result (λ h. h ≡ halts.Memory) }
+{
+    course.trail.enter(path)?;
+    push(todo, Todo::Leave(path))?;
+    push_body(todo, called.frame.level(), &called.task.body)?;
+    Ok(())
+}
+
+// Enters the body of a called procedure, of which a cell of the calling body gets what it returns.
+fn enter_for<'t>(
+    frame: &Frame<'t>,
+    called: &CalledTask<'t>,
+    course: &mut Course,
+    todo: &mut Vec<Todo<'t>>,
+    path: &'t [Ident],
+    cell: Option<CellNumber>,
+) -> Result<(), Halt>
+    ensures entered { IfOk result (λ _. IsEntered path.now course.old course.new) }
+    ensures left { IfOk result (λ _. owed todo.new.items
+        ≡ row (level_of called.now.frame) (local_stmts (body_tree called.now.task.now.body).locals)
+        ∷ row (level_of called.now.frame) (body_tree called.now.task.now.body).stmts
+        ∷ leave path.now
+        ∷ answer (level_of called.now.frame) frame.now.reader.at called.now.task.now cell ∷ owed todo.old.items) }
+    ensures memory { IfErr result (λ h. h ≡ halts.Memory) }
+{
+    let answer = Answer {
+        level: called.frame.level(),
+        task: called.task,
+        outer: frame.reader.at(),
+        cell,
+    };
+    push(todo, Todo::Answer(answer))?;
+    enter(called, course, todo, path)
+}
 
 impl<'s> Runner<'s> {
     // The task that a path calls, with the body of an instance that it is.
@@ -37,101 +86,44 @@ impl<'s> Runner<'s> {
         }
     }
 
-    // Does a call.
-    #[cycle(perform)]
-    pub(crate) fn call<'a>(
-        &'a self,
-        frame: &Frame<'a>,
+    /// Enters the task or procedure that a path calls.
+    pub(crate) fn call<'t>(
+        &'t self,
+        frame: &Frame<'t>,
         course: &mut Course,
-        path: &[Ident],
+        todo: &mut Vec<Todo<'t>>,
+        path: &'t [Ident],
         args: &[Expr],
     ) -> Result<(), Halt>
         requires { StmtFits self.now frame.now (trees.invoke path.now (expr_trees args.now)) }
-        ensures does { DoesStmt frame.now.reader (trees.invoke path.now (expr_trees args.now)) course.old course.new
-            result }
-        ensures passes { IfOk result (λ _. StmtMayPass frame.now.reader (trees.invoke path.now (expr_trees args.now))) }
+        ensures { Steps self.now (one (level_of frame.now) (trees.invoke path.now (expr_trees args.now))
+            ∷ owed todo.old.items) (owed todo.new.items) course.old course.new result }
     {
         let called = self.called(frame, path);
         called.arguments(&frame.reader, course, args)?;
-        self.perform_called(&called, course, path)
+        enter(&called, course, todo, path)
     }
 
-    // Gives a target what a called procedure returns.
-    #[cycle(perform)]
-    pub(crate) fn assign_call<'a>(
-        &'a self,
-        frame: &Frame<'a>,
+    /// Enters the procedure that a path calls, whose result a target gets.
+    pub(crate) fn assign_call<'t>(
+        &'t self,
+        frame: &Frame<'t>,
         course: &mut Course,
+        todo: &mut Vec<Todo<'t>>,
         path: &[Ident],
         index: &Option<Expr>,
-        name: &[Ident],
+        name: &'t [Ident],
         args: &[Expr],
     ) -> Result<(), Halt>
         requires { StmtFits self.now frame.now
             (trees.assign path.now (option_map expr_tree index.now) (trees.result name.now (expr_trees args.now))) }
-        ensures does { DoesStmt frame.now.reader
+        ensures { Steps self.now (one (level_of frame.now)
             (trees.assign path.now (option_map expr_tree index.now) (trees.result name.now (expr_trees args.now)))
-            course.old course.new result }
-        ensures passes { IfOk result (λ _. StmtMayPass frame.now.reader
-            (trees.assign path.now (option_map expr_tree index.now) (trees.result name.now (expr_trees args.now)))) }
+            ∷ owed todo.old.items) (owed todo.new.items) course.old course.new result }
     {
         let cell = target(&frame.reader, course, path, index)?;
         let called = self.called(frame, name);
         called.arguments(&frame.reader, course, args)?;
-        self.perform_called(&called, course, name)?;
-        called.answer(&frame.reader, course, cell)
-    }
-
-    // Does the body of a called task.
-    #[cycle(perform)]
-    fn perform_called<'a>(
-        &'a self,
-        called: &CalledTask<'a>,
-        course: &mut Course,
-        path: &[Ident],
-    ) -> Result<(), Halt>
-        requires { BodyFits self.now called.now.frame (body_tree called.now.task.now.body) }
-        ensures does { DoesBody called.now.frame.reader (call_place path.now ++ course.old.trail)
-            (body_tree called.now.task.now.body) course.old course.new result }
-        ensures passes { IfOk result (λ _. BodyMayPass called.now.frame.reader (body_tree called.now.task.now.body)) }
-    {
-        course.trail.enter(path)?;
-        self.perform_body(&called.frame, course, &called.task.body)?;
-        course.trail.leave(path);
-        Ok(())
-    }
-
-    /// Does a body: a local's declaration is an assignment that stands before the statements.
-    #[cycle(perform)]
-    pub fn perform_body<'a>(
-        &'a self,
-        frame: &Frame<'a>,
-        course: &mut Course,
-        body: &Body,
-    ) -> Result<(), Halt>
-        requires { BodyFits self.now frame.now (body_tree body.now) }
-        ensures does { DoesBody frame.now.reader course.old.trail (body_tree body.now) course.old course.new result }
-        ensures passes { IfOk result (λ _. BodyMayPass frame.now.reader (body_tree body.now)) }
-    {
-        self.perform_locals(frame, course, body.locals.as_slice())?;
-        self.perform_row(frame, course, body.stmts.as_slice())
-    }
-
-    /// Does the declarations of locals.
-    #[cycle(perform)]
-    pub fn perform_locals<'a>(
-        &'a self,
-        frame: &Frame<'a>,
-        course: &mut Course,
-        locals: &[LocalDef],
-    ) -> Result<(), Halt>
-        requires { RowFits self.now frame.now (local_stmts (map local_tree locals.now)) }
-        ensures does { DoesRow frame.now.reader (local_stmts (map local_tree locals.now)) course.old course.new result }
-        ensures passes { IfOk result (λ _. RowMayPass frame.now.reader (local_stmts (map local_tree locals.now))) }
-    {
-        for local in locals {
-            self.assign(frame, course, from_ref(&local.name), &None, &local.value)?;
-        }
-        Ok(())
+        enter_for(frame, &called, course, todo, name, cell)
     }
 }

@@ -1,5 +1,8 @@
 //! Where statements are done.
+ghost use Rattle.std.specs.Prelude.{◌≡◌};
+ghost use Rattle.tm_runs.specs.Inner.Owed.{level_of};
 
+use crate::todo::Level;
 use tm_syntax::tree::TaskDef;
 use tm_values::Reader;
 
@@ -8,6 +11,18 @@ use tm_values::Reader;
 pub struct Frame<'a> {
     pub reader: Reader<'a>,
     pub depth: usize,
+}
+
+impl<'a> Frame<'a> {
+    /// Where its statements are done.
+    pub(crate) fn level(&self) -> Level
+        ensures { result ≡ level_of self.now }
+    {
+        Level {
+            at: self.reader.at(),
+            depth: self.depth,
+        }
+    }
 }
 
 /// A task or procedure that a call runs, with the body of an instance that it is.

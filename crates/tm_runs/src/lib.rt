@@ -12,7 +12,9 @@ mod course;
 mod frame;
 mod halt;
 mod perform;
+mod run;
 mod runner;
+mod todo;
 mod trail;
 
 pub use choices::Choices;

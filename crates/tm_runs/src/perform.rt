@@ -1,15 +1,14 @@
-//! Statements, done one by one.
-ghost use Rattle.std.specs.Prelude.{◌≡◌, IfOk, Some, map, true};
+//! Statements, each of which is done at once, or leads to others that are left to be done.
+ghost use Rattle.std.specs.Prelude.{◌≡◌, ◌∷◌, IfErr, IfOk, map};
 ghost use Rattle.std.specs.Option.{option_map};
 ghost use Rattle.tm_base.specs.declared.place.Place.{Place as places};
 ghost use Rattle.tm_syntax.specs.Tree as trees;
 ghost use Rattle.tm_syntax.specs.Tree.{alternatives_of, row_of};
 ghost use Rattle.tm_syntax.specs.Tree.View.{expr_tree, stmt_tree, stmt_trees, value_tree};
-ghost use Rattle.tm_syntax.specs.Scopes.Context.{Context};
-ghost use Rattle.tm_syntax.specs.Scopes.Crossing.{row_crosses};
-ghost use Rattle.tm_runs.specs.Frames.{BlocksFit, RowFits, StmtFits};
-ghost use Rattle.tm_runs.specs.Runs.{DoesRow, DoesStmt, HaltsInRow, RowMayPass, StmtMayPass, crossing};
-ghost use Rattle.tm_operands.specs.Typed.{context_at};
+ghost use Rattle.tm_runs.specs.declared.halt.Halt.TheVariants as halts;
+ghost use Rattle.tm_runs.specs.Frames.{StmtFits};
+ghost use Rattle.tm_runs.specs.Inner.Owed.{again, level_of, one, owed, row};
+ghost use Rattle.tm_runs.specs.Inner.Steps.{Steps};
 
 use crate::assign::{assign_choice, assign_value};
 use crate::conditions::{assert, assume, condition};
@@ -17,35 +16,66 @@ use crate::course::Course;
 use crate::frame::Frame;
 use crate::halt::Halt;
 use crate::runner::Runner;
+use crate::todo::{Todo, push};
 use tm_syntax::tree::{Expr, Ident, Stmt, Value};
 
+// Leaves the statements of a row to be done.
+fn take_row<'t>(frame: &Frame<'t>, todo: &mut Vec<Todo<'t>>, stmts: &'t [Stmt]) -> Result<(), Halt>
+    ensures left { IfOk result (λ _. owed todo.new.items
+        ≡ row (level_of frame.now) (stmt_trees stmts.now) ∷ owed todo.old.items) }
+    ensures memory { IfErr result (λ h. h ≡ halts.Memory) }
+{
+    push(todo, Todo::Stmts(frame.level(), stmts))?;
+    Ok(())
+}
+
+// Leaves the body of a loop to be done, and the loop behind it.
+fn take_loop<'t>(
+    frame: &Frame<'t>,
+    todo: &mut Vec<Todo<'t>>,
+    stmt: &'t Stmt,
+    body: &'t [Stmt],
+) -> Result<(), Halt>
+    ensures left { IfOk result (λ _. owed todo.new.items ≡ row (level_of frame.now) (stmt_trees body.now)
+        ∷ again (level_of frame.now) (stmt_tree stmt.now) ∷ owed todo.old.items) }
+    ensures memory { IfErr result (λ h. h ≡ halts.Memory) }
+{
+    push(todo, Todo::Again(frame.level(), stmt))?;
+    push(todo, Todo::Stmts(frame.level(), body))?;
+    Ok(())
+}
+
 impl<'s> Runner<'s> {
-    /// Does a statement of a body of an instance, or tells why the run goes no further. What it gets through is not
-    /// sure to cross a location. As deep as the statement nests.
-    #[cycle(perform)]
-    pub(crate) fn perform<'a>(
-        &'a self,
-        frame: &Frame<'a>,
+    /// Does a statement of a body of an instance as far as it is done at once, and leaves the statements to which it
+    /// leads to be done. Or tells why the run goes no further.
+    pub(crate) fn perform<'t>(
+        &'t self,
+        frame: &Frame<'t>,
         course: &mut Course,
-        stmt: &Stmt,
+        todo: &mut Vec<Todo<'t>>,
+        stmt: &'t Stmt,
     ) -> Result<(), Halt>
         requires { StmtFits self.now frame.now (stmt_tree stmt.now) }
-        ensures does { DoesStmt frame.now.reader (stmt_tree stmt.now) course.old course.new result }
-        ensures passes { IfOk result (λ _. StmtMayPass frame.now.reader (stmt_tree stmt.now)) }
+        ensures { Steps self.now (one (level_of frame.now) (stmt_tree stmt.now) ∷ owed todo.old.items)
+            (owed todo.new.items) course.old course.new result }
     {
         match stmt {
             Stmt::Assign(path, index, value) => {
-                self.assign(frame, course, path.names.as_slice(), index, value)
+                self.assign(frame, course, todo, path.names.as_slice(), index, value)
             }
             Stmt::Call(path, args) => {
-                self.call(frame, course, path.names.as_slice(), args.as_slice())
+                self.call(frame, course, todo, path.names.as_slice(), args.as_slice())
             }
             Stmt::If(e, first, second) => {
-                self.perform_branch(frame, course, e, first.as_slice(), second.as_slice())
+                self.take_branch(frame, course, todo, e, first.as_slice(), second.as_slice())
             }
-            Stmt::While(_, e, body) => self.repeat(frame, course, e, body.as_slice()),
-            Stmt::Forever(_, body) => Err(self.perform_loop(frame, course, body.as_slice())),
-            Stmt::Choice(_, alternatives) => self.choose(frame, course, alternatives.as_slice()),
+            Stmt::While(_, e, body) => {
+                self.repeat(frame, course, todo, stmt, e, body.as_slice())
+            }
+            Stmt::Forever(_, body) => take_loop(frame, todo, stmt, body.as_slice()),
+            Stmt::Choice(_, alternatives) => {
+                self.choose(frame, course, todo, alternatives.as_slice())
+            }
             Stmt::Assert(_, e) => assert(&frame.reader, course, e),
             Stmt::Assume(_, e) => assume(&frame.reader, course, e),
             Stmt::Pause(at) => Err(course.at_end(Halt::Stopped(*at))),
@@ -54,127 +84,92 @@ impl<'s> Runner<'s> {
         }
     }
 
-    /// Does the statements of a row.
-    #[cycle(perform)]
-    pub fn perform_row<'a>(
-        &'a self,
-        frame: &Frame<'a>,
+    // Takes a row of an `if`.
+    fn take_branch<'t>(
+        &'t self,
+        frame: &Frame<'t>,
         course: &mut Course,
-        stmts: &[Stmt],
-    ) -> Result<(), Halt>
-        requires { RowFits self.now frame.now (stmt_trees stmts.now) }
-        ensures does { DoesRow frame.now.reader (stmt_trees stmts.now) course.old course.new result }
-        ensures passes { IfOk result (λ _. RowMayPass frame.now.reader (stmt_trees stmts.now)) }
-    {
-        for stmt in stmts {
-            self.perform(frame, course, stmt)?;
-        }
-        Ok(())
-    }
-
-    // Does an `if`.
-    #[cycle(perform)]
-    fn perform_branch<'a>(
-        &'a self,
-        frame: &Frame<'a>,
-        course: &mut Course,
+        todo: &mut Vec<Todo<'t>>,
         e: &Expr,
-        first: &[Stmt],
-        second: &[Stmt],
+        first: &'t [Stmt],
+        second: &'t [Stmt],
     ) -> Result<(), Halt>
         requires { StmtFits self.now frame.now
             (trees.branch (expr_tree e.now) (row_of (stmt_trees first.now)) (row_of (stmt_trees second.now))) }
-        ensures does { DoesStmt frame.now.reader
+        ensures { Steps self.now (one (level_of frame.now)
             (trees.branch (expr_tree e.now) (row_of (stmt_trees first.now)) (row_of (stmt_trees second.now)))
-            course.old course.new result }
-        ensures passes { IfOk result (λ _. StmtMayPass frame.now.reader
-            (trees.branch (expr_tree e.now) (row_of (stmt_trees first.now)) (row_of (stmt_trees second.now)))) }
+            ∷ owed todo.old.items) (owed todo.new.items) course.old course.new result }
     {
         let holds = condition(&frame.reader, course, e)?;
         if holds {
-            self.perform_row(frame, course, first)
+            take_row(frame, todo, first)
         } else {
-            self.perform_row(frame, course, second)
+            take_row(frame, todo, second)
         }
     }
 
-    // Does a `while`.
-    #[cycle(perform)]
-    fn repeat<'a>(
-        &'a self,
-        frame: &Frame<'a>,
+    // Goes into a `while`, or past it.
+    fn repeat<'t>(
+        &'t self,
+        frame: &Frame<'t>,
         course: &mut Course,
+        todo: &mut Vec<Todo<'t>>,
+        stmt: &'t Stmt,
         e: &Expr,
-        body: &[Stmt],
+        body: &'t [Stmt],
     ) -> Result<(), Halt>
-        requires { (at : places) × StmtFits self.now frame.now
-            (trees.repeat at (expr_tree e.now) (row_of (stmt_trees body.now))) }
-        ensures { (at : places) → DoesStmt frame.now.reader
-            (trees.repeat at (expr_tree e.now) (row_of (stmt_trees body.now))) course.old course.new result }
+        requires is { (at : places) × (stmt_tree stmt.now
+            ≡ trees.repeat at (expr_tree e.now) (row_of (stmt_trees body.now))) }
+        requires fits { StmtFits self.now frame.now (stmt_tree stmt.now) }
+        ensures { Steps self.now (one (level_of frame.now) (stmt_tree stmt.now) ∷ owed todo.old.items)
+            (owed todo.new.items) course.old course.new result }
     {
         let holds = condition(&frame.reader, course, e)?;
         if holds {
-            Err(self.perform_loop(frame, course, body))
+            take_loop(frame, todo, stmt, body)
         } else {
             Ok(())
         }
     }
 
-    // Does the statements of a loop's body: it is sure to cross a location, so no run comes to its end.
-    #[cycle(perform)]
-    fn perform_loop<'a>(&'a self, frame: &Frame<'a>, course: &mut Course, body: &[Stmt]) -> Halt
-        requires fits { RowFits self.now frame.now (stmt_trees body.now) }
-        requires crosses { (c : Context) × (context_at frame.now.reader ≡ Some c)
-            × (row_crosses (crossing c) (row_of (stmt_trees body.now)) ≡ true) }
-        ensures { HaltsInRow frame.now.reader (stmt_trees body.now) course.old course.new result }
-    {
-        match self.perform_row(frame, course, body) {
-            Ok(_) => unreachable!(),
-            Err(halt) => halt,
-        }
-    }
-
-    // Does the alternative that the next choice numbers.
-    #[cycle(perform)]
-    fn choose<'a>(
-        &'a self,
-        frame: &Frame<'a>,
+    // Takes the alternative that the next choice numbers.
+    fn choose<'t>(
+        &'t self,
+        frame: &Frame<'t>,
         course: &mut Course,
-        blocks: &[Vec<Stmt>],
+        todo: &mut Vec<Todo<'t>>,
+        blocks: &'t [Vec<Stmt>],
     ) -> Result<(), Halt>
-        requires { BlocksFit self.now frame.now (map (λ b. row_of (stmt_trees b.items)) blocks.now) }
-        ensures does { (at : places) → DoesStmt frame.now.reader
+        requires { (at : places) × StmtFits self.now frame.now
+            (trees.choose at (alternatives_of (map (λ b. row_of (stmt_trees b.items)) blocks.now))) }
+        ensures { (at : places) → Steps self.now (one (level_of frame.now)
             (trees.choose at (alternatives_of (map (λ b. row_of (stmt_trees b.items)) blocks.now)))
-            course.old course.new result }
-        ensures passes { IfOk result (λ _. (at : places) → StmtMayPass frame.now.reader
-            (trees.choose at (alternatives_of (map (λ b. row_of (stmt_trees b.items)) blocks.now)))) }
+            ∷ owed todo.old.items) (owed todo.new.items) course.old course.new result }
     {
         let Some(choice) = course.choices.next() else {
             return Err(Halt::Blocked);
         };
         match blocks.get(choice as usize) {
-            Some(block) => self.perform_row(frame, course, block.as_slice()),
+            Some(block) => take_row(frame, todo, block.as_slice()),
             None => Err(Halt::Blocked),
         }
     }
 
-    // Does an assignment.
-    #[cycle(perform)]
-    pub(crate) fn assign<'a>(
-        &'a self,
-        frame: &Frame<'a>,
+    /// Does an assignment, or enters the procedure whose result is assigned.
+    pub(crate) fn assign<'t>(
+        &'t self,
+        frame: &Frame<'t>,
         course: &mut Course,
+        todo: &mut Vec<Todo<'t>>,
         path: &[Ident],
         index: &Option<Expr>,
-        value: &Value,
+        value: &'t Value,
     ) -> Result<(), Halt>
         requires { StmtFits self.now frame.now
             (trees.assign path.now (option_map expr_tree index.now) (value_tree value.now)) }
-        ensures does { DoesStmt frame.now.reader
-            (trees.assign path.now (option_map expr_tree index.now) (value_tree value.now)) course.old course.new
-            result }
-        ensures passes { IfOk result (λ _. StmtMayPass frame.now.reader
-            (trees.assign path.now (option_map expr_tree index.now) (value_tree value.now))) }
+        ensures { Steps self.now (one (level_of frame.now)
+            (trees.assign path.now (option_map expr_tree index.now) (value_tree value.now)) ∷ owed todo.old.items)
+            (owed todo.new.items) course.old course.new result }
     {
         match value {
             Value::Star(_) => assign_choice(&frame.reader, course, path, index),
@@ -183,6 +178,7 @@ impl<'s> Runner<'s> {
                 self.assign_call(
                     frame,
                     course,
+                    todo,
                     path,
                     index,
                     called.names.as_slice(),

@@ -1,5 +1,5 @@
 //! A design with the tables by which it is run.
-ghost use Rattle.std.specs.Prelude.{◌≡◌, ◌≤◌, IfNone, IfOk, IfSome, None, length};
+ghost use Rattle.std.specs.Prelude.{◌≡◌, ◌≤◌, IfNone, IfOk, IfSome, None, Some, length};
 ghost use Rattle.std.specs.Option.{option_map};
 ghost use Rattle.tm_syntax.specs.Tree.View.{spec_tree};
 ghost use Rattle.tm_syntax.specs.Scopes.Pauses.{call_depth};
@@ -8,10 +8,14 @@ ghost use Rattle.tm_syntax.specs.Design.Scope.{site};
 ghost use Rattle.tm_syntax.specs.Faults.{IsOfText, IsSound};
 ghost use Rattle.tm_scope.specs.CallOrder.{CoversTasks, IsCallOrder};
 ghost use Rattle.tm_scope.specs.Cells.{ArePausing};
+ghost use Rattle.tm_operands.specs.Typed.{context_at};
+ghost use Rattle.tm_syntax.specs.Scopes.Context.{Context};
 ghost use Rattle.tm_runs.specs.Frames.{IsFrame};
+ghost use Rattle.tm_runs.specs.Inner.Owed.{frame_of};
 ghost use Rattle.tm_runs.specs.Tables.{body_of};
 
 use crate::frame::Frame;
+use crate::todo::Level;
 use std::alloc::{AllocError, Global};
 use std::marker::Model;
 use tm_scope::{Cells, Scopes, SiteBody, Sites, TaskSet};
@@ -92,6 +96,20 @@ impl<'s> Runner<'s> {
     {
         let scope = self.cells.scope(at)?;
         Some(Reader::new(scope, self.scopes, at))
+    }
+
+    // The frame of a body of an instance that the design has.
+    pub(crate) fn frame_here(&self, level: Level) -> Frame<'_>
+        requires { (c : Context) × (context_at (body_of self.now level.at) ≡ Some c) }
+        ensures { result ≡ frame_of self.now level }
+    {
+        match self.reader(level.at) {
+            Some(reader) => Frame {
+                reader,
+                depth: level.depth,
+            },
+            None => unreachable!(),
+        }
     }
 
     /// A body of an instance, below which calls nest as deep as the text lets them. There is none exactly where the

@@ -26,8 +26,8 @@ fn shape_by_tables(alloc: Global, tables: &Tables, wanted: Kind) -> Result<CertS
     })
 }
 
-/// The numbers of a design of a text that its certificates speak of, for a wanted kind of certificate. Linear in the text
-/// and in the statements of its processes, with the bodies that these call. `AllocError` is want of memory.
+/// The numbers of a design of a text that its certificates speak of, for a wanted kind of certificate. Linear in the
+/// text and in the statements of its processes, with the bodies that these call. `AllocError` is want of memory.
 pub fn cert_shape(alloc: Global, design: &Design, wanted: Kind) -> Result<CertShape, AllocError>
     requires sound { IsSound (design_tree design.now) }
     requires read { IsOfText (design_tree design.now).spec }

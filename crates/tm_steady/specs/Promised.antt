@@ -23,5 +23,6 @@ StmtIsPromised c s = AllByRecursion (IsPromised c) (s ∷ inner_stmts s)
 abbrev pub RowIsPromised : Context → StmtRow → Type 0
 RowIsPromised c row = AllByRecursion (IsPromised c) (row_stmts row)
 
+-- of the statements of blocks
 abbrev pub BlocksArePromised : Context → BlockRow → Type 0
 BlocksArePromised c blocks = AllByRecursion (IsPromised c) (block_stmts blocks)

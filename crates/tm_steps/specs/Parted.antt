@@ -12,8 +12,8 @@ use Rattle.tm_steps.specs.declared.branches.Branches.{Branches}
 use Rattle.tm_flows.specs.Flows.{EndTerms, FlowTerms, IsFlow, Leads}
 use Rattle.tm_flows.specs.Statements.{Asks}
 
--- a condition was valued where a run stands: it fails where the condition overruns, and else goes on in the first of two
--- flows where the condition holds, and in the second one where it does not
+-- a condition was valued where a run stands: it fails where the condition overruns, and else goes on in the first of
+-- two flows where the condition holds, and in the second one where it does not
 pub record Parts (s : ScopedCells) (e : ExprTree) (t n : Table) (f : FlowTerms) (before after : EndTerms)
     (parts : Branches) : Type 0 where
   pub table : Table

@@ -114,8 +114,8 @@ pub(crate) fn put_some<'s>(
     Ok(goes)
 }
 
-/// Puts a term into the element that an index numbers, where it does not overrun. Linear in the array's length. `text` is
-/// a buffer. `AllocError` is want of memory.
+/// Puts a term into the element that an index numbers, where it does not overrun. Linear in the array's length. `text`
+/// is a buffer. `AllocError` is want of memory.
 pub(crate) fn put_element<'s>(
     reader: &TermReader<'s>,
     terms: &mut Terms,

@@ -25,8 +25,8 @@ use tm_scope::ExprType;
 use tm_syntax::tree::{Expr, Ident};
 use tm_term::{TermId, Terms};
 
-/// Where a target is: in the cell of its path, in the element of a number, or in the one that a term numbers, which is one
-/// of so many.
+/// Where a target is: in the cell of its path, in the element of a number, or in the one that a term numbers, which is
+/// one of so many.
 #[derive(Drop)]
 pub enum TargetPlace {
     Whole,
@@ -43,8 +43,8 @@ fn reached(width: u8, length: u64) -> u64
     if length <= most { length } else { most + 1 }
 }
 
-/// Where the element is that an index numbers where runs stand, if it does not overrun. `text` is a buffer. `AllocError`
-/// is want of memory.
+/// Where the element is that an index numbers where runs stand, if it does not overrun. `text` is a buffer.
+/// `AllocError` is want of memory.
 pub fn element_place(
     reader: &TermReader<'_>,
     terms: &mut Terms,

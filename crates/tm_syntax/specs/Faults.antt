@@ -101,10 +101,6 @@ pub data FaultOf (text : List ℕ) : Faulty → Type 0 where
   of_tree : {tokens : List Token} {tree : SpecTree} {f : Faulty} → length text ≤ specification_limit →
       AreTokens text tokens → IsTree text tokens tree → HasTreeFault tree f → FaultOf text f
 
--- a text is well formed where it has no fault
-abbrev pub IsWellFormed : List ℕ → Type 0
-IsWellFormed text = (f : Faulty) → ¬ FaultOf text f
-
 -- the tree of some text that has none of F1 to F3
 pub record IsOfText (spec : SpecTree) : Type 0 where
   pub text : List ℕ

@@ -37,7 +37,7 @@ use Rattle.tm_walk.specs.declared.alternatives.Choice.{Choice}
 use Rattle.tm_walk.specs.declared.course.Course.{Course}
 use Rattle.tm_walk.specs.declared.stand.Stand.{Stand}
 use Rattle.tm_walk.specs.Asked.{BlocksAreTyped, RowIsTyped}
-use Rattle.tm_walk.specs.Inner.Alternatives.{AlternativeWalks, EntersChoice, LeadsBeside}
+use Rattle.tm_walk.specs.Inner.Alternatives.{AlternativeWalks, BlocksSoFar, EntersChoice, LeadsBeside, chosen_by}
 use Rattle.tm_walk.specs.Inner.Passing.{IsAlternative}
 use Rattle.tm_walk.specs.Walks.{AreWalkable, BlocksLead, InEach, IsStand, IsStanding, RowLeads, RowWalks, StmtLeads, WalkTables, readers_at}
 use Rattle.tm_walk.proofs.Standing.{bits_along, continues_at}
@@ -163,18 +163,6 @@ nothing_led w number now flow standing = record {
     same = λ off. same_ends w.tables u v now.ends;
   };
 }
-
--- the number of an alternative
-abbrev chosen_by : WalkTables → FlowTerms → Choice → List ℕ → ℕ
-chosen_by w flow read v = number_at (choice_bit w.first v) flow.position read.width
-
--- these alternatives have been led through
-pub record BlocksSoFar (w : WalkTables) (f : Stand) (count : ℕ) (from : Course) (flow : FlowTerms) (read : Choice)
-    (bs : List StmtRow) (now : Course) (joined : Option FlowTerms) : Type 0 where
-  pub start : Course
-  pub enters : EntersChoice w count from start flow read
-  pub leads : BlocksLead w f (alternatives_of bs) (chosen_by w flow read) start now read.flow joined
-  pub standing : IsStanding w now read.flow
 
 module _ (w : WalkTables) (f : Stand) (count : ℕ) (from : Course) (flow : FlowTerms) (read : Choice) where
   pub blocks_begin : (bs : List StmtRow) (start : Course) (joined : Option FlowTerms) → bs ≡ [] → joined ≡ None →

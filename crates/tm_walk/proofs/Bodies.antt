@@ -1,15 +1,12 @@
 -- The locals of a body, and the statements behind them.
-use Rattle.std.proofs.Common.{◌≡◌, ◌||◌, ℕ, Bool, false, suc, ◌+◌, ◌<◌, Option, None, Some, List, [], ◌∷◌, ◌++◌, length, map, drop, get_or, slice_get, refl, sym, ap, ◌∙◌, subst, add-one, drop-cons}
+use Rattle.std.proofs.Common.{◌≡◌, ◌||◌, ℕ, Bool, false, suc, Option, None, Some, List, [], ◌∷◌, ◌++◌, length, refl, sym, ap, ◌∙◌, subst}
 use Rattle.std.specs.Prelude.{MatchOption}
-use Rattle.std.specs.Option.{option_and_then, option_map, option_map_or}
+use Rattle.std.specs.Option.{option_and_then, option_map_or}
 use Rattle.std.specs.declared.vec.Vec.{Vec}
 use Rattle.std.specs.declared.alloc.Global.{Global}
-use Rattle.std.proofs.lemmas.Option.{slice_get-get_or, slice_get-map}
 use Rattle.tm_base.specs.declared.place.Place.{Place}
-use Rattle.tm_syntax.specs.declared.tree.LocalDef.{LocalDef}
 use Rattle.tm_syntax.specs.declared.tree.Stmt.{Stmt}
 use Rattle.tm_syntax.specs.Tree.{BodyTree, LocalTree, StmtTree, assign, row_of}
-use Rattle.tm_syntax.specs.Tree.View.{local_tree, stmt_tree, stmt_trees}
 use Rattle.tm_syntax.specs.Scopes.Parts.{body_stmts}
 use Rattle.tm_syntax.specs.Design.Locations.{location_number}
 use Rattle.tm_syntax.specs.Design.Scope.{Scope}
@@ -36,24 +33,6 @@ use Rattle.tm_walk.proofs.Standing.{stands_on}
 -- the declaration of a local
 abbrev pub local_stmt : LocalTree → StmtTree
 local_stmt l = assign (l.name ∷ []) None l.value
-
-pub locals_from : (locals : List LocalDef) (i : ℕ) (l : LocalDef) → i < length locals → l ≡ get_or locals i l →
-    local_stmts (map local_tree (drop i locals))
-    ≡ local_stmt (local_tree l) ∷ local_stmts (map local_tree (drop (i + 1) locals))
-locals_from locals i l inside at = rw (add-one, drop-cons locals i l, ← at) refl
-
--- the statements from an index on are the one there and those behind it
-pub stmts_from : (stmts : List Stmt) (i : ℕ) (s : Stmt) → i < length stmts → s ≡ get_or stmts i s →
-    stmt_trees (drop i stmts) ≡ stmt_tree s ∷ stmt_trees (drop (i + 1) stmts)
-stmts_from stmts i s inside at = rw (add-one, drop-cons stmts i s, ← at) refl
-
--- the block of an index
-pub block_there : (blocks : List (Vec Stmt Global)) (k : ℕ) (block : Vec Stmt Global) → k < length blocks →
-    block ≡ get_or blocks k block → slice_get (block_rows blocks) k ≡ Some (row_of (stmt_trees block.items))
-block_there blocks k block inside is =
-    slice_get-map (λ (b : Vec Stmt Global). row_of (stmt_trees b.items)) blocks k
-    ∙ ap (option_map (λ (b : Vec Stmt Global). row_of (stmt_trees b.items)))
-    (slice_get-get_or blocks k block inside ∙ ap Some (sym is))
 
 -- there are as many rows as blocks
 pub rows_long : (blocks : List (Vec Stmt Global)) → length blocks ≡ length (block_rows blocks)

@@ -1,13 +1,12 @@
 -- Branches and loops.
 use Rattle.std.proofs.Common.{◌≡◌, ℕ, false, Option, None, Some, List, ◌||◌, refl, sym, ◌∙◌, subst}
-use Rattle.std.specs.Prelude.{IfSome, if◌then◌else◌}
+use Rattle.std.specs.Prelude.{if◌then◌else◌}
 use Rattle.tm_base.specs.declared.place.Place.{Place}
 use Rattle.tm_syntax.specs.Tree.{ExprTree, StmtRow, branch, forever, repeat}
 use Rattle.tm_syntax.specs.Design.Locations.{location_number}
 use Rattle.tm_syntax.specs.Design.Scope.{Scope}
 use Rattle.tm_scope.specs.Cells.{CellTables, ScopedCells, scope_of}
 use Rattle.tm_operands.proofs.Contexts.{some_cells, some_design}
-use Rattle.tm_term.specs.Table.{IsSound}
 use Rattle.tm_term.proofs.Valued.{Extends-trans}
 use Rattle.tm_sem.specs.Value.{holds_in, overruns}
 use Rattle.tm_sem.specs.Run.{blocked, failed, finished}
@@ -18,7 +17,7 @@ use Rattle.tm_flat.specs.Positions.{body_after, later, row_after}
 use Rattle.tm_flat.specs.Writes.{row_writes}
 use Rattle.tm_flows.specs.Flows.{Continues, EndTerms, FlowTerms, IsFlow, LeadsOn}
 use Rattle.tm_flows.specs.Statements.{Readers, reads}
-use Rattle.tm_flows.proofs.Flowing.{ends_along, flow_along, flow_along_if_there, second_flow}
+use Rattle.tm_flows.proofs.Flowing.{ends_along, flow_along, second_flow}
 use Rattle.tm_flows.proofs.Leaving.{leaves_cut, leaves_memory, or_left, or_right}
 use Rattle.tm_steps.specs.declared.branches.Branches.{Branches}
 use Rattle.tm_steps.specs.Parted.{Parts}
@@ -195,20 +194,6 @@ module _ (w : WalkTables) (f : Stand) (e : ExprTree) (now : Course) (flow : Flow
           (parted_standing parted parts stand.tables standing told)
           (subst (λ x. IsFlow x parted.terms parts.second) stand.tables told.second_flow);
     }
-
-    -- both flows are there to be joined
-    pub both_there : AreWalkable w → (first second : StmtRow) (one two : Course) (left right : Option FlowTerms) →
-        RowLeads w f first parted one parts.first left → RowLeads w f second one two parts.second right →
-        IfSome left (IsFlow w.tables two.terms) × IfSome right (IsFlow w.tables two.terms)
-    both_there walkable first second one two left right goes other =
-        let a = (goes walkable.design walkable.process walkable.cells walkable.are stand.calls stand.trail).goes in
-        let b = (other walkable.design walkable.process walkable.cells walkable.are stand.calls stand.trail).goes in
-        (flow_along_if_there w.tables one.terms two.terms left b.grown a.flow, b.flow)
-
-    pub second_sound : AreWalkable w → (first second : StmtRow) (one two : Course) (left right : Option FlowTerms) →
-        RowLeads w f second one two parts.second right → IsSound two.terms
-    second_sound walkable first second one two left right other =
-        (other walkable.design walkable.process walkable.cells walkable.are stand.calls stand.trail).goes.sound
 
 -- the body of a `forever` may be walked
 pub forever_walks : (w : WalkTables) (f : Stand) (at : Place) (body : StmtRow) (now : Course) (flow : FlowTerms) →

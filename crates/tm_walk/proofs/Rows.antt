@@ -1,5 +1,5 @@
 -- Statements in a row, led through one after the other.
-use Rattle.std.proofs.Common.{◌≡◌, ℕ, ◌<◌, ◌≤◌, ◌||◌, Bool, true, false, Option, None, Some, List, [], ◌∷◌, ◌++◌, refl, sym, ap, ◌∙◌, subst, arith}
+use Rattle.std.proofs.Common.{◌≡◌, ℕ, ◌≤◌, ◌||◌, Bool, true, false, Option, None, Some, List, [], ◌∷◌, ◌++◌, refl, sym, ap, ◌∙◌, subst}
 use Rattle.std.specs.Prelude.{MatchOption}
 use Rattle.std.specs.Option.{option_and_then, option_map_or}
 use Rattle.tm_base.specs.declared.place.Place.{Place}
@@ -24,7 +24,6 @@ use Rattle.tm_walk.specs.declared.course.Course.{Course}
 use Rattle.tm_walk.specs.declared.stand.Stand.{Stand}
 use Rattle.tm_walk.specs.Walks.{AreWalkable, IsStanding, RowLeads, RowWalks, StmtLeads, StmtWalks, WalkTables, readers_at}
 use Rattle.tm_walk.proofs.Standing.{goes_nowhere, stands_on}
-use Rattle.tm_walk.proofs.Weights.{row_weight, stmt_weight, weighs}
 
 -- a row that fits begins within the room
 row_low : (size : ℕ) (after : Called → ℕ → Option ℕ) (Fits : Called → ℕ → Type 0) (d : DesignTree) (scope : Scope)
@@ -167,14 +166,12 @@ module _ (w : WalkTables) (f : Stand) where
     pub leads : (end : Course) (g : Option FlowTerms) → RowLeads w f left now end here g →
         RowLeads w f all start end flow g
     pub walks : RowWalks w f left now here
-    pub weight : row_weight (weighs w f) left ≤ row_weight (weighs w f) all
 
   pub row_begins : (all left : StmtRow) (start : Course) (flow : FlowTerms) → left ≡ all →
       RowWalks w f all start flow → RowSoFar all left start flow start flow
   row_begins all left start flow is walks = record {
     leads = λ end g h. subst (λ row. RowLeads w f row start end flow g) is h;
     walks = subst (λ row. RowWalks w f row start flow) (sym is) walks;
-    weight = let same = ap (row_weight (weighs w f)) is in omega (arith, same);
   }
 
   module _ (all left : StmtRow) (s : StmtTree) (others : StmtRow) (start : Course) (flow : FlowTerms) (now : Course)
@@ -185,15 +182,11 @@ module _ (w : WalkTables) (f : Stand) where
     pub row_next : StmtWalks w f s now here
     row_next = head_walks s others now here so.walks
 
-    pub row_lighter : stmt_weight (weighs w f) s < row_weight (weighs w f) all
-    row_lighter = let less = so.weight in omega (arith, less)
-
     pub row_step : AreWalkable w → (mid : Course) (there : FlowTerms) → StmtLeads w f s now mid here (Some there) →
         RowSoFar all others start flow mid there
     row_step walkable mid there one = record {
       leads = λ end g h. so.leads end g (row_then s others now mid end here there g one h);
       walks = tail_walks s others now here so.walks walkable mid there one;
-      weight = let less = so.weight in omega (arith, less);
     }
 
     pub row_halts : (mid : Course) → StmtLeads w f s now mid here None → RowLeads w f all start mid flow None

@@ -2,3 +2,6 @@
 pub mod Aimed
 pub mod Alternatives
 pub mod Passing
+pub mod Places
+pub mod Waiting
+pub mod Weights

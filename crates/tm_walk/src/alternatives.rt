@@ -2,17 +2,22 @@
 ghost use Rattle.std.specs.Prelude.{◌≤◌, ◌+◌, ◌-◌, IfOk};
 ghost use Rattle.tm_base.specs.declared.place.Place as placed;
 ghost use Rattle.tm_syntax.specs.Tree as trees;
-ghost use Rattle.tm_syntax.specs.Tree.{alternatives_of, row_of};
-ghost use Rattle.tm_syntax.specs.Tree.View.{stmt_trees};
+ghost use Rattle.tm_syntax.specs.Tree.{alternatives_of};
 ghost use Rattle.tm_syntax.specs.Design.Sizes.{bits_of_number};
 ghost use Rattle.tm_flat.specs.Inputs.{room};
-ghost use Rattle.tm_walk.specs.Inner.Alternatives.{AlternativeWalks, EntersChoice, LeadsBeside, block_rows};
+ghost use Rattle.tm_walk.specs.declared.stand.Stand as stands;
+ghost use Rattle.tm_walk.specs.declared.waiting.Todo.TheVariants as todo;
+ghost use Rattle.tm_walk.specs.Inner.Alternatives.{EntersChoice, block_rows};
+ghost use Rattle.tm_walk.specs.Inner.Places.{IsAt, stack};
+ghost use Rattle.tm_walk.specs.Inner.Waiting.{Does, OthersWalk, StepsTo, StmtGoal};
+ghost use Rattle.tm_walk.specs.Inner.Weights.{stmt_most, todo_weight};
 ghost use Rattle.tm_walk.specs.Tables.{known_by};
-ghost use Rattle.tm_walk.specs.Walks.{IsStanding, StmtLeads, StmtWalks};
+ghost use Rattle.tm_walk.specs.Walks.{IsStanding, StmtWalks};
 
-use crate::branches::{alternative, join};
+use crate::branches::alternative;
 use crate::course::Course;
 use crate::stand::Stand;
+use crate::waiting::{Row, Spot, Todo, Waiting};
 use crate::walker::Walker;
 use std::alloc::AllocError;
 use tm_flows::Flow;
@@ -23,7 +28,7 @@ use tm_term::TermId;
 
 // The runs that have read the number of an alternative, with the term of that number and its width.
 #[derive(Drop)]
-struct Choice {
+pub(crate) struct Choice {
     pub flow: Flow,
     pub number: TermId,
     pub width: u8,
@@ -51,48 +56,60 @@ impl<'s> Walker<'s> {
         })
     }
 
-    // Leads runs through the alternative that a choice numbers.
-    #[cycle(walk)]
+    // Begins a choice: its alternatives are led through one after the other.
     pub(crate) fn choose(
         &self,
-        stand: &Stand<'s>,
         course: &mut Course,
-        blocks: &[Vec<Stmt>],
+        waiting: &mut Waiting<'s>,
+        spot: Spot,
+        blocks: &'s [Vec<Stmt>],
         flow: Flow,
     ) -> Result<Option<Flow>, AllocError>
-        requires { (at : placed.Place) × StmtWalks (known_by self.now) stand.now
+        requires { (stand : stands.Stand) × (at : placed.Place) × StmtWalks (known_by self.now) stand
             (trees.choose at (alternatives_of (block_rows blocks.now))) course.old flow }
-        ensures { (at : placed.Place) → IfOk result (StmtLeads (known_by self.now) stand.now
-            (trees.choose at (alternatives_of (block_rows blocks.now))) course.old course.new flow) }
+        ensures { (start stand : stands.Stand) (at : placed.Place) → IsAt (known_by self.now) start spot stand →
+            StmtWalks (known_by self.now) stand (trees.choose at (alternatives_of (block_rows blocks.now))) course.old
+            flow → IfOk result (StepsTo (known_by self.now) start
+            (StmtGoal (known_by self.now) stand (trees.choose at (alternatives_of (block_rows blocks.now))) course.old
+            flow) (λ d. stmt_most d stand (trees.choose at (alternatives_of (block_rows blocks.now))))
+            (stack waiting.old) (stack waiting.new) course.new) }
     {
         let choice = self.enter_choice(course, flow, blocks.len() as u64)?;
-        let mut joined = None;
-        for index in 0..blocks.len() {
-            let block = blocks[index].as_slice();
-            joined = self.walk_alternative(stand, course, &choice, index as u64, block, joined)?;
-        }
-        Ok(joined)
+        waiting.leave(Todo::Alternatives(spot, choice, 0, blocks))?;
+        Ok(None)
     }
 
-    // Leads runs through one more alternative.
-    #[cycle(walk)]
-    fn walk_alternative(
+    // Begins the alternative of a number. Behind the last one the choice ends.
+    pub(crate) fn next_alternative(
         &self,
-        stand: &Stand<'s>,
+        start: &Stand<'s>,
         course: &mut Course,
-        choice: &Choice,
-        index: u64,
-        block: &[Stmt],
+        waiting: &mut Waiting<'s>,
+        spot: Spot,
+        choice: Choice,
+        index: usize,
+        blocks: &'s [Vec<Stmt>],
         joined: Option<Flow>,
     ) -> Result<Option<Flow>, AllocError>
-        requires { AlternativeWalks (known_by self.now) stand.now (row_of (stmt_trees block.now)) choice.now index
-            course.old joined }
-        ensures { IfOk result (LeadsBeside (known_by self.now) stand.now (row_of (stmt_trees block.now)) choice.now
-            index course.old course.new joined) }
+        requires { OthersWalk (known_by self.now) start.now spot choice index blocks.now course.old joined }
+        ensures { IfOk result (StepsTo (known_by self.now) start.now
+            (Does (known_by self.now) start.now (todo.Alternatives spot choice index blocks.entry) course.old joined)
+            (λ d. todo_weight d (known_by self.now) start.now (todo.Alternatives spot choice index blocks.entry))
+            (stack waiting.old) (stack waiting.new) course.new) }
     {
-        let here = alternative(course, &choice.flow, choice.number, choice.width, index)?;
-        let left = self.walk_row(stand, course, block, here)?;
-        let goes = join(course, joined, left)?;
-        Ok(goes)
+        let Some(block) = blocks.get(index) else {
+            return Ok(joined);
+        };
+        let here = alternative(
+            course,
+            &choice.flow,
+            choice.number,
+            choice.width,
+            index as u64,
+        )?;
+        waiting.leave(Todo::Alternatives(spot, choice, index + 1, blocks))?;
+        waiting.leave(Todo::Join(joined))?;
+        waiting.leave(Todo::Row(spot, Row::Stmts(block.as_slice())))?;
+        Ok(Some(here))
     }
 }

@@ -1,24 +1,32 @@
 //! Calls.
-ghost use Rattle.std.specs.Prelude.{IfOk, map};
+ghost use Rattle.std.specs.Prelude.{◌≡◌, IfOk, unwrap_or};
 ghost use Rattle.std.specs.Option.{option_map};
 ghost use Rattle.tm_syntax.specs.Tree as trees;
-ghost use Rattle.tm_syntax.specs.Tree.{row_of};
-ghost use Rattle.tm_syntax.specs.Tree.View.{body_tree, expr_tree, expr_trees, local_tree};
-ghost use Rattle.tm_walk.specs.Inner.Passing.{CallWalks, IsCalled, local_stmts};
+ghost use Rattle.tm_syntax.specs.Tree.View.{expr_tree, expr_trees};
+ghost use Rattle.tm_walk.specs.declared.stand.Stand as stands;
+ghost use Rattle.tm_walk.specs.declared.waiting.Home as homes;
+ghost use Rattle.tm_walk.specs.declared.waiting.Spot as spots;
+ghost use Rattle.tm_walk.specs.declared.waiting.Todo.TheVariants as todo;
+ghost use Rattle.tm_walk.specs.Inner.Passing.{CallWalks, IsCalled};
+ghost use Rattle.tm_walk.specs.Inner.Places.{IsAt, stack, stand_at, stand_of};
+ghost use Rattle.tm_walk.specs.Inner.Waiting.{Asks, Does, LeadsAnswer, MayAnswer, StepsTo, StmtGoal};
+ghost use Rattle.tm_walk.specs.Inner.Weights.{stmt_most};
 ghost use Rattle.tm_walk.specs.Tables.{known_by};
-ghost use Rattle.tm_walk.specs.Walks.{BodyLeads, BodyWalks, RowLeads, RowWalks, StmtLeads, StmtWalks};
+ghost use Rattle.tm_walk.specs.Walks.{StmtWalks};
 
 use crate::aims::aimed;
 use crate::called::CalledTask;
 use crate::course::Course;
-use crate::stand::Stand;
+use crate::passing::answer;
+use crate::stand::{Stand, stand_or};
 use crate::trails::trail_behind;
+use crate::waiting::{Home, Row, Spot, Todo, Waiting};
 use crate::walker::Walker;
 use std::alloc::AllocError;
-use std::slice::from_ref;
 use tm_flatten::TermReader;
 use tm_flows::Flow;
-use tm_syntax::tree::{Body, Expr, Ident, LocalDef};
+use tm_steps::TargetPlace;
+use tm_syntax::tree::{Expr, Ident, TaskDef};
 
 impl<'s> Walker<'s> {
     // The task that a path calls, with the body of an instance that it is.
@@ -43,35 +51,38 @@ impl<'s> Walker<'s> {
         }
     }
 
-    // Leads runs through a call.
-    #[cycle(walk)]
+    // Begins a call: the body is entered with its arguments.
     pub(crate) fn call(
         &self,
         stand: &Stand<'s>,
         course: &mut Course,
+        waiting: &mut Waiting<'s>,
         path: &[Ident],
         args: &[Expr],
         flow: Flow,
     ) -> Result<Option<Flow>, AllocError>
         requires { StmtWalks (known_by self.now) stand.now (trees.invoke path.now (expr_trees args.now)) course.old
             flow }
-        ensures { IfOk result (StmtLeads (known_by self.now) stand.now (trees.invoke path.now (expr_trees args.now))
-            course.old course.new flow) }
+        ensures { (start : stands.Stand) → IfOk result (StepsTo (known_by self.now) start
+            (StmtGoal (known_by self.now) stand.now (trees.invoke path.now (expr_trees args.now)) course.old flow)
+            (λ d. stmt_most d stand.now (trees.invoke path.now (expr_trees args.now))) (stack waiting.old)
+            (stack waiting.new) course.new) }
     {
         let called = self.called(stand, path);
         let entered = called.enter(&stand.reader, course, args, flow)?;
-        let body = &called.task.body;
-        let left = self.walk_body(&called.stand, course, body, entered)?;
-        Ok(left)
+        let home = called.home();
+        waiting.leave(Todo::Row(Spot::Called(home), Row::Body(&called.task.body)))?;
+        Ok(Some(entered))
     }
 
-    // Leads runs through an assignment of what a call returns: where its target is, is found before the call.
-    #[cycle(walk)]
+    // Begins an assignment of what a call returns: where its target is, is found before the call.
     pub(crate) fn assign_call(
         &self,
         stand: &Stand<'s>,
         course: &mut Course,
-        path: &[Ident],
+        waiting: &mut Waiting<'s>,
+        spot: Spot,
+        path: &'s [Ident],
         index: &Option<Expr>,
         name: &[Ident],
         args: &[Expr],
@@ -80,67 +91,70 @@ impl<'s> Walker<'s> {
         requires { StmtWalks (known_by self.now) stand.now
             (trees.assign path.now (option_map expr_tree index.now) (trees.result name.now (expr_trees args.now)))
             course.old flow }
-        ensures { IfOk result (StmtLeads (known_by self.now) stand.now
+        ensures { (start : stands.Stand) → IsAt (known_by self.now) start spot stand.now → IfOk result
+            (StepsTo (known_by self.now) start (StmtGoal (known_by self.now) stand.now
             (trees.assign path.now (option_map expr_tree index.now) (trees.result name.now (expr_trees args.now)))
-            course.old course.new flow) }
+            course.old flow) (λ d. stmt_most d stand.now
+            (trees.assign path.now (option_map expr_tree index.now) (trees.result name.now (expr_trees args.now))))
+            (stack waiting.old) (stack waiting.new) course.new) }
     {
         let called = self.called(stand, name);
         let aim = aimed(&stand.reader, course, path, index, flow)?;
-        let Some(left) = self.call(stand, course, name, args, aim.flow)? else {
-            return Ok(None);
-        };
-        let goes = called.answer(&stand.reader, course, path, &aim.place, left)?;
-        Ok(Some(goes))
+        let home = called.home();
+        waiting.leave(Todo::Answer(spot, home, called.task, path, aim.place))?;
+        let entered = called.enter(&stand.reader, course, args, aim.flow)?;
+        waiting.leave(Todo::Row(Spot::Called(home), Row::Body(&called.task.body)))?;
+        Ok(Some(entered))
     }
 
-    /// Leads runs through a body: a local's declaration is an assignment that stands before the statements.
-    #[cycle(walk)]
-    pub fn walk_body(
+    // Puts what a called task returns where a target is, if a run stands behind its body.
+    pub(crate) fn begin_answer(
         &self,
-        stand: &Stand<'s>,
+        start: &Stand<'s>,
         course: &mut Course,
-        body: &Body,
-        flow: Flow,
+        spot: Spot,
+        home: Home,
+        task: &'s TaskDef,
+        path: &'s [Ident],
+        place: TargetPlace,
+        here: Option<Flow>,
     ) -> Result<Option<Flow>, AllocError>
-        requires { BodyWalks (known_by self.now) stand.now (body_tree body.now) course.old flow }
-        ensures { IfOk result
-            (BodyLeads (known_by self.now) stand.now (body_tree body.now) course.old course.new flow) }
+        requires { Asks (known_by self.now) start.now (todo.Answer spot home task path place) course.old here }
+        ensures { IfOk result (Does (known_by self.now) start.now
+            (todo.Answer spot home task.entry path.entry place) course.old here course.new) }
     {
-        let Some(entered) = self.walk_locals(stand, course, body.locals.as_slice(), flow)? else {
-            return Ok(None);
-        };
-        let left = self.walk_row(stand, course, body.stmts.as_slice(), entered)?;
-        Ok(left)
-    }
-
-    /// Leads runs through the declarations of locals.
-    #[cycle(walk)]
-    pub fn walk_locals(
-        &self,
-        stand: &Stand<'s>,
-        course: &mut Course,
-        locals: &[LocalDef],
-        flow: Flow,
-    ) -> Result<Option<Flow>, AllocError>
-        requires { RowWalks (known_by self.now) stand.now (row_of (local_stmts (map local_tree locals.now)))
-            course.old flow }
-        ensures { IfOk result (RowLeads (known_by self.now) stand.now
-            (row_of (local_stmts (map local_tree locals.now))) course.old course.new flow) }
-    {
-        let mut here = flow;
-        for local in locals {
-            match self.assign(
-                stand,
-                course,
-                from_ref(&local.name),
-                &None,
-                &local.value,
-                here,
-            )? {
-                Some(next) => here = next,
-                None => return Ok(None),
+        match here {
+            None => Ok(None),
+            Some(left) => {
+                let outer = self.stand_in(spot);
+                let inner = self.stand_in(Spot::Called(home));
+                self.answer_by(start, &outer, &inner, course, task, path, &place, left)
             }
         }
-        Ok(Some(here))
+    }
+
+    // Puts what a called task returns where a target is.
+    fn answer_by(
+        &self,
+        start: &Stand<'s>,
+        outer: &Option<Stand<'s>>,
+        inner: &Option<Stand<'s>>,
+        course: &mut Course,
+        task: &'s TaskDef,
+        path: &[Ident],
+        place: &TargetPlace,
+        left: Flow,
+    ) -> Result<Option<Flow>, AllocError>
+        requires { (spot : spots.Spot) × (home : homes.Home)
+            × ((at : stands.Stand) → stand_at (known_by self.now) at spot ≡ unwrap_or outer.now at)
+            × ((at : stands.Stand) → stand_of (known_by self.now) home ≡ unwrap_or inner.now at)
+            × MayAnswer (known_by self.now) start.now spot home task.now path.now place.now course.old left }
+        ensures { IfOk result (LeadsAnswer (unwrap_or outer.now start.now) path.now place.now
+            (record { stand = unwrap_or inner.now start.now; task = task.entry }) course.old left course.new) }
+    {
+        let outer = stand_or(outer, start);
+        let inner = stand_or(inner, start);
+        let goes = answer(inner, task, &outer.reader, course, path, place, left)?;
+        Ok(Some(goes))
     }
 }

@@ -9,11 +9,14 @@ mod called;
 mod callees;
 mod calls;
 mod course;
+mod first;
 mod laws;
 mod leaves;
 mod passing;
 mod stand;
+mod statements;
 mod trails;
+mod waiting;
 mod walk;
 mod walker;
 

@@ -22,12 +22,13 @@ ghost use Rattle.tm_walk.specs.Inner.Passing.{Answers, Enters};
 use crate::arguments::{put_all, valued_arguments};
 use crate::called::CalledTask;
 use crate::course::Course;
+use crate::stand::Stand;
 use std::alloc::AllocError;
 use tm_flatten::TermReader;
 use tm_flows::{Flow, target_type, value_operand};
 use tm_operands::parameter_cells;
 use tm_steps::{TargetPlace, put_at};
-use tm_syntax::tree::{Expr, Ident};
+use tm_syntax::tree::{Expr, Ident, TaskDef};
 
 impl<'s> CalledTask<'s> {
     /// Leads runs to the start of the body: its parameters get the arguments, which are valued first. Runs fail at
@@ -63,54 +64,56 @@ impl<'s> CalledTask<'s> {
         )?;
         Ok(entered)
     }
+}
 
-    /// Puts what the body returns, if anything, where a target is. Runs fail at which it overruns. `AllocError` is want
-    /// of memory.
-    pub(crate) fn answer(
-        &self,
-        outer: &TermReader<'s>,
-        course: &mut Course,
-        path: &[Ident],
-        place: &TargetPlace,
-        flow: Flow,
-    ) -> Result<Flow, AllocError>
-        requires tables { self.now.stand.reader.tables ≡ outer.now.tables }
-        requires typed { (ty : resolved.Ty) × HasTargetAt outer.now ty path.now × ((e : trees.ExprTree)
-            → option_map expr_tree self.now.task.now.body.answer ≡ Some e → HasTypeAt self.now.stand.reader ty e) }
-        requires place { IsPlace course.old.terms place.now }
-        requires settled { AreSettledCells outer.now }
-        requires apart { AreApart outer.now.tables }
-        requires sound { IsSound course.old.terms }
-        requires flow { IsFlow outer.now.tables course.old.terms flow }
-        requires ends { AreEnds outer.now.tables course.old.terms course.old.ends }
-        ensures { IfOk result (Answers outer.now path.now place.now self.now course.old course.new flow) }
-    {
-        match &self.task.body.answer {
-            None => Ok(flow),
-            Some(e) => {
-                let asked = target_type(outer, path);
-                let reader = &self.stand.reader;
-                let valued = value_operand(
-                    reader,
-                    &mut course.terms,
-                    &mut course.ends,
-                    flow,
-                    e,
-                    asked,
-                    &mut course.text,
-                )?;
-                let goes = put_at(
-                    outer,
-                    &mut course.terms,
-                    valued.flow,
-                    path,
-                    place,
-                    valued.value,
-                    asked,
-                    &mut course.text,
-                )?;
-                Ok(goes)
-            }
+/// Puts what the body of a called task returns, if anything, where a target is. Runs fail at which it overruns. `AllocError` is want
+/// of memory.
+pub(crate) fn answer<'s>(
+    inner: &Stand<'s>,
+    task: &'s TaskDef,
+    outer: &TermReader<'s>,
+    course: &mut Course,
+    path: &[Ident],
+    place: &TargetPlace,
+    flow: Flow,
+) -> Result<Flow, AllocError>
+    requires tables { inner.now.reader.tables ≡ outer.now.tables }
+    requires typed { (ty : resolved.Ty) × HasTargetAt outer.now ty path.now × ((e : trees.ExprTree)
+        → option_map expr_tree task.now.body.answer ≡ Some e → HasTypeAt inner.now.reader ty e) }
+    requires place { IsPlace course.old.terms place.now }
+    requires settled { AreSettledCells outer.now }
+    requires apart { AreApart outer.now.tables }
+    requires sound { IsSound course.old.terms }
+    requires flow { IsFlow outer.now.tables course.old.terms flow }
+    requires ends { AreEnds outer.now.tables course.old.terms course.old.ends }
+    ensures { IfOk result (Answers outer.now path.now place.now (record { stand = inner.now; task = task.entry })
+        course.old course.new flow) }
+{
+    match &task.body.answer {
+        None => Ok(flow),
+        Some(e) => {
+            let asked = target_type(outer, path);
+            let reader = &inner.reader;
+            let valued = value_operand(
+                reader,
+                &mut course.terms,
+                &mut course.ends,
+                flow,
+                e,
+                asked,
+                &mut course.text,
+            )?;
+            let goes = put_at(
+                outer,
+                &mut course.terms,
+                valued.flow,
+                path,
+                place,
+                valued.value,
+                asked,
+                &mut course.text,
+            )?;
+            Ok(goes)
         }
     }
 }

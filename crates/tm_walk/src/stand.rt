@@ -1,4 +1,5 @@
 //! Where statements are walked.
+ghost use Rattle.std.specs.Prelude.{◌≡◌, unwrap_or};
 
 use tm_flatten::TermReader;
 
@@ -9,4 +10,14 @@ pub struct Stand<'s> {
     pub reader: TermReader<'s>,
     pub depth: usize,
     pub trail: Option<usize>,
+}
+
+/// What was found, or else where the walk began.
+pub(crate) fn stand_or<'a, 's>(found: &'a Option<Stand<'s>>, start: &'a Stand<'s>) -> &'a Stand<'s>
+    ensures { result.now ≡ unwrap_or found.now start.now }
+{
+    match found {
+        Some(stand) => stand,
+        None => start,
+    }
 }

@@ -1,165 +1,120 @@
-//! Leads runs through the statements of a design.
-ghost use Rattle.std.specs.Prelude.{IfOk};
-ghost use Rattle.std.specs.Option.{option_map};
-ghost use Rattle.tm_base.specs.declared.place.Place as placed;
-ghost use Rattle.tm_syntax.specs.Tree as trees;
+//! Leads runs through the statements of a design, with a stack of its own: calls may nest as deep as a text lets them.
+ghost use Rattle.std.specs.Prelude.{IfOk, map};
 ghost use Rattle.tm_syntax.specs.Tree.{row_of};
-ghost use Rattle.tm_syntax.specs.Tree.View.{expr_tree, stmt_tree, stmt_trees, value_tree};
+ghost use Rattle.tm_syntax.specs.Tree.View.{body_tree, local_tree, stmt_trees};
+ghost use Rattle.tm_walk.specs.Inner.Passing.{local_stmts};
+ghost use Rattle.tm_walk.specs.Inner.Places.{row_tree, stack};
+ghost use Rattle.tm_walk.specs.Inner.Waiting.{Asks, Does, StepsTo};
+ghost use Rattle.tm_walk.specs.Inner.Weights.{todo_weight};
 ghost use Rattle.tm_walk.specs.Tables.{known_by};
-ghost use Rattle.tm_walk.specs.Walks.{RowLeads, RowWalks, StmtLeads, StmtWalks};
+ghost use Rattle.tm_walk.specs.Walks.{BodyLeads, BodyWalks, RowLeads, RowWalks};
 
-use crate::branches::{join, part};
+use crate::branches::join;
 use crate::course::Course;
 use crate::stand::Stand;
+use crate::waiting::{Row, Spot, Todo, Waiting};
 use crate::walker::Walker;
 use std::alloc::AllocError;
 use tm_flows::Flow;
-use tm_syntax::tree::{Expr, Ident, Stmt, Value};
+use tm_syntax::tree::{Body, LocalDef, Stmt};
 
 impl<'s> Walker<'s> {
-    /// Leads runs through a statement of a body of an instance: the flow behind it, if it falls through. As deep as the
-    /// statement and what it calls nest. `AllocError` is want of memory.
-    #[cycle(walk)]
-    pub fn walk(
+    /// Leads runs through a body: the flow behind it, if it falls through. A local's declaration is an assignment that
+    /// stands before the statements. Linear in the statements, those of called bodies counted at each call, times the
+    /// cells. `AllocError` is want of memory.
+    pub fn walk_body(
         &self,
         stand: &Stand<'s>,
         course: &mut Course,
-        stmt: &Stmt,
+        body: &'s Body,
         flow: Flow,
     ) -> Result<Option<Flow>, AllocError>
-        requires { StmtWalks (known_by self.now) stand.now (stmt_tree stmt.now) course.old flow }
+        requires { BodyWalks (known_by self.now) stand.now (body_tree body.now) course.old flow }
         ensures { IfOk result
-            (StmtLeads (known_by self.now) stand.now (stmt_tree stmt.now) course.old course.new flow) }
+            (BodyLeads (known_by self.now) stand.now (body_tree body.now) course.old course.new flow) }
     {
-        match stmt {
-            Stmt::Assign(path, index, value) => {
-                self.assign(stand, course, path.names.as_slice(), index, value, flow)
-            }
-            Stmt::Call(path, args) => {
-                self.call(stand, course, path.names.as_slice(), args.as_slice(), flow)
-            }
-            Stmt::If(e, first, second) => {
-                self.branch(stand, course, e, first.as_slice(), second.as_slice(), flow)
-            }
-            Stmt::While(_, e, body) => self.repeat(stand, course, e, body.as_slice(), flow),
-            Stmt::Forever(_, body) => self.run_forever(stand, course, body.as_slice(), flow),
-            Stmt::Choice(_, blocks) => self.choose(stand, course, blocks.as_slice(), flow),
-            Stmt::Assert(_, e) => self.assert(stand, course, e, flow),
-            Stmt::Assume(_, e) => self.assume(stand, course, e, flow),
-            Stmt::Pause(at) => self.stop(stand, course, *at, flow),
-            Stmt::Wait(at, _) => self.stop(stand, course, *at, flow),
-            Stmt::Magic(at) => self.stop(stand, course, *at, flow),
-        }
+        self.walk_whole(stand, course, Row::Body(body), flow)
+    }
+
+    /// Leads runs through the declarations of locals.
+    pub fn walk_locals(
+        &self,
+        stand: &Stand<'s>,
+        course: &mut Course,
+        locals: &'s [LocalDef],
+        flow: Flow,
+    ) -> Result<Option<Flow>, AllocError>
+        requires { RowWalks (known_by self.now) stand.now (row_of (local_stmts (map local_tree locals.now)))
+            course.old flow }
+        ensures { IfOk result (RowLeads (known_by self.now) stand.now
+            (row_of (local_stmts (map local_tree locals.now))) course.old course.new flow) }
+    {
+        self.walk_whole(stand, course, Row::Locals(locals), flow)
     }
 
     /// Leads runs through the statements of a row.
-    #[cycle(walk)]
     pub fn walk_row(
         &self,
         stand: &Stand<'s>,
         course: &mut Course,
-        stmts: &[Stmt],
+        stmts: &'s [Stmt],
         flow: Flow,
     ) -> Result<Option<Flow>, AllocError>
         requires { RowWalks (known_by self.now) stand.now (row_of (stmt_trees stmts.now)) course.old flow }
         ensures { IfOk result
             (RowLeads (known_by self.now) stand.now (row_of (stmt_trees stmts.now)) course.old course.new flow) }
     {
-        let mut here = flow;
-        for stmt in stmts {
-            match self.walk(stand, course, stmt, here)? {
-                Some(next) => here = next,
-                None => return Ok(None),
-            }
+        self.walk_whole(stand, course, Row::Stmts(stmts), flow)
+    }
+
+    // Leads runs through a row, and all that it calls.
+    fn walk_whole(
+        &self,
+        start: &Stand<'s>,
+        course: &mut Course,
+        row: Row<'s>,
+        flow: Flow,
+    ) -> Result<Option<Flow>, AllocError>
+        requires { RowWalks (known_by self.now) start.now (row_tree row) course.old flow }
+        ensures { IfOk result
+            (RowLeads (known_by self.now) start.now (row_tree row.entry) course.old course.new flow) }
+    {
+        let mut waiting = Waiting::new(course.alloc);
+        waiting.leave(Todo::Row(Spot::Start, row))?;
+        let mut here = Some(flow);
+        while let Some(next) = waiting.next() {
+            here = self.step(start, course, &mut waiting, next, here)?;
         }
-        Ok(Some(here))
+        Ok(here)
     }
 
-    // Leads runs through an `if`.
-    #[cycle(walk)]
-    fn branch(
+    // Does what is next, and leaves what is to be done behind it.
+    fn step(
         &self,
-        stand: &Stand<'s>,
+        start: &Stand<'s>,
         course: &mut Course,
-        e: &Expr,
-        first: &[Stmt],
-        second: &[Stmt],
-        flow: Flow,
+        waiting: &mut Waiting<'s>,
+        next: Todo<'s>,
+        here: Option<Flow>,
     ) -> Result<Option<Flow>, AllocError>
-        requires { StmtWalks (known_by self.now) stand.now
-            (trees.branch (expr_tree e.now) (row_of (stmt_trees first.now)) (row_of (stmt_trees second.now)))
-            course.old flow }
-        ensures { IfOk result (StmtLeads (known_by self.now) stand.now
-            (trees.branch (expr_tree e.now) (row_of (stmt_trees first.now)) (row_of (stmt_trees second.now)))
-            course.old course.new flow) }
+        requires { Asks (known_by self.now) start.now next course.old here }
+        ensures { IfOk result (StepsTo (known_by self.now) start.now
+            (Does (known_by self.now) start.now next.entry course.old here)
+            (λ d. todo_weight d (known_by self.now) start.now next.entry) (stack waiting.old) (stack waiting.new)
+            course.new) }
     {
-        let parts = part(&stand.reader, course, e, flow)?;
-        let left = self.walk_row(stand, course, first, parts.first)?;
-        let right = self.walk_row(stand, course, second, parts.second)?;
-        let joined = join(course, left, right)?;
-        Ok(joined)
-    }
-
-    // Leads runs through a `while`: of those that begin its body none comes to its end.
-    #[cycle(walk)]
-    fn repeat(
-        &self,
-        stand: &Stand<'s>,
-        course: &mut Course,
-        e: &Expr,
-        body: &[Stmt],
-        flow: Flow,
-    ) -> Result<Option<Flow>, AllocError>
-        requires { (at : placed.Place) × StmtWalks (known_by self.now) stand.now
-            (trees.repeat at (expr_tree e.now) (row_of (stmt_trees body.now))) course.old flow }
-        ensures { (at : placed.Place) → IfOk result (StmtLeads (known_by self.now) stand.now
-            (trees.repeat at (expr_tree e.now) (row_of (stmt_trees body.now))) course.old course.new flow) }
-    {
-        let parts = part(&stand.reader, course, e, flow)?;
-        self.walk_row(stand, course, body, parts.first)?;
-        Ok(Some(parts.second))
-    }
-
-    // Leads runs through a `forever`: none comes to the end of its body.
-    #[cycle(walk)]
-    fn run_forever(
-        &self,
-        stand: &Stand<'s>,
-        course: &mut Course,
-        body: &[Stmt],
-        flow: Flow,
-    ) -> Result<Option<Flow>, AllocError>
-        requires { RowWalks (known_by self.now) stand.now (row_of (stmt_trees body.now)) course.old flow }
-        ensures { (at : placed.Place) → IfOk result (StmtLeads (known_by self.now) stand.now
-            (trees.forever at (row_of (stmt_trees body.now))) course.old course.new flow) }
-    {
-        self.walk_row(stand, course, body, flow)?;
-        Ok(None)
-    }
-
-    // Leads runs through an assignment.
-    #[cycle(walk)]
-    pub(crate) fn assign(
-        &self,
-        stand: &Stand<'s>,
-        course: &mut Course,
-        path: &[Ident],
-        index: &Option<Expr>,
-        value: &Value,
-        flow: Flow,
-    ) -> Result<Option<Flow>, AllocError>
-        requires { StmtWalks (known_by self.now) stand.now
-            (trees.assign path.now (option_map expr_tree index.now) (value_tree value.now)) course.old flow }
-        ensures { IfOk result (StmtLeads (known_by self.now) stand.now
-            (trees.assign path.now (option_map expr_tree index.now) (value_tree value.now)) course.old course.new
-            flow) }
-    {
-        match value {
-            Value::Star(_) => self.assign_choice(stand, course, path, index, flow),
-            Value::Plain(e) => self.assign_value(stand, course, path, index, e, flow),
-            Value::Call(called, args) => {
-                let name = called.names.as_slice();
-                self.assign_call(stand, course, path, index, name, args.as_slice(), flow)
+        match next {
+            Todo::Row(spot, row) => self.begin_row(start, course, waiting, spot, row, here),
+            Todo::Second(spot, second, other) => {
+                self.begin_second(start, course, waiting, spot, second, other, here)
+            }
+            Todo::Join(left) => join(course, left, here),
+            Todo::Loop(after) => Ok(after),
+            Todo::Alternatives(spot, choice, index, blocks) => {
+                self.next_alternative(start, course, waiting, spot, choice, index, blocks, here)
+            }
+            Todo::Answer(spot, home, task, path, place) => {
+                self.begin_answer(start, course, spot, home, task, path, place, here)
             }
         }
     }

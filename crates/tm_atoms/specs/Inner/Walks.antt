@@ -22,7 +22,8 @@ use Rattle.tm_atoms.specs.Pool.{AreNoted, with_atoms}
 use Rattle.tm_atoms.specs.Inner.Ranks.{AllDescend}
 use Rattle.tm_atoms.specs.Inner.Pools.{Adds, AreNumbered, PoolTables, noted_atoms, pool_of}
 
--- the tables of a walk: the pool, the tasks whose bodies have been entered, and what is to be walked, the next one first
+-- the tables of a walk: the pool, the tasks whose bodies have been entered, and what is to be walked, the next one
+-- first
 pub record WalkTables : Type 0 where
   pub pool : PoolTables
   pub entered : List SiteTask

@@ -23,10 +23,12 @@ before_of_word goto = Goto
 before_of_word termite_leave = Leave
 before_of_word w = Other
 
+-- the same, behind a sign
 abbrev pub before_of_sign : Before → Sign → Before
 before_of_sign Leave open_parenthesis = Process
 before_of_sign before s = Other
 
+-- the same, behind any token
 abbrev pub before_behind : Before → Token → Before
 before_behind before (word w) = before_of_word w
 before_behind before (sign s) = before_of_sign before s
@@ -37,6 +39,7 @@ abbrev pub labels_of_label : ℕ → Before → ℕ
 labels_of_label labels Goto = labels
 labels_of_label labels before = labels + 1
 
+-- the same, behind any token
 abbrev pub labels_behind : ℕ → Before → Token → ℕ
 labels_behind labels before (label k) = labels_of_label labels before
 labels_behind labels before t = labels
@@ -45,6 +48,7 @@ labels_behind labels before t = labels
 abbrev pub place_behind : TokenPlace → Token → TokenPlace
 place_behind at t = record { labels = labels_behind at.labels at.before t; before = before_behind at.before t }
 
+-- the place behind several tokens
 abbrev pub place_after : TokenPlace → List Token → TokenPlace
 place_after at [] = at
 place_after at (t ∷ ts) = place_after (place_behind at t) ts
@@ -120,10 +124,12 @@ abbrev pub is_comma : Token → Bool
 is_comma (sign comma) = true
 is_comma t = false
 
+-- whether a token is a semicolon
 abbrev pub is_semicolon : Token → Bool
 is_semicolon (sign semicolon) = true
 is_semicolon t = false
 
+-- the number of commas before the first semicolon
 abbrev pub comma_count : List Token → ℕ
 comma_count [] = 0
 comma_count (t ∷ ts) =

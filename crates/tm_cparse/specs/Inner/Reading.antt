@@ -45,6 +45,7 @@ abbrev pub label_number : Token → Option ℕ
 label_number (label k) = Some k
 label_number _ = None
 
+-- the value of a constant
 abbrev pub constant_value : Token → Option ℕ
 constant_value (constant n) = Some n
 constant_value _ = None
@@ -54,10 +55,12 @@ abbrev pub IsNoLabel : List Spot → Stop → Type 0
 IsNoLabel spots (Unexpected here) = (here.now ≡ spots) × ((k : ℕ) → first_of (tokens_of spots) ≢ Some (label k))
 IsNoLabel spots Memory = Unit {0}
 
+-- the same of a constant
 abbrev pub IsNoConstant : List Spot → Stop → Type 0
 IsNoConstant spots (Unexpected here) = (here.now ≡ spots) × ((n : ℕ) → first_of (tokens_of spots) ≢ Some (constant n))
 IsNoConstant spots Memory = Unit {0}
 
+-- the same of a constant below 64
 abbrev pub IsNoAmount : List Spot → Stop → Type 0
 IsNoAmount spots (Unexpected here) =
     (here.now ≡ spots) × ((n : ℕ) → n < 64 → first_of (tokens_of spots) ≢ Some (constant n))

@@ -157,8 +157,8 @@ impl<'s> Machine<'s> {
         }
     }
 
-    /// What a move with these choices leads to at a state: to a valid one, if this one is valid. Linear in the processes
-    /// and in what the move does. `AllocError` is want of memory.
+    /// What a move with these choices leads to at a state: to a valid one, if this one is valid. Linear in the
+    /// processes and in what the move does. `AllocError` is want of memory.
     pub fn step(
         &self,
         alloc: Global,

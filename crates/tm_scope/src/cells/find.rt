@@ -17,8 +17,8 @@ use tm_syntax::tree::Ident;
 
 impl<'s> CellScope<'s> {
     /// The cell that a path means, with the index of an element where there is one: a parameter or local before a
-    /// variable. Linear in the path. `text` is a buffer, in which the path of the variable is left. `AllocError` is want
-    /// of memory.
+    /// variable. Linear in the path. `text` is a buffer, in which the path of the variable is left. `AllocError` is
+    /// want of memory.
     pub fn cell(
         &self,
         path: &[Ident],

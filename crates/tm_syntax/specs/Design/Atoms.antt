@@ -90,9 +90,11 @@ is_lasting (an_element _ e) = is_lasting e
 abbrev pub same_unary : UnaryOperator → UnaryOperator → Bool
 same_unary a b = pointwise nat_eq (sign_text (unary_sign a)) (sign_text (unary_sign b))
 
+-- the same of binary operators
 abbrev pub same_binary : BinaryOperator → BinaryOperator → Bool
 same_binary a b = pointwise nat_eq (sign_text (binary_sign a)) (sign_text (binary_sign b))
 
+-- the same of shifts
 abbrev pub same_shift : ShiftOperator → ShiftOperator → Bool
 same_shift a b = pointwise nat_eq (sign_text (shift_sign a)) (sign_text (shift_sign b))
 

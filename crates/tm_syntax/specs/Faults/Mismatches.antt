@@ -27,10 +27,12 @@ abbrev pub misnamed : (Sort → Bool) → Option Sort → Ident → List Place
 misnamed suits None name = []
 misnamed suits (Some sort) name = place_unless (suits sort) name.place
 
+-- whether a name is that of an enum
 abbrev pub is_enum : Sort → Bool
 is_enum an_enum = true
 is_enum _ = false
 
+-- whether a name is that of a template
 abbrev pub is_template : Sort → Bool
 is_template (a_template _) = true
 is_template _ = false

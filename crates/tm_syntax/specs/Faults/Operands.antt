@@ -167,12 +167,15 @@ judged within fits at = place_unless fits at ++ within
 abbrev pub unary_faults : Place → UnaryOperator → List Place → Option Ty → List Place
 unary_faults at op x tx = judged x (operand_fits op (finding x tx)) at
 
+-- the same of a binary operator
 abbrev pub binary_faults : Place → BinaryOperator → List Place → Option Ty → List Place → Option Ty → List Place
 binary_faults at op x tx y ty = judged (x ++ y) (operands_fit op (finding x tx) (finding y ty)) at
 
+-- the same of a shift
 abbrev pub shift_faults : Place → List Place → Option Ty → List Place
 shift_faults at x tx = judged x (may_be_uint (finding x tx)) at
 
+-- the same of a conditional
 abbrev pub conditional_faults : Place → List Place → Option Ty → List Place → Option Ty → List Place → Option Ty →
     List Place
 conditional_faults at x tx y ty z tz =

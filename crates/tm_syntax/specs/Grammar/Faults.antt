@@ -1,5 +1,6 @@
--- The faults of a text that the grammar gives: a token that continues no specification (F2), and a token that stands too
--- deep (F3). What tokens continue is said by viable prefixes (Aho, Lam, Sethi and Ullman, Compilers, 2006, section 4.5).
+-- The faults of a text that the grammar gives: a token that continues no specification (F2), and a token that stands
+-- too deep (F3). What tokens continue is said by viable prefixes (Aho, Lam, Sethi and Ullman, Compilers, 2006, section
+-- 4.5).
 use Rattle.std.specs.Prelude.{◌≡◌, ℕ, suc, ◌<◌, ◌≤◌, ◌⊎◌, List, [], ◌∷◌, ◌++◌, length}
 use Rattle.tm_base.specs.declared.place.Place.{Place}
 use Rattle.tm_syntax.specs.declared.token.Token.{Token}

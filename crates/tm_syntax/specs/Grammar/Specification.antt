@@ -20,26 +20,32 @@ pub data DeclTree : Type 0 where
   a_process : ProcessTree → DeclTree
   a_task : TaskTree → DeclTree
 
+-- the instance that a declaration makes, if it makes one
 abbrev pub instance_of : DeclTree → Option InstanceTree
 instance_of (an_instance d) = Some d
 instance_of _ = None
 
+-- the variable that a declaration makes, if it makes one
 abbrev pub variable_of : DeclTree → Option VarTree
 variable_of (a_variable d) = Some d
 variable_of _ = None
 
+-- the goal that a declaration makes, if it makes one
 abbrev pub goal_of : DeclTree → Option NamedTree
 goal_of (a_goal d) = Some d
 goal_of _ = None
 
+-- the fairness condition that a declaration makes, if it makes one
 abbrev pub fairness_of : DeclTree → Option NamedTree
 fairness_of (a_fairness d) = Some d
 fairness_of _ = None
 
+-- the process that a declaration makes, if it makes one
 abbrev pub process_of : DeclTree → Option ProcessTree
 process_of (a_process d) = Some d
 process_of _ = None
 
+-- the task or procedure that a declaration makes, if it makes one
 abbrev pub task_of : DeclTree → Option TaskTree
 task_of (a_task d) = Some d
 task_of _ = None
@@ -99,10 +105,12 @@ pub data ItemTree : Type 0 where
   an_enum : EnumTree → ItemTree
   a_template : TemplateTree → ItemTree
 
+-- the enum that an item is, if it is one
 abbrev pub enum_of : ItemTree → Option EnumTree
 enum_of (an_enum d) = Some d
 enum_of _ = None
 
+-- the template that an item is, if it is one
 abbrev pub template_in : ItemTree → Option TemplateTree
 template_in (a_template t) = Some t
 template_in _ = None

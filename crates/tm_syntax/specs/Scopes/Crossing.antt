@@ -51,7 +51,3 @@ body_crosses (suc depth) spec t body =
 abbrev pub call_crosses : SpecTree → TemplateTree → List Ident → Bool
 call_crosses spec t path =
     option_map_or (λ k. body_crosses (call_depth spec) spec k.0 k.1.body) (task_reached spec t path) false
-
--- whether a statement of a template is sure to cross a location
-abbrev pub is_sure_to_cross : SpecTree → TemplateTree → StmtTree → Bool
-is_sure_to_cross spec t s = stmt_crosses (call_crosses spec t) s

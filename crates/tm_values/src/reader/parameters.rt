@@ -14,8 +14,8 @@ use tm_scope::CellNumber;
 use tm_syntax::tree::TaskDef;
 
 impl<'a> Reader<'a> {
-    /// The cells into which the arguments of a call of the body go, which is that of this task. Linear in the parameters
-    /// and their paths. `text` is a buffer. `AllocError` is want of memory.
+    /// The cells into which the arguments of a call of the body go, which is that of this task. Linear in the
+    /// parameters and their paths. `text` is a buffer. `AllocError` is want of memory.
     pub fn parameters(
         &self,
         alloc: Global,

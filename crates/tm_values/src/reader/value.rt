@@ -246,8 +246,8 @@ impl<'a> Reader<'a> {
         )
     }
 
-    /// The value of the index of an element. `Overrun` comes exactly where the element overruns: an index that is valued
-    /// is not below the length of its array.
+    /// The value of the index of an element. `Overrun` comes exactly where the element overruns: an index that is
+    /// valued is not below the length of its array.
     #[cycle(value)]
     pub fn index(
         &self,

@@ -4,7 +4,7 @@ use Rattle.std.specs.declared.vec.Vec.{Vec}
 use Rattle.std.specs.declared.alloc.Global.{Global}
 use Rattle.tm_bits.specs.Arithmetic.{IsWidth}
 use Rattle.tm_syntax.specs.declared.tree.Stmt.{Stmt}
-use Rattle.tm_syntax.specs.Tree.{StmtRow, row_of}
+use Rattle.tm_syntax.specs.Tree.{StmtRow, alternatives_of, row_of}
 use Rattle.tm_syntax.specs.Tree.View.{stmt_trees}
 use Rattle.tm_syntax.specs.Design.Sizes.{bits_of_number}
 use Rattle.tm_scope.specs.Cells.{scope_of}
@@ -21,7 +21,7 @@ use Rattle.tm_walk.specs.declared.course.Course.{Course}
 use Rattle.tm_walk.specs.declared.stand.Stand.{Stand}
 use Rattle.tm_walk.specs.Asked.{RowIsTyped}
 use Rattle.tm_walk.specs.Inner.Passing.{IsAlternative, JoinsFlows}
-use Rattle.tm_walk.specs.Walks.{InEach, IsStand, IsStanding, RowLeads, WalkTables}
+use Rattle.tm_walk.specs.Walks.{BlocksLead, InEach, IsStand, IsStanding, RowLeads, WalkTables}
 
 -- the blocks of a choice, as rows
 abbrev pub block_rows : List (Vec Stmt Global) → List StmtRow
@@ -35,6 +35,18 @@ pub record EntersChoice (w : WalkTables) (count : ℕ) (from now : Course) (f : 
   pub number : Makes from.terms now.terms read.width read.number
       (λ u v. number_at (choice_bit w.first v) f.position read.width)
   pub ends : now.ends ≡ from.ends
+
+-- the number of an alternative
+abbrev pub chosen_by : WalkTables → FlowTerms → Choice → List ℕ → ℕ
+chosen_by w flow read v = number_at (choice_bit w.first v) flow.position read.width
+
+-- these alternatives have been led through
+pub record BlocksSoFar (w : WalkTables) (f : Stand) (count : ℕ) (from : Course) (flow : FlowTerms) (read : Choice)
+    (bs : List StmtRow) (now : Course) (joined : Option FlowTerms) : Type 0 where
+  pub start : Course
+  pub enters : EntersChoice w count from start flow read
+  pub leads : BlocksLead w f (alternatives_of bs) (chosen_by w flow read) start now read.flow joined
+  pub standing : IsStanding w now read.flow
 
 -- one more alternative may be led through
 pub record AlternativeWalks (w : WalkTables) (f : Stand) (row : StmtRow) (read : Choice) (index : ℕ) (now : Course)
