@@ -125,7 +125,8 @@ module _ (d : DesignTree) (sound : IsSound d) (of : IsOfText d.spec) (plain_text
         ∙ ap (option_map (with_task s.template)) at)
 
     -- whatever a body calls comes to an end
-    pub calls_end : (scope : Scope) (s : Site) (body : BodyTree) → IsBody d sound of scope s body → (path : List Ident) →
+    pub calls_end : (scope : Scope) (s : Site) (body : BodyTree) → IsBody d sound of scope s body →
+        (path : List Ident) →
         In path (body_calls body) → CallEnds d scope s.template path
     calls_end scope s body at path i =
         let callee = has_callee d sound of scope s body at path i in

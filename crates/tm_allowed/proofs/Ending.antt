@@ -303,7 +303,8 @@ module _ (d : DesignTree) where
             (c.crosses depth e (call_place path ++ trail) others))
         stmt_crossed (branch test a b) fine depth e others m =
             let parts = all_of_both (Fine scope t) (row_stmts a) (row_stmts b) fine.1 in
-            let both = both_true (row_crosses (crossing d.spec t depth) a) (row_crosses (crossing d.spec t depth) b) e in
+            let both = both_true (row_crosses (crossing d.spec t depth) a) (row_crosses (crossing d.spec t depth) b)
+            e in
             unless_overrun scope trail (branch test a b) others m
             (branch_ends test a b others m (row_crossed a parts.0 depth both.0 others m)
             (row_crossed b parts.1 depth both.1 others m))

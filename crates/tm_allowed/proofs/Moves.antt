@@ -262,7 +262,8 @@ module _ (d : DesignTree) where
           by None is = tt
           by (Some t) is =
               let of_design = thread_is p t is in
-              subst (λ (scope : Scope). AllLeave (body_locations (suc (call_depth d.spec)) d scope [] t.process.body []))
+              subst (λ (scope : Scope). AllLeave (body_locations (suc (call_depth d.spec)) d scope [] t.process.body
+              []))
               of_design.scope
               (body_leaves (suc (call_depth d.spec))
               (record { instance = of_design.at.number; body = process_body of_design.number }) of_design.at

@@ -215,7 +215,8 @@ module _ (x : SpecTree) (checked : IsTyped x) where
     task_type : (k : TaskTree) (ty : TypeName) → In k t.tasks → In ty (types_in k) → HasValue x (type_of ty)
     unfolding process_types types_in var_types
     task_type k ty i j =
-        type_value ty (in_behind (var_types ++ process_types) (flat_map types_in t.tasks) (in_flat types_in t.tasks i j))
+        type_value ty (in_behind (var_types ++ process_types) (flat_map types_in t.tasks)
+        (in_flat types_in t.tasks i j))
 
     task_slots : (k : TaskTree) → In k t.tasks →
         AllByRecursion SlotHasValue (map param_slot k.params ++ map local_slot k.body.locals)
@@ -308,7 +309,8 @@ module _ (d : DesignTree) (checked : IsTyped d.spec) (vars : AllByRecursion (λ 
         by (Some f) there e =
             named_value scope at name f c (frame_slots d.spec checked at.template i scope.body f there) e
 
-    member_value : (at : Site) (path : List Ident) (index : Option ℕ) (c : Cell) → member_cell d at path index ≡ Some c →
+    member_value : (at : Site) (path : List Ident) (index : Option ℕ) (c : Cell) →
+        member_cell d at path index ≡ Some c →
         CellHasValue c
     member_value at path index c = by (site_along d at path)
       where
@@ -321,7 +323,8 @@ module _ (d : DesignTree) (checked : IsTyped d.spec) (vars : AllByRecursion (λ 
     -- the cell that a path means in a body of a template
     cell_value : (scope : Scope) (at : Site) (path : List Ident) (index : Option ℕ) (c : Cell) →
         In at.template d.spec.templates →
-        slice_get (option_to_list (own_cell d scope at path) ++ option_to_list (member_cell d at path index)) 0 ≡ Some c →
+        slice_get (option_to_list (own_cell d scope at path) ++ option_to_list (member_cell d at path index)) 0
+        ≡ Some c →
         CellHasValue c
     cell_value scope at path index c i =
         by (own_cell d scope at path) refl (member_cell d at path index) refl
@@ -340,10 +343,12 @@ module _ (d : DesignTree) (checked : IsTyped d.spec) (vars : AllByRecursion (λ 
         subst (λ (o : Option Site). 0 < type_size d.spec (asked_by d (option_and_then (λ (at : Site).
         slice_get (option_to_list (own_cell d scope at path) ++ option_to_list (member_cell d at path index)) 0) o)))
         (sym there)
-        (by (slice_get (option_to_list (own_cell d scope at path) ++ option_to_list (member_cell d at path index)) 0) refl)
+        (by (slice_get (option_to_list (own_cell d scope at path) ++ option_to_list (member_cell d at path index)) 0)
+        refl)
       where
         by : (o : Option Cell) →
-            slice_get (option_to_list (own_cell d scope at path) ++ option_to_list (member_cell d at path index)) 0 ≡ o →
+            slice_get (option_to_list (own_cell d scope at path) ++ option_to_list (member_cell d at path index)) 0
+            ≡ o →
             0 < type_size d.spec (asked_by d o)
         by None e = omega arith
         by (Some c) e = cell_value scope at path index c i e

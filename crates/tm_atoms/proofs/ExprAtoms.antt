@@ -36,7 +36,8 @@ operator-atoms operator.NotEqual ty whole within = by (compares_bools ty)
 operator-atoms _ ty whole within = refl
 
 module _ (d : DesignTree) (scope : Scope) (t : ExprTree) where
-  pub path-atoms : (names : List Ident) → t ≡ path names → expr_atoms d scope t ≡ record { scope = scope; expr = t } ∷ []
+  pub path-atoms : (names : List Ident) → t ≡ path names →
+      expr_atoms d scope t ≡ record { scope = scope; expr = t } ∷ []
   path-atoms names is =
       ap (expr_atoms d scope) is ∙ ap (λ (t : ExprTree). record { scope = scope; expr = t } ∷ []) (sym is)
 

@@ -159,7 +159,8 @@ module _ (d : DesignTree) where
         by None e = tt
         by (Some b) e =
             let found = is-there (λ t. t.processes)
-            (λ k (p : ProcessTree). seen (record { instance = item.instance; body = process_body k }) p.body) item b e in
+            (λ k (p : ProcessTree). seen (record { instance = item.instance; body = process_body k }) p.body) item b
+            e in
             subst (IsRoot d rank) found.same (record {
               at = found.at;
               there = found.there;
@@ -207,7 +208,8 @@ module _ (d : DesignTree) where
         subst (HasWalked d w v)
         (sym (named-is
         ∙ ap (λ o. option_map_or (expr_atoms d (record { instance = item.instance; body = outside })) o []) (sym is)))
-        (walked-added w v (expr_atoms d (record { instance = item.instance; body = outside }) e) noted.entered noted.todo
+        (walked-added w v (expr_atoms d (record { instance = item.instance; body = outside }) e) noted.entered
+        noted.todo
         (noted.adds d over found.at found.there) idle)
 
     -- one that is not there
@@ -268,7 +270,10 @@ module _ (d : DesignTree) where
   pool-listed w v atoms none walked = walked.are ∙ ap (λ pool. with_atoms d pool atoms) none ∙ pooled_is d atoms
 
 -- where nothing is noted and entered, and nothing is to be walked, all has been walked
-pub begun : (d : DesignTree) (w : WalkTables) → w.pool ≡ record { numbers = record { names = []; nodes = [] }; atoms = [] }
+pub begun : (d : DesignTree) (w : WalkTables) → w.pool ≡ record {
+  numbers = record { names = []; nodes = [] };
+  atoms = [];
+}
     → w.entered ≡ [] → w.todo ≡ [] → IsIdle d w × (noted_atoms w.pool ≡ [])
 begun d w pool entered todo = (
   record {

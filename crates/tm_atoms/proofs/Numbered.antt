@@ -213,5 +213,6 @@ grown-then t u v first second = record {
 }
 
 -- what was noted after a table grew
-pub has-then : (t u v : NumberTables) (n : Numbered) (r : Resolved) → IsGrown t u → HasNumber u v n r → HasNumber t v n r
+pub has-then : (t u v : NumberTables) (n : Numbered) (r : Resolved) → IsGrown t u → HasNumber u v n r →
+    HasNumber t v n r
 has-then t u v n r first has = record { grown = grown-then t u v first has.grown; sound = has.sound; is = has.is }

@@ -41,7 +41,8 @@ module _ {X : Type 0} (eq : X → X → Bool) where
           (slice_get ks k ≡ Some x) ⊎ ((k ≡ length ks) × (v ≡ x)) → j ≡ k
       pushed none j k x (inl at) (inl there) = distinct j k x at there
       pushed none j k x (inl at) (inr last) = absurd (absent ks v itself none j (at ∙ ap (λ y. Some y) (sym last.1)))
-      pushed none j k x (inr last) (inl there) = absurd (absent ks v itself none k (there ∙ ap (λ y. Some y) (sym last.1)))
+      pushed none j k x (inr last) (inl there) = absurd (absent ks v itself none k
+          (there ∙ ap (λ y. Some y) (sym last.1)))
       pushed none j k x (inr here) (inr last) = here.0 ∙ sym last.0
 
       by : (b : Bool) → list_any (eq v) ks ≡ b → AreDistinct (cond b ks (ks ++ v ∷ []))

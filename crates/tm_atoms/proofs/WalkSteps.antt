@@ -249,9 +249,11 @@ module _ (d : DesignTree) where
       let e : weight d v ≡ weight d w = λ i. todo_weight (todo i) + unentered_weight d (entered i) in omega (arith, e)
 
 -- nothing is left of a part
-pub settles-empty : (d : DesignTree) (rank : Scope → ℕ) (w : WalkTables) (scope : Scope) (ss : List StmtTree) → ss ≡ [] →
+pub settles-empty : (d : DesignTree) (rank : Scope → ℕ) (w : WalkTables) (scope : Scope) (ss : List StmtTree) →
+    ss ≡ [] →
     Settles d rank w w scope ss
-settles-empty d rank w scope ss none = subst (λ ss. Settles d rank w w scope ss) (sym none) (settles-nothing d rank w scope)
+settles-empty d rank w scope ss none = subst (λ ss. Settles d rank w w scope ss) (sym none)
+    (settles-nothing d rank w scope)
 
 row-some : (r : StmtRow) → 1 ≤ row_weight r
 row-some nothing = omega arith
@@ -331,7 +333,8 @@ owes-root d rank w scope body root idle = record {
   descend = root.descend;
   lower = λ task k among called below. idle.noted task k among called;
   goes = λ later entered is noted.
-      subst (λ ts. Leads d rank (with_atoms d (noted_atoms w.pool) (stmts_atoms d scope (stmts_in body))) ts later entered)
+      subst (λ ts. Leads d rank (with_atoms d (noted_atoms w.pool) (stmts_atoms d scope (stmts_in body))) ts later
+      entered)
       (sym idle.todo) (
         is,
         λ task k among called.

@@ -69,7 +69,8 @@ module _ (d : DesignTree) (rank : Scope → ℕ) (scope : Scope) where
     -- statements that are walked
     pub owes-noted : (ss : List StmtTree) → Owes d rank scope ss pool tasks Goes → (later : List Atom) →
         later ≡ with_atoms d pool (stmts_atoms d scope ss) → Goes later tasks
-    owes-noted ss owes later is = owes.goes later tasks is (λ task k now before called. absurd (true≢false (sym now ∙ before)))
+    owes-noted ss owes later is = owes.goes later tasks is
+        (λ task k now before called. absurd (true≢false (sym now ∙ before)))
 
     -- no statements
     pub owes-nothing : Owes d rank scope [] pool tasks Goes → Goes pool tasks
@@ -163,7 +164,8 @@ module _ (d : DesignTree) (rank : Scope → ℕ) (scope : Scope) where
               lower = λ other l among called below.
                   lower other (has_entered tasks other) refl l among called below;
               goes = λ later entered is noted.
-                  owes.goes later entered (is ∙ ap (with_atoms d pool) (ranked.settled task k there ∙ sym atoms-of-callee))
+                  owes.goes later entered (is ∙ ap (with_atoms d pool)
+                  (ranked.settled task k there ∙ sym atoms-of-callee))
                   (λ other l among before called.
                   since later is other l before called (has_entered (tasks ++ task ∷ []) other) refl
                   (λ outside. noted other l among outside called));

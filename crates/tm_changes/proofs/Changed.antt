@@ -69,7 +69,8 @@ module _ (t : Terms) (levels : List (List ℕ)) (s u : Table) (next : List TermI
 
   module _ (within : input < length levels) where
     -- an input that is left alone
-    pub changed_kept : ((d : TermId) (values : List ℕ) → value_of t values (get_or next input d) ≡ get_or values input 0) →
+    pub changed_kept : ((d : TermId) (values : List ℕ) →
+        value_of t values (get_or next input d) ≡ get_or values input 0) →
         AreChangedBelow t levels u next changes (input + 1)
     changed_kept is = record { known = known_later; numbers = numbers; others = others }
       where

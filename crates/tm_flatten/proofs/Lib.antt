@@ -11,3 +11,4 @@ pub mod Operands
 pub mod Puts
 pub mod Reading
 pub mod StepCells
+pub mod Turning

@@ -1,9 +1,7 @@
 -- Two memories of terms as one.
 use Rattle.std.proofs.Common.{◌≡◌, ℕ, suc, ◌<◌, ◌==◌, Bool, true, false, Option, None, Some, List, [], ◌∷◌, ◌||◌, length, map, cond, refl, sym, ap, ◌∙◌, subst, arith, true≢false}
 use Rattle.std.specs.Prelude.{IfSome, is_some, not, slice_get, if◌then◌else◌}
-use Rattle.std.specs.List.{list_any}
-use Rattle.std.specs.Map.{keys_of}
-use Rattle.std.proofs.lemmas.Option.{none-some, same_Some, slice_get_within}
+use Rattle.std.proofs.lemmas.Option.{slice_get_within}
 use Rattle.tm_bits.specs.Arithmetic.{choice}
 use Rattle.tm_syntax.specs.Tree.View.{spec_tree}
 use Rattle.tm_syntax.specs.Scopes.Context.{Slot}
@@ -11,182 +9,30 @@ use Rattle.tm_syntax.specs.Design.Sizes.{type_bits}
 use Rattle.tm_scope.specs.Cells.{CellTables, slot_in}
 use Rattle.tm_scope.proofs.Entries.{at-there}
 use Rattle.tm_term.specs.declared.term.TermId.{TermId}
-use Rattle.tm_term.specs.Table.{Table, IsSound}
+use Rattle.tm_term.specs.Table.{Table}
 use Rattle.tm_term.specs.Value.{AreInputs, value_of, Extends}
 use Rattle.tm_term.proofs.Valued.{Extends-trans}
 use Rattle.tm_sem.specs.Value.{Memory}
 use Rattle.tm_flat.specs.Steps.{IsTerm}
 use Rattle.tm_flatten.specs.declared.memory.step_terms.StepCell.{StepCell}
-use Rattle.tm_flatten.specs.Kept.{KeptTerms, Keeps, same_cell, step_term}
+use Rattle.tm_flatten.specs.Kept.{KeptTerms, Keeps, step_term}
 use Rattle.tm_flatten.specs.Made.{value_at}
 use Rattle.tm_flatten.specs.Merged.{IsMemory, AreOfWidth, AreAlike, Merges}
-use Rattle.tm_flatten.specs.Inner.Merging.{Chooses, MakesChoiceIfThere, MergesValues, AreOfWidths, AreChosen, has_term, MergesOne, MergesCells, MergesSteps}
+use Rattle.tm_flatten.specs.Inner.Merging.{Chooses, MergesValues, AreOfWidths, has_term, MergesSteps}
 use Rattle.tm_flatten.proofs.Choices.{choice_along, chosen_of_one, width_along}
 use Rattle.tm_flatten.proofs.Later.{Extends-refl, term_along}
-use Rattle.tm_flatten.proofs.StepCells.{cell_same, cell_itself}
-
-pub chosen_along : (n p : Table) (guard : TermId) (first second entries : List (StepCell × TermId)) → Extends n p →
-    AreChosen n guard first second entries → AreChosen p guard first second entries
-chosen_along n p guard first second entries grown chosen = λ cell id is.
-    choice_along n p guard (step_term first cell) (step_term second cell) id grown (chosen cell id is)
 
 -- one of two is there
-or_first : (a b : Bool) → a ≡ true → (a || b) ≡ true
+pub or_first : (a b : Bool) → a ≡ true → (a || b) ≡ true
 or_first true b e = refl
 or_first false b e = absurd (true≢false (sym e))
 
-or_second : (a b : Bool) → b ≡ true → (a || b) ≡ true
+pub or_second : (a b : Bool) → b ≡ true → (a || b) ≡ true
 or_second true b e = refl
 or_second false b e = e
 
--- a cell that has a term already
-pub one_there : (t : Table) (guard : TermId) (first second old : List (StepCell × TermId)) (cell : StepCell) →
-    IsSound t → AreChosen t guard first second old → has_term old cell ≡ true →
-    MergesOne t t guard first second cell old old
-one_there t guard first second old cell sound chosen is = record {
-  grown = Extends-refl t;
-  sound = sound;
-  chosen = chosen;
-  kept = λ other h. h;
-  there = λ h. is;
-}
-
--- a cell that is in neither list
-pub one_nowhere : (t n : Table) (guard : TermId) (first second old : List (StepCell × TermId)) (cell : StepCell) →
-    AreChosen t guard first second old →
-    MakesChoiceIfThere t n guard (step_term first cell) (step_term second cell) None →
-    MergesOne t n guard first second cell old old
-one_nowhere t n guard first second old cell chosen made = record {
-  grown = made.grown;
-  sound = made.sound;
-  chosen = chosen_along t n guard first second old made.grown chosen;
-  kept = λ other h. h;
-  there = λ h. absurd (true≢false (sym h ∙ sym made.there));
-}
-
--- a cell that gets a term
-pub one_set : (t n : Table) (guard : TermId) (first second old new : List (StepCell × TermId)) (cell : StepCell)
-    (id : TermId) → AreChosen t guard first second old →
-    MakesChoiceIfThere t n guard (step_term first cell) (step_term second cell) (Some id) →
-    ((other : StepCell) → step_term new other ≡ cond (same_cell cell other) (Some id) (step_term old other)) →
-    MergesOne t n guard first second cell old new
-one_set t n guard first second old new cell id chosen made set = record {
-  grown = made.grown;
-  sound = made.sound;
-  chosen = λ other x is. of_cell other x (same_cell cell other) refl (sym (set other) ∙ is);
-  kept = λ other h. kept_so other (same_cell cell other) (ap is_some (set other)) h;
-  there = λ h. ap is_some (set cell ∙ ap (λ b. cond b (Some id) (step_term old cell)) (cell_itself cell));
-}
-  where
-    of_cell : (other : StepCell) (x : TermId) (b : Bool) → same_cell cell other ≡ b →
-        cond b (Some id) (step_term old other) ≡ Some x →
-        Chooses n guard (step_term first other) (step_term second other) x
-    of_cell other x true same is =
-        let one : cell ≡ other = cell_same cell other same in
-        subst (λ (c : StepCell). Chooses n guard (step_term first c) (step_term second c) x) one
-        (subst (Chooses n guard (step_term first cell) (step_term second cell)) (same_Some id x is) made.chosen)
-    of_cell other x false same is = chosen_along t n guard first second old made.grown chosen other x is
-
-    kept_so : (other : StepCell) (b : Bool) →
-        has_term new other ≡ is_some (cond b (Some id) (step_term old other)) → has_term old other ≡ true →
-        has_term new other ≡ true
-    kept_so other true is h = is
-    kept_so other false is h = is ∙ h
-
--- all cells of a list but some
-pub record MergesUntil (t n : Table) (guard : TermId) (first second cells old new : List (StepCell × TermId))
-    (rest : List StepCell) : Type 0 where
-  pub grown : Extends t n
-  pub sound : IsSound n
-  pub chosen : AreChosen n guard first second new
-  pub kept : (other : StepCell) → has_term old other ≡ true → has_term new other ≡ true
-  pub there : (cell : StepCell) → (has_term first cell || has_term second cell) ≡ true → has_term cells cell ≡ true →
-      (list_any (same_cell cell) rest || has_term new cell) ≡ true
-
-has_key : (cells : List (StepCell × TermId)) (cell : StepCell) →
-    has_term cells cell ≡ list_any (same_cell cell) (keys_of cells)
-has_key [] cell = refl
-has_key (e ∷ es) cell = by (same_cell cell e.0) (has_key es cell)
-  where
-    by : (b : Bool) → has_term es cell ≡ list_any (same_cell cell) (keys_of es) →
-        is_some (cond b (Some e.1) (step_term es cell)) ≡ (b || list_any (same_cell cell) (keys_of es))
-    by true rest = refl
-    by false rest = rest
-
-pub none_merged : (t : Table) (guard : TermId) (first second cells old : List (StepCell × TermId)) → IsSound t →
-    AreChosen t guard first second old → MergesUntil t t guard first second cells old old (keys_of cells)
-none_merged t guard first second cells old sound chosen = record {
-  grown = Extends-refl t;
-  sound = sound;
-  chosen = chosen;
-  kept = λ other h. h;
-  there = λ cell some h.
-      or_first (list_any (same_cell cell) (keys_of cells)) (has_term old cell) (sym (has_key cells cell) ∙ h);
-}
-
-pub one_merged : (t n p : Table) (guard : TermId) (first second cells old mid new : List (StepCell × TermId))
-    (rest more : List StepCell) (cell : StepCell) → MergesUntil t n guard first second cells old mid rest →
-    MergesOne n p guard first second cell mid new → rest ≡ cell ∷ more →
-    MergesUntil t p guard first second cells old new more
-one_merged t n p guard first second cells old mid new rest more cell until one is = record {
-  grown = Extends-trans t n p until.grown one.grown;
-  sound = one.sound;
-  chosen = one.chosen;
-  kept = λ other h. one.kept other (until.kept other h);
-  there = λ other some h.
-      by other some (same_cell other cell) refl (list_any (same_cell other) more) refl
-      (ap (λ l. list_any (same_cell other) l || has_term mid other) (sym is) ∙ until.there other some h);
-}
-  where
-    by : (other : StepCell) → (has_term first other || has_term second other) ≡ true → (b : Bool) →
-        same_cell other cell ≡ b → (c : Bool) → list_any (same_cell other) more ≡ c →
-        ((b || c) || has_term mid other) ≡ true → (c || has_term new other) ≡ true
-    by other some true same c among h =
-        let is : other ≡ cell = cell_same other cell same in
-        or_second c (has_term new other)
-        (subst (λ (x : StepCell). has_term new x ≡ true) (sym is)
-        (one.there (subst (λ (x : StepCell). (has_term first x || has_term second x) ≡ true) is some)))
-    by other some false same true among h = refl
-    by other some false same false among h = one.kept other h
-
-pub all_merged : (t n : Table) (guard : TermId) (first second cells old new : List (StepCell × TermId))
-    (rest : List StepCell) → MergesUntil t n guard first second cells old new rest → rest ≡ [] →
-    MergesCells t n guard first second cells old new
-all_merged t n guard first second cells old new rest until is = record {
-  grown = until.grown;
-  sound = until.sound;
-  chosen = until.chosen;
-  kept = until.kept;
-  there = λ cell some h.
-      ap (λ l. list_any (same_cell cell) l || has_term new cell) (sym is) ∙ until.there cell some h;
-}
-
--- nothing is chosen yet
-pub none_chosen_yet : (t : Table) (guard : TermId) (first second : List (StepCell × TermId)) →
-    AreChosen t guard first second []
-none_chosen_yet t guard first second = λ cell id is. absurd (none-some id is)
-
--- both lists, one behind the other
-pub both_merged : (t n p : Table) (guard : TermId) (first second mid new : List (StepCell × TermId)) →
-    MergesCells t n guard first second first [] mid → MergesCells n p guard first second second mid new →
-    MergesSteps t p guard first second new
-both_merged t n p guard first second mid new one two = record {
-  grown = Extends-trans t n p one.grown two.grown;
-  sound = two.sound;
-  chosen = two.chosen;
-  there = λ cell some. by cell (has_term first cell) refl (has_term second cell) refl some;
-}
-  where
-    by : (cell : StepCell) (a : Bool) → has_term first cell ≡ a → (b : Bool) → has_term second cell ≡ b →
-        (has_term first cell || has_term second cell) ≡ true → has_term new cell ≡ true
-    by cell true is b be some = two.kept cell (one.there cell some is)
-    by cell false is true be some = two.there cell some be
-    by cell false is false be some =
-        absurd (true≢false (sym some ∙ ap (λ x. x || has_term second cell) is ∙ be))
-
--- ---- memories
 -- terms of one width have that width
-one_width : (t : Table) (v w : ℕ) (x : TermId) → IsTerm t v x → IsTerm t w x → v ≡ w
+pub one_width : (t : Table) (v w : ℕ) (x : TermId) → IsTerm t v x → IsTerm t w x → v ≡ w
 one_width t v w x a b = sym a.1 ∙ b.1
 
 -- a choice between terms of a width has it

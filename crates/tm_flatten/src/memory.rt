@@ -13,7 +13,6 @@ ghost use Rattle.tm_term.specs.Value.{value_of};
 ghost use Rattle.tm_flat.specs.Steps.{IsTerm};
 ghost use Rattle.tm_flatten.specs.Kept.{AreKept, Keeps, found_in, type_at};
 ghost use Rattle.tm_flatten.specs.Merged.{AreAlike, AreApart, IsMemory, Merges, values_after};
-ghost use Rattle.tm_flatten.specs.Inner.Merging.{AreOfWidths, MergesSteps};
 ghost use Rattle.tm_flatten.specs.Made.{value_at};
 
 mod choices;
@@ -102,7 +101,7 @@ impl TermMemory {
     /// The memory that is this one where a truth holds, and else another one. A state variable of which both have one
     /// term keeps it. Linear in the cells of both.
     pub fn merge(
-        &self,
+        self,
         alloc: Global,
         terms: &mut Terms,
         guard: TermId,
@@ -110,11 +109,12 @@ impl TermMemory {
     ) -> Result<TermMemory, AllocError>
         requires sound { IsSound terms.old }
         requires guard { IsTerm terms.old 1 guard }
-        requires alike { AreAlike terms.old self.now other.now }
-        ensures { IfOk result (Merges terms.old terms.new guard self.now other.now) }
+        requires alike { AreAlike terms.old self other.now }
+        ensures { IfOk result (Merges terms.old terms.new guard self other.now) }
     {
         let values = chosen_values(alloc, terms, guard, &self.values, &other.values)?;
-        let step = chosen_step(alloc, terms, guard, &self.step, &other.step)?;
+        let mut step = self.step;
+        step.merge(terms, guard, &other.step)?;
         Ok(TermMemory { values, step })
     }
 
@@ -137,23 +137,4 @@ impl TermMemory {
             CellNumber::Step(slot) => self.step.get(StepCell { at, slot }),
         }
     }
-}
-
-// The terms that a truth chooses of two lists of those that live for one step.
-fn chosen_step(
-    alloc: Global,
-    terms: &mut Terms,
-    guard: TermId,
-    first: &StepTerms,
-    second: &StepTerms,
-) -> Result<StepTerms, AllocError>
-    requires sound { IsSound terms.old }
-    requires guard { IsTerm terms.old 1 guard }
-    requires widths { AreOfWidths terms.old first.now second.now }
-    ensures { IfOk result (MergesSteps terms.old terms.new guard first.now second.now) }
-{
-    let mut merged = StepTerms::new(alloc);
-    merged.merge_cells(terms, guard, first, second, first)?;
-    merged.merge_cells(terms, guard, first, second, second)?;
-    Ok(merged)
 }

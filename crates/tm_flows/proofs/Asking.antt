@@ -83,18 +83,22 @@ module _ (s : ScopedCells) (e : ExprTree) (t p : Table) (f : FlowTerms) (before 
       record {
         goes =
             behind_operands s (e ∷ []) t p f before x.flow mid tests.asks r.design has number
-            (λ v m. if holds_in r.design (scope_of s.at) m e then finished m else failed) (Some f.position) n (Some g) after
+            (λ v m. if holds_in r.design (scope_of s.at) m e then finished m else failed) (Some f.position) n (Some g)
+            after
             (continues_so s.tables number
             (λ v m. if not (holds_in r.design (scope_of s.at) m e) then failed else finished m)
             (λ v m. if holds_in r.design (scope_of s.at) m e then finished m else failed)
             (Some x.flow.position) (Some f.position) p n (Some x.flow) (Some g) mid after
             (λ v m. flipped (holds_in r.design (scope_of s.at) m e) m) same_position
             (continues_from s.tables number
-            (λ v m. if not (holds_in r.design (scope_of s.at) m e) then failed else finished m) (Some x.flow.position) p q n
+            (λ v m. if not (holds_in r.design (scope_of s.at) m e) then failed else finished m) (Some x.flow.position)
+            p q n
             (Some x.flow) (Some g) mid after denial.grown
-            (fails_or_goes_on s.tables number (λ v m. not (holds_in r.design (scope_of s.at) m e)) q l n x.flow g mid after
+            (fails_or_goes_on s.tables number (λ v m. not (holds_in r.design (scope_of s.at) m e)) q l n x.flow g mid
+            after
             (λ u v. truth_at u v (Some fails)) (λ u v. is_nonzero (value_of u v x.value))
-            (flow_along s.tables p q x.flow denial.grown tested_flow) (ends_along s.tables p q mid denial.grown tested_ends)
+            (flow_along s.tables p q x.flow denial.grown tested_flow)
+            (ends_along s.tables p q mid denial.grown tested_ends)
             told narrow
             (λ u more v inputs m on keeps.
             ap is_nonzero (denial.value u (Extends-trans q n u late more) v inputs)

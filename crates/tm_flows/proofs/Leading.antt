@@ -223,7 +223,8 @@ continues_then x number first next stands to t p n f mid g before between after 
 }
 
 -- behind what never falls through nothing is reached
-pub continues_nowhere : (x : CellTables) (number : Place → List Place → Option ℕ) (piece next : List ℕ → Memory → Ending)
+pub continues_nowhere : (x : CellTables) (number : Place → List Place → Option ℕ) (piece next : List ℕ → Memory →
+    Ending)
     (stands : Option ℕ) (t n : Table) (f : Option FlowTerms) (before after : EndTerms) →
     Continues x number piece stands t n f before None after →
     Continues x number (λ v m. followed_by (piece v m) (next v)) None t n f before None after

@@ -210,7 +210,8 @@ apart_so k n other = by (nat_eq k n) refl
     by false e = e
 
 module _ (x : CellTables) (number : Place → List Place → Option ℕ) (at : Place) (trail : List Place) (stop : ℕ)
-    (t n : Table) (f : FlowTerms) (before after : EndTerms) (numbered : number at trail ≡ Some stop) (flow : IsFlow x t f)
+    (t n : Table) (f : FlowTerms) (before after : EndTerms) (numbered : number at trail ≡ Some stop)
+    (flow : IsFlow x t f)
     (are : AreEnds x t before) (told : Stops t n stop f before after) where
   module _ (u : Table) (more : Extends n u) (v : List ℕ) (inputs : AreInputs u v) where
     stop_is : (k : ℕ) (o : Memory) → HaveNotEnded u v before → is_on u v (Some f) ≡ true →
@@ -290,7 +291,8 @@ module _ (x : CellTables) (number : Place → List Place → Option ℕ) (at : P
     flow = tt;
     ends = record {
       stops = λ k. by k (one_or_other k stop);
-      failed = subst (λ (o : Option TermId). IsTruth n o) (sym told.failed) (ends_along x t n before told.grown are).failed;
+      failed = subst (λ (o : Option TermId). IsTruth n o) (sym told.failed)
+          (ends_along x t n before told.grown are).failed;
     };
     count = told.count;
     position = refl;
@@ -302,7 +304,8 @@ module _ (x : CellTables) (number : Place → List Place → Option ℕ) (at : P
           subst (λ j. IfSome (stop_of after j) (IsFlow x n)) (sym same)
           (told.flow x (are.stops stop) flow)
       by k (inr other) =
-          subst (λ s. IfSome s (IsFlow x n)) (sym (told.others k other)) ((ends_along x t n before told.grown are).stops k)
+          subst (λ s. IfSome s (IsFlow x n)) (sym (told.others k other))
+          ((ends_along x t n before told.grown are).stops k)
 
 -- ---- something is put into the memory
 module _ (x : CellTables) (number : Place → List Place → Option ℕ) (after_put : List ℕ → Memory → Memory) (t : Table)

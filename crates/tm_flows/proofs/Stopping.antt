@@ -50,7 +50,8 @@ none_more count stops so_far = record {
   none = λ n. by n (slice_get (stops ++ None ∷ []) n) refl;
 }
   where
-    either : (n : ℕ) (f : Option FlowTerms) → (slice_get stops n ≡ Some f) ⊎ ((n ≡ length stops) × (None ≡ f)) → f ≡ None
+    either : (n : ℕ) (f : Option FlowTerms) → (slice_get stops n ≡ Some f) ⊎ ((n ≡ length stops) × (None ≡ f)) →
+        f ≡ None
     either n f (inl old) = sym (ap (option_and_then (λ f. f)) old) ∙ so_far.none n
     either n f (inr new) = sym new.1
 

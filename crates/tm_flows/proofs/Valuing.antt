@@ -149,7 +149,8 @@ any_one : (a b c d : Bool) → b ≡ (c || d) → (a || b) ≡ ((a || c) || d)
 any_one true b c d is = refl
 any_one false b c d is = is
 
-pub any_behind : (p : ExprTree → Bool) (es fs : List ExprTree) → list_any p (es ++ fs) ≡ (list_any p es || list_any p fs)
+pub any_behind : (p : ExprTree → Bool) (es fs : List ExprTree) →
+    list_any p (es ++ fs) ≡ (list_any p es || list_any p fs)
 any_behind p [] fs = refl
 any_behind p (e ∷ es) fs =
     any_one (p e) (list_any p (es ++ fs)) (list_any p es) (list_any p fs) (any_behind p es fs)

@@ -136,10 +136,10 @@ impl Flow {
 
     /// The runs of this flow and of another one over the same cells, as one: where a run stands in both the memory is
     /// this one's. A run goes on at the later of the two positions. Linear in the cells.
-    pub fn joined(&self, alloc: Global, terms: &mut Terms, other: &Flow) -> Result<Flow, AllocError>
+    pub fn joined(self, alloc: Global, terms: &mut Terms, other: &Flow) -> Result<Flow, AllocError>
         requires sound { IsSound terms.old }
-        requires flows { (x : CellTables) × IsFlow x terms.old self.now × IsFlow x terms.old other.now }
-        ensures { IfOk result (MakesJoin terms.old terms.new self.now other.now) }
+        requires flows { (x : CellTables) × IsFlow x terms.old self × IsFlow x terms.old other.now }
+        ensures { IfOk result (MakesJoin terms.old terms.new self other.now) }
     {
         let guard = make(terms, Term::Or(self.guard, other.guard))?;
         let memory = self.memory.merge(alloc, terms, self.guard, &other.memory)?;

@@ -58,7 +58,8 @@ pub fn assigned(
     e: &Expr,
     text: &mut Vec<u8>,
 ) -> Result<Flow, AllocError>
-    requires typed { (ty : resolved.Ty) × HasTargetAt reader.now ty path.now × HasTypeAt reader.now ty (expr_tree e.now) }
+    requires typed { (ty : resolved.Ty) × HasTargetAt reader.now ty path.now
+        × HasTypeAt reader.now ty (expr_tree e.now) }
     requires settled { AreSettledCells reader.now }
     requires apart { AreApart reader.now.tables }
     requires sound { IsSound terms.old }

@@ -153,7 +153,8 @@ GoodBy s turn within v step = IsGoodForSome turn within v (step_of s step)
 -- one more
 pub acts_more : (s t u : Table) → Extends s t → Extends t u → (steps : List StepDiagrams) (k : ℕ)
     (step : StepDiagrams) → k < length steps → step ≡ get_or steps k step → KnowsStep s step →
-    (turn set acts id : NodeId) → Knows s turn → Knows s set → IsSetOf t (HasGoodBelow s (means s turn) (means s set) steps k) acts →
+    (turn set acts id : NodeId) → Knows s turn → Knows s set →
+    IsSetOf t (HasGoodBelow s (means s turn) (means s set) steps k) acts →
     IsSetOf u (λ v. (means t acts v ≡ true) ⊎ IsGoodForSome (means t turn) (means t set) v (step_of t step)) id →
     IsSetOf u (HasGoodBelow s (means s turn) (means s set) steps (k + 1)) id
 acts_more s t u a b steps k step within here known turn set acts id turn_known set_known so_far is =

@@ -31,7 +31,8 @@ small : (n m : ℕ) → n ≡ capped m → m < 2 ^ 32 → n ≡ m
 small n m told below = omega arith
 
 -- counts of one each are as many as there are
-over_ones : (ts : List TemplateTree) → over (combination_of quantity.Instances) (map (λ (t : TemplateTree). 1) ts) ≡ length ts
+over_ones : (ts : List TemplateTree) → over (combination_of quantity.Instances) (map (λ (t : TemplateTree). 1) ts)
+    ≡ length ts
 over_ones [] = refl
 over_ones (t ∷ ts) = let rest = over_ones ts in omega arith
 
@@ -73,14 +74,17 @@ module _ (spec : SpecTree) (graph : List (List ℕ)) (order sizes : List ℕ) (o
   main_small main named few =
       let within = position-below (λ t. is_spelled (codes "main") t.name) spec.templates main named in
       let told = size_told main within in
-      let all = whole_of_main spec (combination_of quantity.Instances) (λ (t : TemplateTree). 1) graph order main ordered named
+      let all = whole_of_main spec (combination_of quantity.Instances) (λ (t : TemplateTree). 1) graph order main
+      ordered named
       ∙ over_ones (instance_templates spec) in
       omega (arith, told, all)
 
   -- where instances are few, each is as large as it is told
   held_told : (is : List InstanceTree) →
-      over (combination_of quantity.Instances) (map size (filter_map (λ (i : InstanceTree). template_number spec i.template.text) is)) < 2 ^ 32 →
-      over (combination_of quantity.Instances) (map size (filter_map (λ (i : InstanceTree). template_number spec i.template.text) is))
+      over (combination_of quantity.Instances) (map size (filter_map
+      (λ (i : InstanceTree). template_number spec i.template.text) is)) < 2 ^ 32 →
+      over (combination_of quantity.Instances) (map size (filter_map
+      (λ (i : InstanceTree). template_number spec i.template.text) is))
       ≡ sum_by (held_size spec sizes) is
   held_told [] below = refl
   held_told (i ∷ is) below = by (template_number spec i.template.text) refl below (held_told is)
@@ -88,8 +92,10 @@ module _ (spec : SpecTree) (graph : List (List ℕ)) (order sizes : List ℕ) (o
       by : (o : Option ℕ) → template_number spec i.template.text ≡ o →
           over (combination_of quantity.Instances) (map size (cons_option o (filter_map (λ (i : InstanceTree).
           template_number spec i.template.text) is))) < 2 ^ 32 →
-          (over (combination_of quantity.Instances) (map size (filter_map (λ (i : InstanceTree). template_number spec i.template.text) is)) < 2 ^ 32 →
-          over (combination_of quantity.Instances) (map size (filter_map (λ (i : InstanceTree). template_number spec i.template.text) is))
+          (over (combination_of quantity.Instances) (map size
+          (filter_map (λ (i : InstanceTree). template_number spec i.template.text) is)) < 2 ^ 32 →
+          over (combination_of quantity.Instances) (map size
+          (filter_map (λ (i : InstanceTree). template_number spec i.template.text) is))
           ≡ sum_by (held_size spec sizes) is) →
           over (combination_of quantity.Instances) (map size (cons_option o (filter_map (λ (i : InstanceTree).
           template_number spec i.template.text) is)))

@@ -32,7 +32,8 @@ pub(crate) fn template_sizes(
 // The size of a node, from the nodes to which it leads and the sizes of these.
 fn size_with(below: &[usize], sizes: &[usize]) -> usize
     ensures { (size : ℕ → ℕ) → ((n : ℕ) → Contains below.now n → get_or sizes.now n 0 ≡ capped (size n))
-        → result ≡ capped (combined (combination_of quantity.Instances) 1 (over (combination_of quantity.Instances) (map size below.now))) }
+        → result ≡ capped (combined (combination_of quantity.Instances) 1
+        (over (combination_of quantity.Instances) (map size below.now))) }
 {
     let mut size: usize = 1;
     for node in below {

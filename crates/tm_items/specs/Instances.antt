@@ -14,7 +14,8 @@ held_size spec sizes i = option_map_or (λ k. get_or sizes k 0) (template_number
 
 -- the sizes of the templates that numbers of 32 bits tell: how many instances one of each is, with all below it
 abbrev pub AreSizes : SpecTree → List ℕ → Type 0
-AreSizes spec sizes = (k : ℕ) (t : TemplateTree) → slice_get spec.templates k ≡ Some t → get_or sizes k 0 < number_limit →
+AreSizes spec sizes = (k : ℕ) (t : TemplateTree) → slice_get spec.templates k ≡ Some t →
+    get_or sizes k 0 < number_limit →
     slice_get sizes k ≡ Some (1 + sum_by (held_size spec sizes) t.instances)
 
 -- a name is that of an instance or a port of a template

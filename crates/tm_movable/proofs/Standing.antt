@@ -91,7 +91,8 @@ module _ (d : DesignTree) where
         (stands s parts.0, list_stands ss parts.1)
 
     module _ (within : List Ident → List WorkItem → List Location)
-        (far : (names : List Ident) (left : List WorkItem) → ItemsAreAsked d left → RestsAreAsked (within names left)) where
+        (far : (names : List Ident) (left : List WorkItem) → ItemsAreAsked d left →
+        RestsAreAsked (within names left)) where
       mutual
         stmt_rests : (s : StmtTree) → StmtIsAsked c s → (after : List WorkItem) → ItemsAreAsked d after →
             RestsAreAsked (stmt_locations within scope trail s after)

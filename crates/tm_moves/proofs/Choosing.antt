@@ -24,8 +24,10 @@ first_made t n width number stop a made is = record {
   value = made.value;
 }
 
-module _ (t mid m : Table) (width number : ℕ) (before : Arrived) (stop flow : FlowTerms) (here : TermId) (x : CellTables)
-    (known : IsFlow x t before.flow) (place : IsTerm t width before.place) (join : MakesJoin t mid before.flow stop flow)
+module _ (t mid m : Table) (width number : ℕ) (before : Arrived) (stop flow : FlowTerms) (here : TermId)
+    (x : CellTables)
+    (known : IsFlow x t before.flow) (place : IsTerm t width before.place)
+    (join : MakesJoin t mid before.flow stop flow)
     (constant : Makes mid m (term_width mid (Const width number)) here (λ u v. term_value u v (Const width number)))
     (guard : TermId) (guard_is : guard ≡ before.flow.guard) where
   grown : Extends t m

@@ -29,12 +29,13 @@ input_value t u i id sound is more v =
 pub inputs_more : (t m n : Table) (first i : ℕ) (ids more : List TermId) (id : TermId) →
     AreInputTerms t m first i ids → Extends m n → IsSound n → term_of n id ≡ Some (Input (first + i)) →
     more ≡ ids ++ id ∷ [] → AreInputTerms t n first (i + 1) more
-inputs_more t m n first i ids more id so_far grown sound is pushed = subst (AreInputTerms t n first (i + 1)) (sym pushed) (record {
-  grown = Extends-trans t m n so_far.grown grown;
-  sound = sound;
-  as_many = long ids so_far.as_many;
-  each = λ k x at. by k x (get_pushed ids id k x at);
-})
+inputs_more t m n first i ids more id so_far grown sound is pushed =
+    subst (AreInputTerms t n first (i + 1)) (sym pushed) (record {
+      grown = Extends-trans t m n so_far.grown grown;
+      sound = sound;
+      as_many = long ids so_far.as_many;
+      each = λ k x at. by k x (get_pushed ids id k x at);
+    })
   where
     long : (l : List TermId) → length l ≡ i → length (l ++ id ∷ []) ≡ i + 1
     long l count = pushed_long l ∙ ap (λ k. k + 1) count

@@ -2,7 +2,8 @@
 use Rattle.std.proofs.Common.{◌≡◌, ◌≢◌, ◌⊎◌, inl, inr, ℕ, zero, suc, ◌+◌, ◌<◌, ◌≤◌, Option, None, Some, List, [], ◌∷◌, ◌++◌, length, map, replicate, slice_get, slice_index, slice_set, refl, sym, ap, ◌∙◌, subst, arith}
 use Rattle.std.specs.List.{range_with_len}
 
-pub get_front : {X : Type 0} (xs ys : List X) (k : ℕ) (x : X) → slice_get xs k ≡ Some x → slice_get (xs ++ ys) k ≡ Some x
+pub get_front : {X : Type 0} (xs ys : List X) (k : ℕ) (x : X) → slice_get xs k ≡ Some x →
+    slice_get (xs ++ ys) k ≡ Some x
 get_front [] ys k x is = absurd (cc)
 get_front (z ∷ xs) ys zero x is = is
 get_front (z ∷ xs) ys (suc k) x is = get_front xs ys k x is
@@ -73,7 +74,8 @@ index_map f (y ∷ xs) zero x is = let same : y ≡ x = cc in ap f same
 index_map f (y ∷ xs) (suc k) x is = index_map f xs k x is
 
 -- ---- a list in which one element was set
-pub map_set : {X : Type 0} (f : X → ℕ) (xs : List X) (k : ℕ) (x : X) → map f (slice_set xs k x) ≡ slice_set (map f xs) k (f x)
+pub map_set : {X : Type 0} (f : X → ℕ) (xs : List X) (k : ℕ) (x : X) →
+    map f (slice_set xs k x) ≡ slice_set (map f xs) k (f x)
 map_set f [] k x = refl
 map_set f (y ∷ xs) zero x = refl
 map_set f (y ∷ xs) (suc k) x = ap (λ l. f y ∷ l) (map_set f xs k x)

@@ -11,7 +11,8 @@ use Rattle.tm_flat.proofs.Widths.{number_has_bits}
 use Rattle.tm_moves.proofs.InputWidths.{inputs_many, place_width}
 use Rattle.tm_moves.proofs.Lists.{index_is}
 
-module _ (d : DesignTree) (t : Table) (inputs : t.inputs ≡ input_widths d) (p : ℕ) (inside : p < length d.processes) where
+module _ (d : DesignTree) (t : Table) (inputs : t.inputs ≡ input_widths d) (p : ℕ)
+    (inside : p < length d.processes) where
   pub place_within : length d.vars + p < length t.inputs
   place_within = let all = inputs_many d in let same = ap length inputs in omega (arith, all, same, inside)
 

@@ -80,7 +80,8 @@ module _ (m n : Table) (d : DesignTree) (values : List TermId) (mover : Option �
           choose (inl same) =
               inl (
                 some ∙ ap (λ k. Some k) same,
-                get_set made.places p place id (ap (λ k. slice_get (slice_set made.places k place) p) (sym same) ∙ here),
+                get_set made.places p place id (ap (λ k. slice_get (slice_set made.places k place) p) (sym same)
+                    ∙ here),
               )
           choose (inr other) =
               inr (
@@ -99,7 +100,8 @@ module _ (m n : Table) (d : DesignTree) (values : List TermId) (mover : Option �
         let inside = slice_get_within places k id is in let long = places_long in omega (arith, inside, long) in
         let number : k ≡ p =
         let zero_and : 0 + k ≡ k = omega arith in
-        let one : Some k ≡ Some p = ap (λ j. Some j) (sym zero_and) ∙ sym (get_range 0 (length d.processes) k below) ∙ at
+        let one : Some k ≡ Some p = ap (λ j. Some j) (sym zero_and) ∙ sym (get_range 0 (length d.processes) k below)
+        ∙ at
         in cc in
         subst (λ q. IsTerm n (bits_of_number (end_number d q)) id) number (by (one_place k id is) below)
       where

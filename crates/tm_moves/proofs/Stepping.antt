@@ -71,7 +71,8 @@ module _ (d : DesignTree) (p : ℕ) (inside : p < length d.processes) (s : State
       move_works below (is_magic_at d p place) refl ∙ ap (λ n. Some (does n)) (sym is)
 
   -- it has nothing to do at its end
-  no_location : (ls : List Location) → option_map_or (λ (l : Location). l.is_magic) (slice_get ls (length ls)) false ≡ false
+  no_location : (ls : List Location) → option_map_or (λ (l : Location). l.is_magic) (slice_get ls (length ls)) false
+      ≡ false
   no_location ls =
       ap (λ o. option_map_or (λ (l : Location). l.is_magic) o false)
       (slice_get_past ls (length ls) (let same : length ls ≤ length ls = omega arith in same))

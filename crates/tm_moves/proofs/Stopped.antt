@@ -27,7 +27,8 @@ use Rattle.tm_moves.specs.Arrived.{TellsArrival, arrival}
 use Rattle.tm_moves.specs.Ended.{EndsBehind}
 
 -- a location has a number up to that of the end
-pub number_within : (d : DesignTree) (p : ℕ) (at : Place) (trail : List Place) → location_number d p at trail ≤ end_number d p
+pub number_within : (d : DesignTree) (p : ℕ) (at : Place) (trail : List Place) →
+    location_number d p at trail ≤ end_number d p
 number_within d p at trail =
     let low : position_or_len (is_location_at at trail) (locations d p) ≤ length (locations d p) =
     prefix_len-le-length (λ x. not (is_location_at at trail x)) (locations d p) in omega (arith, low)
@@ -114,7 +115,8 @@ module _ (x : CellTables) (t n : Table) (last : ℕ) (f : FlowTerms) (before aft
 pub ends_behind : (x : CellTables) (t n : Table) (last : ℕ) (left : Option FlowTerms) (before after : EndTerms) →
     IsSound t → AreEnds x t before → IfSome left (IsFlow x t) → EndsBehind t n last left before after →
     Behind x t n last left before after
-ends_behind x t n last None before after sound known flow behind = behind_none x t n last before after sound known behind
+ends_behind x t n last None before after sound known flow behind =
+    behind_none x t n last before after sound known behind
 ends_behind x t n last (Some f) before after sound known flow behind =
     behind_some x t n last f before after known flow behind
 
@@ -169,7 +171,8 @@ module _ (d : DesignTree) (p : ℕ) (x : CellTables) (t n : Table) (left : Optio
       ((m : Memory) → e ≡ finished m → FlowKeeps x u v left m) → (k : ℕ) (m : Memory) →
       arrival d p e ≡ Some (k, m) → FlowKeeps x u v (stop_of after k) m
   memory_so (stopped at trail o) told here kept k m is =
-      let number_is : location_number d p at trail ≡ k = ap (λ (a : Option (ℕ × Memory)). option_map_or (λ (a : ℕ × Memory). a.0) a 0) is in
+      let number_is : location_number d p at trail ≡ k = ap
+      (λ (a : Option (ℕ × Memory)). option_map_or (λ (a : ℕ × Memory). a.0) a 0) is in
       let memory_is : o ≡ m = ap (λ (a : Option (ℕ × Memory)). option_map_or (λ (a : ℕ × Memory). a.1) a o) is in
       let at_number = location_number d p at trail in
       subst (λ j. FlowKeeps x u v (stop_of after j) m) number_is
@@ -187,7 +190,8 @@ module _ (d : DesignTree) (p : ℕ) (x : CellTables) (t n : Table) (left : Optio
 
   within_so : (e : Ending) (k : ℕ) (m : Memory) → arrival d p e ≡ Some (k, m) → k < length after.stops
   within_so (stopped at trail o) k m is =
-      let number_is : location_number d p at trail ≡ k = ap (λ (a : Option (ℕ × Memory)). option_map_or (λ (a : ℕ × Memory). a.0) a 0) is in
+      let number_is : location_number d p at trail ≡ k = ap
+      (λ (a : Option (ℕ × Memory)). option_map_or (λ (a : ℕ × Memory). a.0) a 0) is in
       let low = number_within d p at trail in
       let count = behind.count in omega (arith, number_is, low, count, long, many)
   within_so (finished o) k m is =

@@ -21,5 +21,6 @@ module _ (w : WalkTables) (f : Stand) (s : StmtTree) (now : Course) (here : Flow
       row_halts w f (then s nothing) (then s nothing) s nothing now here now here refl far mid leads
   one_leads mid (Some there) leads =
       row_through w f (then s nothing) nothing now here mid there refl
-      (row_step w f (then s nothing) (then s nothing) s nothing now here now here refl far walks.stand.walkable mid there
+      (row_step w f (then s nothing) (then s nothing) s nothing now here now here refl far walks.stand.walkable mid
+      there
       leads)

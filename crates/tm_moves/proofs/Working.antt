@@ -263,7 +263,8 @@ module _ (w : WalkTables) (d : DesignTree) (p : ℕ) where
           walkable = walks.walkable;
           tables = ap (λ (s : ScopedCells). s.tables) reader_is;
           calls = walks.trail;
-          trail = reached_so walks.trail (subst (λ n. IsTrail w.locations.trails n walks.trail) node_trail walks.reached);
+          trail = reached_so walks.trail (subst (λ n. IsTrail w.locations.trails n walks.trail) node_trail
+              walks.reached);
         };
         typed = subst (λ s. RowIsTyped s (row_of (work_stmts node.work))) (sym reader_is)
             (stands_typed w.tables at (work_stmts node.work)

@@ -52,7 +52,8 @@ fn arrived_more(
     requires flows { (x : CellTables) × IsFlow x terms.old before.now.flow × IsFlow x terms.old stop.now }
     ensures { IfOk result (ArrivesMore terms.old terms.new width number before.now stop.now) }
 {
-    let flow = before.flow.joined(alloc, terms, stop)?;
+    let arrived = before.flow.copied(alloc)?;
+    let flow = arrived.joined(alloc, terms, stop)?;
     let here = make(terms, Term::Const(width, number))?;
     let place = make(terms, Term::Ite(before.flow.guard(), before.place, here))?;
     Ok(Arrived { flow, place })

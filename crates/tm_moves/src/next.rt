@@ -95,8 +95,8 @@ impl<'s> Mover<'s> {
         requires small { AreSmall (design_tree self.now.design.now) }
         requires count { length self.now.design.now.vars.items ≡ length arrived.now.flow.memory.values }
         requires last { last < 2 + length self.now.design.now.processes.items }
-        ensures next { IfOk result (λ next. MakesNext course.old.terms course.new.terms (design_tree self.now.design.now)
-            arrived.now.flow.memory.values mover arrived.now.place last next.items) }
+        ensures next { IfOk result (λ next. MakesNext course.old.terms course.new.terms
+            (design_tree self.now.design.now) arrived.now.flow.memory.values mover arrived.now.place last next.items) }
         ensures ends { course.new.ends ≡ course.old.ends }
     {
         let vars = self.vars();

@@ -119,7 +119,8 @@ module _ (d : DesignTree) where
     body_truths zero scope body h = tt
     body_truths (suc depth) scope body h =
         flat_holds (IsTruth d) (λ s. flat_map (expr_atoms d scope) (stmt_conditions s)
-        ++ flat_map (λ names. option_map_or (λ (k : Called). body_atoms depth d k.scope k.body) (called d scope names) [])
+        ++ flat_map (λ names. option_map_or (λ (k : Called). body_atoms depth d k.scope k.body) (called d scope names)
+        [])
         (own_calls s)) (stmts_in body)
         (λ s inside. all_join (IsTruth d) (flat_map (expr_atoms d scope) (stmt_conditions s))
         (flat_map (λ names. option_map_or (λ (k : Called). body_atoms depth d k.scope k.body) (called d scope names) [])

@@ -60,7 +60,7 @@ repeated (x ∷ ds) (suc i) (suc j) d e none less here there same =
     (filter (λ (y : Declared). is_spelled x.name.text y.name) ds)) (repeats ds) none).1 (omega arith) here there same
 
 -- where no name stands twice, a name tells its index
-pub one_index : (ds : List Declared) (i j : ℕ) (d e : Declared) → repeats ds ≡ [] → slice_get ds i ≡ Some d →
+one_index : (ds : List Declared) (i j : ℕ) (d e : Declared) → repeats ds ≡ [] → slice_get ds i ≡ Some d →
     slice_get ds j ≡ Some e → d.name.text ≡ e.name.text → i ≡ j
 one_index ds i j d e none here there same = by (order i j)
   where
@@ -100,7 +100,7 @@ get_below (z ∷ xs) zero x is = omega arith
 get_below (z ∷ xs) (suc k) x is = let less = get_below xs k x is in omega arith
 
 -- what stands at an index stands there by its number
-pub numbered_in : {A : Type 0} (n : ℕ) (xs : List A) (k : ℕ) (x : A) → slice_get xs k ≡ Some x →
+numbered_in : {A : Type 0} (n : ℕ) (xs : List A) (k : ℕ) (x : A) → slice_get xs k ≡ Some x →
     In (n + k, x) (enumerate_from n xs)
 numbered_in n [] k x is = absurd (cc)
 numbered_in n (z ∷ xs) zero x is =

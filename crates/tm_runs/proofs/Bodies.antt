@@ -28,7 +28,7 @@ map_append f [] ys = refl
 map_append f (x ∷ xs) ys = ap (λ zs. f x ∷ zs) (map_append f xs ys)
 
 -- the statements of a row with those within them
-pub row_all : (ss : List StmtTree) → row_stmts (row_of ss) ≡ all_stmts ss
+row_all : (ss : List StmtTree) → row_stmts (row_of ss) ≡ all_stmts ss
 row_all [] = refl
 row_all (s ∷ ss) = ap (λ rest. (s ∷ inner_stmts s) ++ rest) (row_all ss)
 

@@ -133,7 +133,8 @@ module _ {d : Design} {f : Frame} {names : List Ident} {k : CalledTask} (is : Is
     -- the cell of the target, in each design
     seen_cell : (o : Stands f.reader.tables from.store) →
         option_and_then (cell_at f.reader.tables f.reader.at) found
-        ≡ cell_of o.design (scope_of f.reader.at) path (option_map (index_value o.design (scope_of f.reader.at) o.memory)
+        ≡ cell_of o.design (scope_of f.reader.at) path (option_map
+        (index_value o.design (scope_of f.reader.at) o.memory)
         index)
     seen_cell o = is_target.cell (told f.reader from.store o)
 
@@ -235,7 +236,8 @@ module _ (d : Design) (level : Level) (outer : SiteBody) (task : TaskDef) (cell 
   abbrev item : ExprTree → WorkItem
   item e = deliver (option_and_then (cell_at (tables_of d) outer) cell) (scope_of level.at) e
 
-  answer_put : IsAnswered (body_of d outer) (body_of d level.at) (type_of fits.ty) (body_tree task.body).answer cell from
+  answer_put : IsAnswered (body_of d outer) (body_of d level.at) (type_of fits.ty) (body_tree task.body).answer cell
+      from
       to → (ts : List Owed) → Stepped d (answer level outer task cell ∷ ts) ts from to
   answer_put answered ts = record {
     over = record {

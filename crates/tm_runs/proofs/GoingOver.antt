@@ -25,7 +25,7 @@ nothing_behind [] = refl
 nothing_behind (x ∷ xs) = ap (λ ys. x ∷ ys) (nothing_behind xs)
 
 -- further calls stand behind each trail
-pub trail_behind : (base calls : List Place) (ts : List Owed) → trail_of (base ++ calls) ts ≡ trail_of base ts ++ calls
+trail_behind : (base calls : List Place) (ts : List Owed) → trail_of (base ++ calls) ts ≡ trail_of base ts ++ calls
 trail_behind base calls [] = refl
 trail_behind base calls (one _ _ ∷ ts) = trail_behind base calls ts
 trail_behind base calls (row _ _ ∷ ts) = trail_behind base calls ts
@@ -82,7 +82,7 @@ module _ (x : CellTables) where
   over_halts a b from mid to first asked halt.Memory halts = λ base calls is. tt
 
 -- rows make no calls, and put nothing that is returned
-pub rows_trail : (base : List Place) (ts : List Owed) → AllByRecursion IsRow ts → trail_of base ts ≡ base
+rows_trail : (base : List Place) (ts : List Owed) → AllByRecursion IsRow ts → trail_of base ts ≡ base
 rows_trail base [] rows = refl
 rows_trail base (one _ _ ∷ ts) rows = absurd rows.0
 rows_trail base (row _ _ ∷ ts) rows = rows_trail base ts rows.1
@@ -151,7 +151,8 @@ module _ (x : CellTables) (level : Level) (s : StmtTree) (ts : List Owed) (from 
   one_halts h halts base calls is =
       halts_before x (item (trail_of (base ++ calls) ts) ∷ []) (work_of x (base ++ calls) ts) (behind calls from)
       (behind calls to) h
-      (subst (λ trail. HaltsWithin x (item trail ∷ []) (behind calls from) (behind calls to) h) (trail_here ts from base calls is)
+      (subst (λ trail. HaltsWithin x (item trail ∷ []) (behind calls from) (behind calls to) h)
+      (trail_here ts from base calls is)
       (halts calls))
 
   -- it leads to others
@@ -172,7 +173,8 @@ module _ (x : CellTables) (level : Level) (s : StmtTree) (ts : List Owed) (from 
           n.2,
           λ rest e run.
               leads_to
-              (ap (λ trail. progress o.design o.memory from.choices (item trail)) (sym (trail_here ts from base calls is)) ∙ n.4)
+              (ap (λ trail. progress o.design o.memory from.choices (item trail))
+              (sym (trail_here ts from base calls is)) ∙ n.4)
               (subst (λ items. Run o.design items n.0 to.choices e)
               (ap (λ items. items ++ rest) (sym n.5) ∙ append_assoc n.3 (work_of x (base ++ calls) ts) rest) run),
         );

@@ -175,7 +175,8 @@ module _ (d : Design) (f : Frame) (tables : f.reader.tables ≡ tables_of d) whe
         Stepped d (one (level_of f) (branch e (row_of a) b) ∷ ts) (row (level_of f) a ∷ ts) from to
     takes_first a b fits holds =
         takes_row (branch e (row_of a) b) ts from to a same.store same.trail
-        (λ calls o. branch_leads f.reader (behind calls from) e (behind calls to) same.choices (row_of a) b true holds o)
+        (λ calls o. branch_leads f.reader (behind calls from) e (behind calls to) same.choices (row_of a) b true holds
+        o)
         (first_fits d f e a b fits)
         (λ may k stands. first_passes (crossing k) e (row_of a) b (may k stands)) (omega arith)
 

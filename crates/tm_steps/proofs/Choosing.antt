@@ -175,7 +175,8 @@ module _ (x : CellTables) (first count width : ℕ) (t p q n : Table) (f g h : F
     (puts : (u : Table) → Extends n u → (v : List ℕ) → AreInputs u v → (m : Memory) → is_on u v (Some g) ≡ true →
     Keeps x u v g.memory m → Keeps x u v h.memory (next v m)) where
   goes_first : (numbers : Place → List Place → Option ℕ) →
-      Continues x numbers (λ v m. if nat_lt (number_at (choice_bit first v) f.position width) count then finished m else blocked) (Some f.position) p q
+      Continues x numbers (λ v m. if nat_lt (number_at (choice_bit first v) f.position width) count then finished m
+      else blocked) (Some f.position) p q
       (Some f) ends (Some g) ends
   goes_first numbers =
       goes_on_where x numbers (λ v m. nat_lt (number_at (choice_bit first v) f.position width) count) p q f g ends
@@ -193,21 +194,27 @@ module _ (x : CellTables) (first count width : ℕ) (t p q n : Table) (f g h : F
       (Extends-trans t p n number.grown (Extends-trans p q n narrow.grown grown)) are) guard position puts)
 
   pub choice_led : (numbers : Place → List Place → Option ℕ) →
-      Continues x numbers (λ v m. if nat_lt (number_at (choice_bit first v) f.position width) count then finished (next v m) else blocked)
+      Continues x numbers (λ v m. if nat_lt (number_at (choice_bit first v) f.position width) count
+      then finished (next v m) else blocked)
       (Some (f.position + width)) t n (Some f) ends
       (Some (record { guard = h.guard; memory = h.memory; position = f.position + width })) ends
   choice_led numbers =
-      continues_from x numbers (λ v m. if nat_lt (number_at (choice_bit first v) f.position width) count then finished (next v m) else blocked)
+      continues_from x numbers (λ v m. if nat_lt (number_at (choice_bit first v) f.position width) count
+      then finished (next v m) else blocked)
       (Some (f.position + width)) t p n (Some f)
       (Some (record { guard = h.guard; memory = h.memory; position = f.position + width })) ends ends number.grown
-      (continues_moved x numbers (λ v m. if nat_lt (number_at (choice_bit first v) f.position width) count then finished (next v m) else blocked)
+      (continues_moved x numbers (λ v m. if nat_lt (number_at (choice_bit first v) f.position width) count
+      then finished (next v m) else blocked)
       (Some g.position) p n (Some f) h (f.position + width) ends ends
       (continues_so x numbers
-      (λ v m. followed_by (if nat_lt (number_at (choice_bit first v) f.position width) count then finished m else blocked) (λ m. finished (next v m)))
-      (λ v m. if nat_lt (number_at (choice_bit first v) f.position width) count then finished (next v m) else blocked) (Some g.position)
+      (λ v m. followed_by (if nat_lt (number_at (choice_bit first v) f.position width) count then finished m
+      else blocked) (λ m. finished (next v m)))
+      (λ v m. if nat_lt (number_at (choice_bit first v) f.position width) count then finished (next v m) else blocked)
+      (Some g.position)
       (Some g.position) p n (Some f) (Some h) ends ends
       (λ v m. put_where (nat_lt (number_at (choice_bit first v) f.position width) count) m (next v)) refl
-      (continues_then x numbers (λ v m. if nat_lt (number_at (choice_bit first v) f.position width) count then finished m else blocked)
+      (continues_then x numbers (λ v m. if nat_lt (number_at (choice_bit first v) f.position width) count
+      then finished m else blocked)
       (λ v m. finished (next v m)) (Some f.position) (Some g.position) p q n (Some f) (Some g) (Some h) ends ends ends
       (goes_first numbers) (goes_then numbers))))
 
@@ -242,7 +249,8 @@ module _ (s : ScopedCells) (names : List Ident) (ty : Ty) (first count : ℕ) (t
     chosen_here : (numbers : Place → List Place → Option ℕ) →
         Continues s.tables numbers
         (λ v m. if nat_lt (number_at (choice_bit first v) f.position (bits_in s ty)) count
-        then finished (put_in m (cell d (scope_of s.at) names None) (number_at (choice_bit first v) f.position (bits_in s ty)))
+        then finished (put_in m (cell d (scope_of s.at) names None)
+        (number_at (choice_bit first v) f.position (bits_in s ty)))
         else blocked) (Some (f.position + bits_in s ty)) t q (Some f) ends
         (Some (record { guard = h.guard; memory = h.memory; position = f.position + bits_in s ty })) ends
     chosen_here =
@@ -262,20 +270,28 @@ module _ (s : ScopedCells) (names : List Ident) (ty : Ty) (first count : ℕ) (t
         let d = r.design in
         let o : Option Cell = cell d (scope_of s.at) names None in
         continues_so s.tables numbers
-        (λ v m. if nat_lt (number_at (choice_bit first v) f.position (bits_in s ty)) count then finished (put_in m o (number_at (choice_bit first v) f.position (bits_in s ty))) else blocked)
+        (λ v m. if nat_lt (number_at (choice_bit first v) f.position (bits_in s ty)) count
+        then finished (put_in m o (number_at (choice_bit first v) f.position (bits_in s ty))) else blocked)
         (λ v m. puts_number d m o
         (number_at (choice_bit r.first v) f.position (target_bits d (scope_of s.at) names)))
         (Some (f.position + bits_in s ty)) (Some (f.position + target_bits d (scope_of s.at) names)) t q (Some f)
         (Some (record { guard = h.guard; memory = h.memory; position = f.position + bits_in s ty })) ends ends
         (λ v m i.
-        if nat_lt (number_at (choice_bit (sym here i) v) f.position (sym (bits_told s ty names target d has) i)) (sym (size d has) i)
-        then finished (put_in m o (number_at (choice_bit (sym here i) v) f.position (sym (bits_told s ty names target d has) i)))
+        if nat_lt (number_at (choice_bit (sym here i) v) f.position (sym (bits_told s ty names target d has) i))
+        (sym (size d has) i)
+        then finished (put_in m o (number_at (choice_bit (sym here i) v) f.position
+        (sym (bits_told s ty names target d has) i)))
         else blocked)
         (λ i. Some (f.position + sym (bits_told s ty names target d has) i)) (chosen_here d has numbers);
     leaves = λ i none.
-        leaves_then i (Some f) (Some g) (Some (record { guard = h.guard; memory = h.memory; position = f.position + bits_in s ty }))
+        leaves_then i (Some f) (Some g) (Some (record {
+          guard = h.guard;
+          memory = h.memory;
+          position = f.position + bits_in s ty;
+        }))
         ends ends ends (leaves_memory i f g ends ends narrow.memory refl)
-        (leaves_stops i g (Some (record { guard = h.guard; memory = h.memory; position = f.position + bits_in s ty })) ends ends
+        (leaves_stops i g (Some (record { guard = h.guard; memory = h.memory; position = f.position + bits_in s ty }))
+        ends ends
         (λ had is. puts.leaves r.design has i had
         (or_left (option_map_or (is_variable i) (cell r.design (scope_of s.at) names None) false) false none) is) refl);
   }

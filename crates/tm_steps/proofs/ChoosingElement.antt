@@ -147,7 +147,8 @@ module _ (s : ScopedCells) (names : List Ident) (index : ExprTree) (ty : Ty) (fi
         continues_so s.tables numbers
         (λ v m. if overruns d (scope_of s.at) m (element names index) || false
         then failed
-        else (if nat_lt (read_here d has v) count then finished (put_in m (at d has m) (read_here d has v)) else blocked))
+        else (if nat_lt (read_here d has v) count then finished (put_in m (at d has m) (read_here d has v))
+        else blocked))
         (λ v m. if overruns d (scope_of s.at) m (element names index) || false
         then failed
         else puts_number d m (at d has m)

@@ -137,7 +137,8 @@ module _ (s : ScopedCells) (e : ExprTree) (t n q r z : Table) (f : FlowTerms) (b
       before g end
   parts_joined =
       behind_operands s (e ∷ []) t parts.table f before parts.flow after parts.asks d has number
-      (λ v m. if holds_in d (scope_of s.at) m e then first v m else second v m) (later to_first to_second) z g end inside
+      (λ v m. if holds_in d (scope_of s.at) m e then first v m else second v m) (later to_first to_second) z g end
+      inside
 
   -- a state variable stays as it was that neither part writes
   pub parts_leave : (i : ℕ) → Leaves i (Some x.first) after ga mid → Leaves i (Some x.second) mid gb end →

@@ -126,7 +126,8 @@ module _ (t : Table) (first k width : ℕ) (bits : AreChoiceBits t first k width
           let b = bit (f (k + j)) in
           let small : b < 2 ^ width =
           lt_of_lt_of_le (bit_small (f (k + j))) (pow_mono {i = 1} {j = width} (omega (arith, below))) in
-          (λ i. bit_or (shl_whole a j 1 width (number_below f k j) (omega (arith, below)) i) (resize-same width b small i))
+          (λ i. bit_or (shl_whole a j 1 width (number_below f k j) (omega (arith, below)) i)
+          (resize-same width b small i))
           ∙ or_shifted a 1 b (bit_small (f (k + j)))
           ∙ omega (arith, number_more f k j)
 

@@ -93,8 +93,8 @@ pub fn chosen(
     requires sound { IsSound terms.old }
     requires flow { IsFlow reader.now.tables terms.old flow }
     ensures { (at : placed.Place) (ends : EndTerms) → AreEnds reader.now.tables terms.old ends → IfOk result (λ g.
-        LeadsThrough reader.now first (trees.assign path.now None (trees.star at)) terms.old terms.new flow ends (Some g)
-        ends) }
+        LeadsThrough reader.now first (trees.assign path.now None (trees.star at)) terms.old terms.new flow ends
+        (Some g) ends) }
 {
     let ty = target_type(reader, path);
     let width = type_bits(reader.scopes(), ty);

@@ -113,7 +113,8 @@ module _ (t : Table) (d : DesignTree) (order : List ℕ) (f : FlatTerms) (g : Ga
       let is_this : move_from d p (slice_index (state_of d order v).places p)
       ≡ cond magic (moves.Leave p) (moves.Process p) =
       ap (move_from d p) place ∙ moves_at p (is_magic_at d p k) magic at.is in
-      is_move t d order is (stands_at d order p k) [] from.1 step from.3 (cond magic (moves.Leave p) (moves.Process p)) v
+      is_move t d order is (stands_at d order p k) [] from.1 step from.3
+      (cond magic (moves.Leave p) (moves.Process p)) v
       (λ w one. ap (λ (u : StateData). eqb (slice_index u.places p) k) one ∙ stands)
       (subst (λ (m : Move). Tells t d from.1 (state_of d order v) m (arguments_at order v)) is_this
       (subst (λ (x : StepTerms).
@@ -189,7 +190,8 @@ module _ (t : Table) (d : DesignTree) (order : List ℕ) (f : FlatTerms) (g : Ga
       Tells t d of.0 (state_of d order v) (moves.Call n args) (arguments_at order v) →
       IsMoveAt d (coding_of d order) step (moves.Call n args) v
   task_move n step v args of tells =
-      is_move t d order is (λ w. true) (argument_levels order) of.0 step of.2 (moves.Call n args) v (λ w one. refl) tells
+      is_move t d order is (λ w. true) (argument_levels order) of.0 step of.2 (moves.Call n args) v (λ w one. refl)
+      tells
 
   tasks_long : (n : ℕ) (terms : StepTerms) → slice_get f.tasks n ≡ Some terms → n < length d.tasks
   tasks_long n terms there =

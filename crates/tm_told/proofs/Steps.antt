@@ -85,7 +85,8 @@ module _ (t : Table) (d : DesignTree) (order : List ℕ) (is : IsOrder (sum (sta
     is_move move v holds tells = record {
       outcomes = λ w given some.
           let same = told v w (chosen v w given) in
-          let led = tells.outcomes (choices_at order w) (are_bits w (choice_level order)) (λ none. some (same ∙ none)) in
+          let led = tells.outcomes (choices_at order w) (are_bits w (choice_level order))
+          (λ none. some (same ∙ none)) in
           (led.0, subst (Step d (state_of d order v) move led.0) (sym same) led.1);
       all = λ choices o some made.
           let found = tells.all choices o some made in

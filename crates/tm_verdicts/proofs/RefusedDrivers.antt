@@ -26,7 +26,8 @@ module _ (d : DesignTree) (answers : StateData → ℕ → Move → Type 0) (c :
   answer_fails s move good (inr leaves) = keeps_and_leaves s move good.1 leaves
 
   -- a part that fails does not pass
-  pub fails_and_passes : (part : DriverPart) (s : StateData) → IsReported d answers c part s → Passes d answers c part → ⊥
+  pub fails_and_passes : (part : DriverPart) (s : StateData) → IsReported d answers c part s →
+      Passes d answers c part → ⊥
   fails_and_passes (lies_within goal k) s r passes =
       in_and_out s (passes r.here.0 r.here.1 r.here.2 r.here.3 s r.here.4) r.here.5
   fails_and_passes (adds_state goal k) s r passes = r.2 (passes r.0 r.1)

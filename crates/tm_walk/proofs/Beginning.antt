@@ -68,7 +68,8 @@ module _ (w : WalkTables) (start : Stand) (spot : Spot) (f : Stand) (at : IsAt w
     λ last h left.
         subst (λ (c : Course). RowLeads w f (row_tree all) now c flow h) (sym left.course)
         (subst (λ (o : Option FlowTerms). RowLeads w f (row_tree all) now end flow o) (sym left.flow)
-        (subst (λ row. RowLeads w f row now end flow None) (sym is) (row_stop w f s (row_tree others) now end flow did))),
+        (subst (λ row. RowLeads w f row now end flow None) (sym is)
+        (row_stop w f s (row_tree others) now end flow did))),
   )
   others_lead end (Some there) did = (
     record {

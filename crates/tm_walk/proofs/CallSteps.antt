@@ -67,7 +67,8 @@ module _ (w : WalkTables) (f : Stand) (names : List Ident) (k : CalledTask) (is 
   body_weighs d has =
       let call = call_weighs d w f names k has is in
       let there = ap (λ (h : Stand). row_weight (weighs d h) row) same_stand in
-      let same = ap (λ (b : Body). row_weight (weighs d (stand_of w home)) (row_of (body_stmts (body_tree b)))) body_is in
+      let same = ap (λ (b : Body). row_weight (weighs d (stand_of w home)) (row_of (body_stmts (body_tree b))))
+      body_is in
       omega (arith, call, there, same)
 
   module _ (start : Stand) where
@@ -154,7 +155,8 @@ module _ (w : WalkTables) (f : Stand) (names : List Ident) (k : CalledTask) (is 
               target = subst (λ (h : Stand). HasTargetAt h.reader typed.0 path.now) (sym at.is) typed.1;
               typed = λ e answered.
                   subst (λ (h : Stand). HasTypeAt h.reader typed.0 e) (sym same_stand)
-                  (typed.2 e (sym (ap (λ (t : Bor TaskDef). option_map expr_tree t.now.body.answer) task_is) ∙ answered));
+                  (typed.2 e (sym (ap (λ (t : Bor TaskDef). option_map expr_tree t.now.body.answer) task_is)
+                  ∙ answered));
               known = stands.1;
               standing = stands.0;
             },

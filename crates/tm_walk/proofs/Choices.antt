@@ -118,7 +118,8 @@ module _ (w : WalkTables) (start : Stand) (spot : Spot) (choice : Choice) (index
     alternative_walks_here =
         subst (λ (k : ℕ). AlternativeWalks w f block choice k now joined) taken
         (next_alternative w f (length blocks.now) walks.begun walks.flow choice walks.stand.walkable walks.stand
-        (take index listed) now joined walks.so_far listed block (ap (slice_get listed) taken ∙ there) (rows_long blocks.now)
+        (take index listed) now joined walks.so_far listed block (ap (slice_get listed) taken ∙ there)
+        (rows_long blocks.now)
         walks.typed walks.fits)
 
     -- one more has been led through

@@ -59,7 +59,8 @@ module _ (w : WalkTables) (start : Stand) (spot : Spot) (f : Stand) (at : IsAt w
       (told : Parts f.reader e from.terms parted.terms flow from.ends parted.ends parts)
       (before middle after : List Todo) where
     -- an `if`
-    pub branch_steps : (first second : Bor (List Stmt)) → StmtWalks w f (branch e (row_at first) (row_at second)) from flow →
+    pub branch_steps : (first second : Bor (List Stmt)) →
+        StmtWalks w f (branch e (row_at first) (row_at second)) from flow →
         middle ≡ todo.Second spot second parts.second ∷ before →
         after ≡ todo.Row spot (rows.Stmts first) ∷ middle →
         StepsTo w start (StmtGoal w f (branch e (row_at first) (row_at second)) from flow)
@@ -96,7 +97,8 @@ module _ (w : WalkTables) (start : Stand) (spot : Spot) (f : Stand) (at : IsAt w
     }
 
     -- a `while`
-    pub repeat_steps : (place : Place) (body : Bor (List Stmt)) → StmtWalks w f (repeat place e (row_at body)) from flow →
+    pub repeat_steps : (place : Place) (body : Bor (List Stmt)) →
+        StmtWalks w f (repeat place e (row_at body)) from flow →
         middle ≡ todo.Loop (Some parts.second) ∷ before → after ≡ todo.Row spot (rows.Stmts body) ∷ middle →
         StepsTo w start (StmtGoal w f (repeat place e (row_at body)) from flow)
         (λ d. stmt_most d f (repeat place e (row_at body))) before after parted (Some parts.first)

@@ -51,7 +51,8 @@ module _ (w : WalkTables) (start : Stand) where
       waits ≡ todo.Row Start row ∷ [] → RowWalks w start (row_tree row) now flow →
       LeadsTo w start waits now (Some flow) (RowGoal w start (row_tree row) now flow)
   begins waits row now flow is walks =
-      subst (λ (ts : List Todo). LeadsTo w start ts now (Some flow) (RowGoal w start (row_tree row) now flow)) (sym is) (
+      subst (λ (ts : List Todo). LeadsTo w start ts now (Some flow) (RowGoal w start (row_tree row) now flow))
+      (sym is) (
         record { there = tt; walks = walks },
         λ end g did. did,
       )

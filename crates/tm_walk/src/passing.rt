@@ -66,8 +66,8 @@ impl<'s> CalledTask<'s> {
     }
 }
 
-/// Puts what the body of a called task returns, if anything, where a target is. Runs fail at which it overruns. `AllocError` is want
-/// of memory.
+/// Puts what the body of a called task returns, if anything, where a target is. Runs fail at which it overruns.
+/// `AllocError` is want of memory.
 pub(crate) fn answer<'s>(
     inner: &Stand<'s>,
     task: &'s TaskDef,

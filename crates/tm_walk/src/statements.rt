@@ -103,8 +103,12 @@ impl<'s> Walker<'s> {
             course.old flow }
         ensures { (start : stands.Stand) → IsAt (known_by self.now) start spot stand.now → IfOk result
             (StepsTo (known_by self.now) start
-            (StmtGoal (known_by self.now) stand.now (trees.branch (expr_tree e.now) (row_of (stmt_trees first.now)) (row_of (stmt_trees second.now))) course.old flow)
-            (λ d. stmt_most d stand.now (trees.branch (expr_tree e.now) (row_of (stmt_trees first.now)) (row_of (stmt_trees second.now)))) (stack waiting.old) (stack waiting.new) course.new) }
+            (StmtGoal (known_by self.now) stand.now
+            (trees.branch (expr_tree e.now) (row_of (stmt_trees first.now)) (row_of (stmt_trees second.now)))
+            course.old flow)
+            (λ d. stmt_most d stand.now
+            (trees.branch (expr_tree e.now) (row_of (stmt_trees first.now)) (row_of (stmt_trees second.now))))
+            (stack waiting.old) (stack waiting.new) course.new) }
     {
         let parts = part(&stand.reader, course, e, flow)?;
         waiting.leave(Todo::Second(spot, second, parts.second))?;
@@ -125,10 +129,14 @@ impl<'s> Walker<'s> {
     ) -> Result<Option<Flow>, AllocError>
         requires { (at : placed.Place) × StmtWalks (known_by self.now) stand.now
             (trees.repeat at (expr_tree e.now) (row_of (stmt_trees body.now))) course.old flow }
-        ensures { (start : stands.Stand) → IsAt (known_by self.now) start spot stand.now → (at : placed.Place) → IfOk result
-            (StepsTo (known_by self.now) start
-            (StmtGoal (known_by self.now) stand.now (trees.repeat at (expr_tree e.now) (row_of (stmt_trees body.now))) course.old flow)
-            (λ d. stmt_most d stand.now (trees.repeat at (expr_tree e.now) (row_of (stmt_trees body.now)))) (stack waiting.old) (stack waiting.new) course.new) }
+        ensures { (start : stands.Stand) → IsAt (known_by self.now) start spot stand.now → (at : placed.Place) →
+            IfOk result (StepsTo (known_by self.now) start
+            (StmtGoal (known_by self.now) stand.now
+            (trees.repeat at (expr_tree e.now) (row_of (stmt_trees body.now)))
+            course.old flow)
+            (λ d. stmt_most d stand.now
+            (trees.repeat at (expr_tree e.now) (row_of (stmt_trees body.now))))
+            (stack waiting.old) (stack waiting.new) course.new) }
     {
         let parts = part(&stand.reader, course, e, flow)?;
         waiting.leave(Todo::Loop(Some(parts.second)))?;
@@ -173,8 +181,12 @@ impl<'s> Walker<'s> {
             (trees.assign path.now (option_map expr_tree index.now) (value_tree value.now)) course.old flow }
         ensures { (start : stands.Stand) → IsAt (known_by self.now) start spot stand.now → IfOk result
             (StepsTo (known_by self.now) start
-            (StmtGoal (known_by self.now) stand.now (trees.assign path.now (option_map expr_tree index.now) (value_tree value.now)) course.old flow)
-            (λ d. stmt_most d stand.now (trees.assign path.now (option_map expr_tree index.now) (value_tree value.now))) (stack waiting.old) (stack waiting.new) course.new) }
+            (StmtGoal (known_by self.now) stand.now
+            (trees.assign path.now (option_map expr_tree index.now) (value_tree value.now))
+            course.old flow)
+            (λ d. stmt_most d stand.now
+            (trees.assign path.now (option_map expr_tree index.now) (value_tree value.now)))
+            (stack waiting.old) (stack waiting.new) course.new) }
     {
         match value {
             Value::Star(_) => self.assign_choice(stand, course, path, index, flow),

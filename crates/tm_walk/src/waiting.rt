@@ -32,8 +32,8 @@ pub(crate) enum Row<'s> {
     Stmts(&'s [Stmt]),
 }
 
-/// What is to be done where runs stand behind what was led through: a row; the second row of an `if`, with the runs that
-/// begin it; runs that go on beside these; behind the body of a loop, which none leaves, the runs that go on; the
+/// What is to be done where runs stand behind what was led through: a row; the second row of an `if`, with the runs
+/// that begin it; runs that go on beside these; behind the body of a loop, which none leaves, the runs that go on; the
 /// alternatives of a choice from a number on; and to put what a called task returns where a target is.
 #[derive(Drop)]
 pub(crate) enum Todo<'s> {

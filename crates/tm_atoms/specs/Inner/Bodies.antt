@@ -22,7 +22,8 @@ abbrev pub body_of_task : SiteTask → Scope
 body_of_task task = record { instance = task.instance; body = task_body task.index }
 
 -- a path calls a task from a scope, with this body
-pub record IsCallee (d : DesignTree) (from : Scope) (path : List Ident) (task : SiteTask) (def : BodyTree) : Type 0 where
+pub record IsCallee (d : DesignTree) (from : Scope) (path : List Ident) (task : SiteTask)
+    (def : BodyTree) : Type 0 where
   pub callee : Called
   pub is : called d from path ≡ Some callee
   pub there : task_called_at d task ≡ Some callee

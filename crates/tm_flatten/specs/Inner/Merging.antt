@@ -1,5 +1,6 @@
 -- How two memories of terms become one: cell by cell.
-use Rattle.std.specs.Prelude.{◌≡◌, ℕ, Bool, true, Option, Some, List, ◌||◌, IfSome, is_some, length, slice_get}
+use Rattle.std.specs.Prelude.{◌≡◌, ◌⊎◌, ℕ, Bool, true, Option, Some, List, ◌&&◌, ◌||◌, IfSome, is_some, length, not, slice_get}
+use Rattle.std.specs.Map.{keys_of}
 use Rattle.tm_bits.specs.Arithmetic.{choice}
 use Rattle.tm_term.specs.declared.term.TermId.{TermId}
 use Rattle.tm_term.specs.Table.{Table, IsSound}
@@ -58,24 +59,42 @@ AreChosen n guard first second entries =
 abbrev pub has_term : List (StepCell × TermId) → StepCell → Bool
 has_term entries cell = is_some (step_term entries cell)
 
--- a list of such terms has got one more cell
-pub record MergesOne (t n : Table) (guard : TermId) (first second : List (StepCell × TermId)) (cell : StepCell)
-    (old new : List (StepCell × TermId)) : Type 0 where
-  pub grown : Extends t n
-  pub sound : IsSound n
-  pub chosen : AreChosen n guard first second new
-  pub kept : (other : StepCell) → has_term old other ≡ true → has_term new other ≡ true
-  pub there : (has_term first cell || has_term second cell) ≡ true → has_term new cell ≡ true
+-- whether a parameter or local has a term in another list alone
+abbrev pub is_new : List (StepCell × TermId) → List (StepCell × TermId) → StepCell → Bool
+is_new entries others cell = not (has_term entries cell) && has_term others cell
 
--- it has got all cells of a list that one of the two has
-pub record MergesCells (t n : Table) (guard : TermId) (first second cells old new : List (StepCell × TermId)) :
+-- a parameter or local has got the term that a truth chooses of two lists
+pub record IsChosen (n : Table) (guard : TermId) (first second now : List (StepCell × TermId)) (cell : StepCell) :
     Type 0 where
+  pub id : TermId
+  pub found : step_term now cell ≡ Some id
+  pub chosen : Chooses n guard (step_term first cell) (step_term second cell) id
+
+-- each parameter or local of a list has its term still, or the one that a truth chooses of that and another list's
+pub record Turns (t n : Table) (guard : TermId) (second old new : List (StepCell × TermId)) : Type 0 where
   pub grown : Extends t n
   pub sound : IsSound n
-  pub chosen : AreChosen n guard first second new
-  pub kept : (other : StepCell) → has_term old other ≡ true → has_term new other ≡ true
-  pub there : (cell : StepCell) → (has_term first cell || has_term second cell) ≡ true → has_term cells cell ≡ true →
-      has_term new cell ≡ true
+  pub each : (cell : StepCell) →
+      (step_term new cell ≡ step_term old cell) ⊎ IsChosen n guard old second new cell
+
+-- one that either list has got the chosen one, and a list that had it keeps its order
+pub record MergesOne (t n : Table) (guard : TermId) (second : List (StepCell × TermId)) (cell : StepCell)
+    (old new : List (StepCell × TermId)) : Type 0 where
+  pub turns : Turns t n guard second old new
+  pub chosen : (has_term old cell || has_term second cell) ≡ true → IsChosen n guard old second new cell
+  pub keys : has_term old cell ≡ true → keys_of new ≡ keys_of old
+
+-- one that the other list alone has got it
+pub record MergesNew (t n : Table) (guard : TermId) (second : List (StepCell × TermId)) (cell : StepCell)
+    (old new : List (StepCell × TermId)) : Type 0 where
+  pub turns : Turns t n guard second old new
+  pub chosen : is_new old second cell ≡ true → IsChosen n guard old second new cell
+
+-- all that are due have got it
+pub record MergesDue (t n : Table) (guard : TermId) (second : List (StepCell × TermId)) (is_due : StepCell → Bool)
+    (old new : List (StepCell × TermId)) : Type 0 where
+  pub turns : Turns t n guard second old new
+  pub chosen : (cell : StepCell) → is_due cell ≡ true → IsChosen n guard old second new cell
 
 -- a list was made of two: each of its terms is chosen of theirs, and it has the cells of both
 pub record MergesSteps (t n : Table) (guard : TermId) (first second new : List (StepCell × TermId)) : Type 0 where

@@ -71,7 +71,8 @@ part_work x trail (row level ss) = map (perform (scope_of level.at) trail) ss
 part_work x trail (again level s) = perform (scope_of level.at) trail s ∷ []
 part_work x trail (leave path) = []
 part_work x trail (answer level outer task cell) =
-    map (deliver (option_and_then (cell_at x outer) cell) (scope_of level.at)) (option_to_list (body_tree task.body).answer)
+    map (deliver (option_and_then (cell_at x outer) cell) (scope_of level.at))
+    (option_to_list (body_tree task.body).answer)
 
 -- the items that are owed for all
 abbrev pub work_of : CellTables → List Place → List Owed → List WorkItem

@@ -34,10 +34,12 @@ abbrev mutual
   stmt_weight within (wait _ _) = 1
   stmt_weight within (magic _) = 1
 
+  -- the steps of a row
   pub row_weight : (List Ident → ℕ) → StmtRow → ℕ
   row_weight within nothing = 0
   row_weight within (then first others) = stmt_weight within first + row_weight within others
 
+  -- the steps of blocks, all of them
   pub block_weight : (List Ident → ℕ) → BlockRow → ℕ
   block_weight within nowhere = 0
   block_weight within (or_else first others) = row_weight within first + block_weight within others

@@ -4,5 +4,7 @@ use Rattle.tm_verdicts.proofs.drivers_pass_part_by_part.Goals as goal
 
 pub returns : goal.returns
 returns c =
-    λ d answers cert same waits.
-    (parts_pass d (λ s g move. answers s g ≡ move) cert same, meets_of_parts d (λ s g move. answers s g ≡ move) cert same waits)
+    λ d answers cert same waits. (
+      parts_pass d (λ s g move. answers s g ≡ move) cert same,
+      meets_of_parts d (λ s g move. answers s g ≡ move) cert same waits,
+    )

@@ -12,7 +12,8 @@ fail-requires-clause-failed c =
 
 pub fail-requires-clause-guard : goal.fail-requires-clause-guard
 fail-requires-clause-guard c =
-    term_along c.value_operand.new.terms c.denial.new.terms 1 c.in_ok-tested.tested.flow.guard c.in_ok-fails.ensures.grown
+    term_along c.value_operand.new.terms c.denial.new.terms 1 c.in_ok-tested.tested.flow.guard
+    c.in_ok-fails.ensures.grown
     (tested_flow c.args.reader.now (expr_tree c.args.e.now) c.args.terms.now c.value_operand.new.terms c.args.flow
     c.args.ends.now c.value_operand.new.ends c.in_ok-tested.tested c.in_ok-tested.ensures).guard
 

@@ -9,6 +9,8 @@ narrowed-requires-clause-guard c =
 
 pub returns : goal.returns
 returns c = λ at first.
-    assumed_so c.args.reader.now (expr_tree c.args.e.now) c.args.terms.now c.value_operand.new.terms c.args.flow c.args.ends.now
-    c.value_operand.new.ends c.in_ok-tested.tested c.in_ok-tested.ensures at first c.narrowed.new.terms c.in_ok-goes.goes
+    assumed_so c.args.reader.now (expr_tree c.args.e.now) c.args.terms.now c.value_operand.new.terms c.args.flow
+    c.args.ends.now
+    c.value_operand.new.ends c.in_ok-tested.tested c.in_ok-tested.ensures at first c.narrowed.new.terms
+    c.in_ok-goes.goes
     c.in_ok-goes.ensures

@@ -23,7 +23,8 @@ loop-node-preserved c = λ count each.
     let i : ℕ = c.loop-node.node-index in
     let node : ℕ = get_or below i 0 in
     let within : i < length below = omega arith in
-    let so_far : ℕ = combined (combination_of quantity.Instances) 1 (over (combination_of quantity.Instances) (map count (take i below))) in
+    let so_far : ℕ = combined (combination_of quantity.Instances) 1
+    (over (combination_of quantity.Instances) (map count (take i below))) in
     let told = c.size_at.ensures ∙ each node (at-contained below i node (slice_get-get_or below i 0 within)) in
     let joined : c.saturating_add-size.result ≡ capped (so_far + count node) =
     added so_far (count node) c.loop-node.size c.size_at.result c.saturating_add-size.result
@@ -33,5 +34,6 @@ loop-node-preserved c = λ count each.
 pub returns : goal.returns
 returns c = λ count each.
     c.loop-node.invariant count each
-    ∙ ap (λ ns. capped (combined (combination_of quantity.Instances) 1 (over (combination_of quantity.Instances) (map count ns))))
+    ∙ ap (λ ns. capped (combined (combination_of quantity.Instances) 1
+    (over (combination_of quantity.Instances) (map count ns))))
     (take_all c.loop-node.node-index c.args.below.now (omega arith))

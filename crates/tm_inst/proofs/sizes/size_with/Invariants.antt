@@ -9,4 +9,5 @@ use Rattle.tm_inst.proofs.sizes.size_with.Given as goal
 abbrev pub invariant-loop-node : goal.invariant-loop-node
 invariant-loop-node l =
     (count : ℕ → ℕ) → ((n : ℕ) → Contains l.below n → get_or l.sizes n 0 ≡ capped (count n)) →
-    l.size ≡ capped (combined (combination_of quantity.Instances) 1 (over (combination_of quantity.Instances) (map count (take l.node-index l.below))))
+    l.size ≡ capped (combined (combination_of quantity.Instances) 1
+    (over (combination_of quantity.Instances) (map count (take l.node-index l.below))))

@@ -67,18 +67,23 @@ loop-node-preserved c =
       room = length-set sizes node c.size_with-size.result ∙ room;
       so_far = λ count ones.
           let lower : (n : ℕ) → Contains c.as_slice.result.now n →
-          get_or c.as_slice-in-loop-node.result.now n 0 ≡ capped (whole (combination_of quantity.Instances) graph order c.requires count n) =
+          get_or c.as_slice-in-loop-node.result.now n 0 ≡ capped
+          (whole (combination_of quantity.Instances) graph order c.requires count n) =
           λ n e.
           let before = c.requires.behind i node n at
           (target_edge graph node n (subst (λ (ts : List ℕ). Contains ts n) (sym row) e)) in
           ap (λ (xs : List ℕ). get_or xs n 0) c.as_slice-in-loop-node.ensures.value
           ∙ c.loop-node.invariant.so_far count ones before.0 n before.1 before.2 in
-          let told : c.size_with-size.result ≡ capped (whole (combination_of quantity.Instances) graph order c.requires count node) =
+          let told : c.size_with-size.result ≡ capped (whole (combination_of quantity.Instances) graph order
+          c.requires count node) =
           c.size_with-size.ensures (whole (combination_of quantity.Instances) graph order c.requires count) lower
           ∙ (λ j. capped (combined (combination_of quantity.Instances) (sym (ones node here) j)
-          (over (combination_of quantity.Instances) (map (whole (combination_of quantity.Instances) graph order c.requires count) (sym row j)))))
-          ∙ ap capped (sym (whole_of (combination_of quantity.Instances) graph order c.requires count i node at within)) in
-          totals_more (combination_of quantity.Instances) graph order c.requires count i node c.size_with-size.result sizes at inside told
+          (over (combination_of quantity.Instances) (map (whole (combination_of quantity.Instances) graph order
+          c.requires count) (sym row j)))))
+          ∙ ap capped (sym (whole_of (combination_of quantity.Instances) graph order c.requires count i node at
+          within)) in
+          totals_more (combination_of quantity.Instances) graph order c.requires count i node c.size_with-size.result
+          sizes at inside told
           (c.loop-node.invariant.so_far count ones);
     }
 

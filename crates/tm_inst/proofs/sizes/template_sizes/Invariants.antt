@@ -11,5 +11,6 @@ invariant-loop-node l = record {
   room : length l.sizes.items ≡ length l.graph;
   so_far : (count : ℕ → ℕ) → ((k : ℕ) → k < length l.graph → count k ≡ 1) → (k n : ℕ) → k < l.node-index →
       slice_get l.order k ≡ Some n →
-      get_or l.sizes.items n 0 ≡ capped (over (combination_of quantity.Instances) (map count (nodes_below (length l.order) (graph_of l.graph) n)));
+      get_or l.sizes.items n 0 ≡ capped (over (combination_of quantity.Instances)
+      (map count (nodes_below (length l.order) (graph_of l.graph) n)));
 }

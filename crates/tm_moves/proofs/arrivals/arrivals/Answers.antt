@@ -27,7 +27,8 @@ arrived_on-requires-clause-flows c =
       x,
       far.flow,
       subst (λ (o : Option FlowTerms). IfSome o (IsFlow x c.loop-number.terms))
-          (stop_read ends c.stops-stops.result.now c.loop-number.number c.index-stops-number.result c.stops-stops.ensures
+          (stop_read ends c.stops-stops.result.now c.loop-number.number c.index-stops-number.result
+          c.stops-stops.ensures
           c.loop-number-test.true c.index-stops-number.is)
           ((ends_along x c.args.terms.now c.loop-number.terms ends far.grown c.requires.ends.1).stops
           c.loop-number.number),
@@ -39,7 +40,8 @@ loop-number-preserved c = λ x are.
     let t = c.args.terms.now in
     let there = stop_read ends c.stops-stops.result.now c.loop-number.number c.index-stops-number.result
     c.stops-stops.ensures c.loop-number-test.true c.index-stops-number.is in
-    arrives_on x t c.loop-number.terms c.arrived_on.new.terms c.args.width c.loop-number.number ends c.loop-number.before
+    arrives_on x t c.loop-number.terms c.arrived_on.new.terms c.args.width c.loop-number.number ends
+    c.loop-number.before
     c.in_ok-before.before c.index-stops-number.result there
     (subst (λ (o : Option FlowTerms). IfSome o (IsFlow x t)) there (are.stops c.loop-number.number))
     (c.loop-number.invariant x are) c.in_ok-before.ensures

@@ -14,5 +14,6 @@ returns-in-Some c =
 
 pub returns-in_ok-never-in-None : goal.returns-in_ok-never-in-None
 returns-in_ok-never-in-None c =
-    subst (λ (o : Option TermId). Makes c.args.terms.now c.make.new.terms 1 c.in_ok-never-in-None.never (λ u v. value_at u v o))
+    subst (λ (o : Option TermId). Makes c.args.terms.now c.make.new.terms 1 c.in_ok-never-in-None.never
+    (λ u v. value_at u v o))
     (sym c.in-None.is) c.in_ok-never-in-None.ensures

@@ -38,7 +38,8 @@ somewhere-requires-clause-ending c = c.requires.ending
 pub somewhere-requires-clause-flow : goal.somewhere-requires-clause-flow
 somewhere-requires-clause-flow c =
     subst
-    (λ (o : Option Arrived). IfSome o (λ k. IsFlow (cells_of c.args.self.now.design.now) c.args.course.now.terms k.flow))
+    (λ (o : Option Arrived). IfSome o (λ k. IsFlow (cells_of c.args.self.now.design.now) c.args.course.now.terms
+    k.flow))
     c.in-Some.is c.requires.flow
 
 pub somewhere-requires-clause-last : goal.somewhere-requires-clause-last

@@ -73,5 +73,6 @@ returns-clause-next c =
     c.in_ok-push.ensures.items
     ∙ ap (λ (l : List TermId). l ++ number ∷ [])
     (c.in_ok-extend_from_slice.ensures.items ∙ (λ j. vars j ++ places j)) in
-    next_made t m n (design_tree d) values c.args.mover place c.args.last c.push.new.self.items ids number width are made
+    next_made t m n (design_tree d) values c.args.mover place c.args.last c.push.new.self.items ids number width are
+    made
     is laid

@@ -15,9 +15,11 @@ walk_from-requires-clause-rest c =
     let d = design_tree m.design.now in
     let rows : length c.rows-rows.result.now ≡ length w.locations.rows = ap length c.rows-rows.ensures in
     let none = subst (λ k. NoneEnded (k + 2) c.begin.new.course.ends) rows
-    (none_ended (length c.rows-rows.result.now + 2) c.in_ok-course.field-0 c.begin.new.course.ends c.in_ok-course.ensures
+    (none_ended (length c.rows-rows.result.now + 2) c.in_ok-course.field-0 c.begin.new.course.ends
+    c.in_ok-course.ensures
     c.in_ok-flow.ensures.ends) in
-    work_walks w d m.process c.args.place c.args.course.now.terms c.make.new.terms c.requires.movable c.begin.new.course none
+    work_walks w d m.process c.args.place c.args.course.now.terms c.make.new.terms c.requires.movable
+    c.begin.new.course none
     c.in_ok-always.always c.in_ok-always.ensures c.in_ok-flow.flow c.in_ok-flow.ensures.begins c.requires.work
 
 pub stop_behind-requires-clause-within : goal.stop_behind-requires-clause-within
@@ -27,7 +29,8 @@ stop_behind-requires-clause-within c =
     let d = design_tree m.design.now in
     let rows : length c.rows-rows.result.now ≡ length w.locations.rows = ap length c.rows-rows.ensures in
     let none = subst (λ k. NoneEnded (k + 2) c.begin.new.course.ends) rows
-    (none_ended (length c.rows-rows.result.now + 2) c.in_ok-course.field-0 c.begin.new.course.ends c.in_ok-course.ensures
+    (none_ended (length c.rows-rows.result.now + 2) c.in_ok-course.field-0 c.begin.new.course.ends
+    c.in_ok-course.ensures
     c.in_ok-flow.ensures.ends) in
     let led : ItemsLead w d m.process (rest d m.process c.args.place) c.begin.new.course c.walk_from.new.course
     c.in_ok-flow.flow c.in_ok-left.left = c.in_ok-left.ensures in
@@ -49,13 +52,16 @@ returns c =
     let d = design_tree m.design.now in
     let rows : length c.rows-rows.result.now ≡ length w.locations.rows = ap length c.rows-rows.ensures in
     let none = subst (λ k. NoneEnded (k + 2) c.begin.new.course.ends) rows
-    (none_ended (length c.rows-rows.result.now + 2) c.in_ok-course.field-0 c.begin.new.course.ends c.in_ok-course.ensures
+    (none_ended (length c.rows-rows.result.now + 2) c.in_ok-course.field-0 c.begin.new.course.ends
+    c.in_ok-course.ensures
     c.in_ok-flow.ensures.ends) in
     let led : ItemsLead w d m.process (rest d m.process c.args.place) c.begin.new.course c.walk_from.new.course
     c.in_ok-flow.flow c.in_ok-left.left = c.in_ok-left.ensures in
     let fin = c.stop_behind.new.course in
     let mid = c.walk_from.new.course in
-    process_has_run w d m.process c.args.place c.args.course.now.terms c.make.new.terms c.requires.movable c.begin.new.course none
-    c.in_ok-always.always c.in_ok-always.ensures c.in_ok-flow.flow c.in_ok-flow.ensures.begins mid fin c.in_ok-left.left led
+    process_has_run w d m.process c.args.place c.args.course.now.terms c.make.new.terms c.requires.movable
+    c.begin.new.course none
+    c.in_ok-always.always c.in_ok-always.ensures c.in_ok-flow.flow c.in_ok-flow.ensures.begins mid fin
+    c.in_ok-left.left led
     (subst (λ k. EndsBehind mid.terms fin.terms (k + 1) c.in_ok-left.left mid.ends fin.ends) rows
     c.in_ok-stop_behind.ensures)

@@ -14,13 +14,15 @@ pub returns : goal.returns
 returns c =
     let here = get_within c.args.memory.now.values c.args.number c.requires in
     here.1
-    ∙ sym (is_read (cells_of c.args.self.now.design.now) c.args.memory.now outside c.args.number here.0 c.read.result here.1
+    ∙ sym (is_read (cells_of c.args.self.now.design.now) c.args.memory.now outside c.args.number here.0 c.read.result
+    here.1
     c.read.ensures.value)
     ∙ c.in-Some.is
 
 pub unreachable-requires : goal.unreachable-requires
 unreachable-requires c =
     let here = get_within c.args.memory.now.values c.args.number c.requires in
-    let found = is_read (cells_of c.args.self.now.design.now) c.args.memory.now outside c.args.number here.0 c.read.result here.1
+    let found = is_read (cells_of c.args.self.now.design.now) c.args.memory.now outside c.args.number here.0
+    c.read.result here.1
     c.read.ensures.value in
     let both : None ≡ Some here.0 = sym c.in-None.is ∙ found in cc

@@ -34,4 +34,5 @@ returns-in_ok-left-in-Some c = λ e q has are trail reached.
     (at.depth ∙ m.deep ∙ ap call_depth (sym has.text)) at.reached has are (work_stmts node.work) c.args.course.now
     c.walk_node.new.course c.args.flow c.in_ok-left-in-Some.left
     (subst (λ (w : WalkTables). RowLeads w f (row_of (work_stmts node.work)) c.args.course.now
-    c.walk_node.new.course c.args.flow c.in_ok-left-in-Some.left) c.requires.walker c.in_ok-left-in-Some.ensures) trail reached
+    c.walk_node.new.course c.args.flow c.in_ok-left-in-Some.left) c.requires.walker c.in_ok-left-in-Some.ensures)
+    trail reached

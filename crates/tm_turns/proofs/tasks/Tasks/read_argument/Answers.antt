@@ -63,4 +63,5 @@ returns c = λ cell is.
     (c.first-first.result + 64) c.type_bits-width.result (unwrap_or c.type_size-size.result (2 ^ 64))
     (first_argument d c.first-first.result c.first-first.ensures) c.type_bits-width.ensures.bits
     c.type_size-size.ensures c.args.terms.now c.choice_number.new.terms c.within.new.terms c.args.flow
-    c.in_ok-goes.goes c.in_ok-given.given c.in_ok-number.number c.requires.flow c.in_ok-number.ensures c.in_ok-goes.ensures c.in_ok-given.ensures
+    c.in_ok-goes.goes c.in_ok-given.given c.in_ok-number.number c.requires.flow c.in_ok-number.ensures
+    c.in_ok-goes.ensures c.in_ok-given.ensures

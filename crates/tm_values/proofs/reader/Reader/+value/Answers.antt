@@ -276,7 +276,8 @@ value-shifted-requires t c =
     c.deref-in-Shift.result.now) c.in-Shift.by = search rules in (
       omega (arith, c.decreases, ap expr_size is),
       form_typed c.args.self.now c.args.store.now (expr_tree c.args.e.now) (λ at. trees.shift at
-          c.in-Shift.op (expr_tree c.deref-in-Shift.result.now) c.in-Shift.by) c.in-Shift.field-0 is (ty_of c.args.asked)
+          c.in-Shift.op (expr_tree c.deref-in-Shift.result.now) c.in-Shift.by) c.in-Shift.field-0 is
+          (ty_of c.args.asked)
           c.requires,
     )
 
@@ -444,7 +445,8 @@ value-value-requires-in-Conditional t c =
     let typed = subst (HasTypeAt c.args.self.now (ty_of c.args.asked)) is c.requires in (
       omega (arith, c.decreases, ap expr_size is),
       test_part c.args.self.now (ty_of c.args.asked) c.in-Conditional.field-0 (expr_tree
-          c.deref-in-Conditional.result.now) (expr_tree c.in-Conditional.a.value) (expr_tree c.in-Conditional.b.value) typed,
+          c.deref-in-Conditional.result.now) (expr_tree c.in-Conditional.a.value) (expr_tree c.in-Conditional.b.value)
+          typed,
     )
 
 pub value-returns-in_err-tested-in-Conditional-clause-overrun :

@@ -15,7 +15,8 @@ use Rattle.tm_walk.proofs.walker.Walker.begin_row_in.Goals as goal
 pub returns-in_ok-leave-in-Body-2 : goal.returns-in_ok-leave-in-Body-2
 returns-in_ok-leave-in-Body-2 c = λ start at.
     body_steps (known_by c.args.self.now) start c.args.spot c.args.stand.now at c.args.row
-    (rows.Locals c.as_slice-in-Body.result) (rows.Stmts c.as_slice.result) c.in-Body.body.now c.args.course.now c.args.flow
+    (rows.Locals c.as_slice-in-Body.result) (rows.Stmts c.as_slice.result) c.in-Body.body.now c.args.course.now
+    c.args.flow
     (ap row_tree c.in-Body.is)
     (ap (λ ls. row_of (local_stmts (map local_tree ls))) c.as_slice-in-Body.ensures.value)
     (ap (λ ss. row_of (stmt_trees ss)) c.as_slice.ensures.value) c.requires (stack c.args.waiting.now) _ _

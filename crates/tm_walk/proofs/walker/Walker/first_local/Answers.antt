@@ -28,7 +28,8 @@ assign-requires c =
     subst (λ names. StmtWalks (known_by c.args.self.now) c.args.stand.now
     (trees.assign names None (value_tree x.value)) c.args.course.now c.args.flow) (sym c.from_ref-name.ensures.value)
     (first_walks_on (known_by c.args.self.now) c.args.stand.now
-    (row_of (local_stmts (map local_tree c.args.locals.now))) _ (local_stmt (local_tree x)) c.args.course.now c.args.flow
+    (row_of (local_stmts (map local_tree c.args.locals.now))) _ (local_stmt (local_tree x)) c.args.course.now
+    c.args.flow
     (ap (λ ls. row_of (local_stmts (map local_tree ls)))
     (first-split c.args.locals.now x (omega arith) c.first-item.is)) c.requires)
 

@@ -17,11 +17,13 @@ part-requires-clause-sound c = c.requires.1.standing.sound
 
 pub part-requires-clause-flow : goal.part-requires-clause-flow
 part-requires-clause-flow c =
-    flow_here (known_by c.args.self.now) c.args.stand.now c.requires.1.stand c.args.course.now.terms c.args.flow c.requires.1.standing.stands
+    flow_here (known_by c.args.self.now) c.args.stand.now c.requires.1.stand c.args.course.now.terms c.args.flow
+    c.requires.1.standing.stands
 
 pub part-requires-clause-ends : goal.part-requires-clause-ends
 part-requires-clause-ends c =
-    ends_here (known_by c.args.self.now) c.args.stand.now c.requires.1.stand c.args.course.now.terms c.args.course.now.ends
+    ends_here (known_by c.args.self.now) c.args.stand.now c.requires.1.stand c.args.course.now.terms
+    c.args.course.now.ends
     c.requires.1.standing.ended
 
 pub returns : goal.returns

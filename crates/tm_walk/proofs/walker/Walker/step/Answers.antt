@@ -17,31 +17,36 @@ returns-in-Row c =
     let w = known_by c.args.self.now in
     let start = c.args.start.now in
     subst (λ t. IfOk c.begin_row.result (StepsTo w start (Does w start t c.args.course.now c.args.here)
-    (λ d. todo_weight d w start t) (stack c.args.waiting.now) (stack c.begin_row.new.waiting) c.begin_row.new.course)) (sym c.in-Row.is)
+    (λ d. todo_weight d w start t) (stack c.args.waiting.now) (stack c.begin_row.new.waiting) c.begin_row.new.course))
+    (sym c.in-Row.is)
     c.begin_row.ensures
 
 pub begin_second-requires : goal.begin_second-requires
 begin_second-requires c =
-    subst (λ t. Asks (known_by c.args.self.now) c.args.start.now t c.args.course.now c.args.here) c.in-Second.is c.requires
+    subst (λ t. Asks (known_by c.args.self.now) c.args.start.now t c.args.course.now c.args.here) c.in-Second.is
+    c.requires
 
 pub returns-in-Second : goal.returns-in-Second
 returns-in-Second c =
     let w = known_by c.args.self.now in
     let start = c.args.start.now in
     subst (λ t. IfOk c.begin_second.result (StepsTo w start (Does w start t c.args.course.now c.args.here)
-    (λ d. todo_weight d w start t) (stack c.args.waiting.now) (stack c.begin_second.new.waiting) c.args.course.now)) (sym c.in-Second.is)
+    (λ d. todo_weight d w start t) (stack c.args.waiting.now) (stack c.begin_second.new.waiting) c.args.course.now))
+    (sym c.in-Second.is)
     c.begin_second.ensures
 
 pub next_alternative-requires : goal.next_alternative-requires
 next_alternative-requires c =
-    subst (λ t. Asks (known_by c.args.self.now) c.args.start.now t c.args.course.now c.args.here) c.in-Alternatives.is c.requires
+    subst (λ t. Asks (known_by c.args.self.now) c.args.start.now t c.args.course.now c.args.here) c.in-Alternatives.is
+    c.requires
 
 pub returns-in-Alternatives : goal.returns-in-Alternatives
 returns-in-Alternatives c =
     let w = known_by c.args.self.now in
     let start = c.args.start.now in
     subst (λ t. IfOk c.next_alternative.result (StepsTo w start (Does w start t c.args.course.now c.args.here)
-    (λ d. todo_weight d w start t) (stack c.args.waiting.now) (stack c.next_alternative.new.waiting) c.next_alternative.new.course)) (sym c.in-Alternatives.is)
+    (λ d. todo_weight d w start t) (stack c.args.waiting.now) (stack c.next_alternative.new.waiting)
+    c.next_alternative.new.course)) (sym c.in-Alternatives.is)
     c.next_alternative.ensures
 
 pub join-requires-clause-sound : goal.join-requires-clause-sound

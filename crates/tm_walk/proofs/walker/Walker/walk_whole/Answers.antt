@@ -16,7 +16,8 @@ loop-next-init c =
 
 pub step-requires : goal.step-requires
 step-requires c =
-    next_asks (known_by c.args.self.now) c.args.start.now (stack c.loop-next.waiting) (stack c.next.new.self) c.in-Some.next
+    next_asks (known_by c.args.self.now) c.args.start.now (stack c.loop-next.waiting) (stack c.next.new.self)
+    c.in-Some.next
     c.loop-next.course c.loop-next.here
     (RowGoal (known_by c.args.self.now) c.args.start.now (row_tree c.args.row) c.args.course.now c.args.flow)
     c.in-Some.ensures.next c.loop-next.invariant
