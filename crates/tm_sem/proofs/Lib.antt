@@ -9,6 +9,7 @@ pub mod Falling
 pub mod Firsts
 pub mod Levels
 pub mod Losing
+pub mod Numbered
 pub mod Starving
 pub mod StateOrder
 pub mod Staying

@@ -54,6 +54,10 @@ IsMet d s (of_text item) = IsTrue (fair_holds d s item)
 abbrev pub IsFair : DesignTree → StateData → ℕ → Type 0
 IsFair d s i = (c : Condition) × (slice_get (conditions d) i ≡ Some c) × IsMet d s c
 
+-- each fairness condition holds at a state or does not: needed where a number is to be found from it
+abbrev pub IsFairOrNot : DesignTree → StateData → Type 0
+IsFairOrNot d s = (i : ℕ) → IsFair d s i ⊎ (¬ IsFair d s i)
+
 -- a condition holds at some state of a list
 abbrev pub IsMetAmong : DesignTree → List StateData → ℕ → Type 0
 IsMetAmong d states i =

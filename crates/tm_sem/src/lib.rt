@@ -14,7 +14,7 @@ ghost use Rattle.tm_sem.specs.First.{IsFirst};
 ghost use Rattle.tm_sem.specs.Step.{IsInitial, Step};
 ghost use Rattle.tm_sem.specs.Play.{Entry, last_state, stutter, IsPlay, goal_holds};
 ghost use Rattle.tm_sem.specs.Forcing.{Forced, Stays};
-ghost use Rattle.tm_sem.specs.Fairness.{conditions, Rounds, HasRounds};
+ghost use Rattle.tm_sem.specs.Fairness.{conditions, IsFairOrNot, Rounds, HasRounds};
 ghost use Rattle.tm_sem.specs.Strategy.{IsDriven, states_of, Good};
 ghost use Rattle.tm_sem.specs.Loss.{Beats, Lost};
 ghost use Rattle.tm_sem.specs.StateBits.{comes_before, weight_order};
@@ -55,6 +55,17 @@ pub fn writes_past_the_end_are_errors()
 pub fn plays_can_be_extended()
     ensures { (d : DesignTree) (first : StateData) (entries : List Entry) → IsPlay d first entries
         → IsPlay d first (entries ++ stutter (last_state first entries) ∷ []) }
+{}
+
+/// No stretch is without a number of rounds, and none has two. Where each condition is known to hold or not at each of
+/// its states, the number is found.
+#[tactic(auto, using(crate::proofs::Numbered::some_number, crate::proofs::Numbered::number_of_rounds, crate::proofs::Numbered::one_number))]
+pub fn stretches_have_one_number_of_rounds()
+    ensures some { (d : DesignTree) (stretch : List StateData) → ¬ ((n : ℕ) → ¬ Rounds d n stretch) }
+    ensures found { (d : DesignTree) (stretch : List StateData) → AllByRecursion (IsFairOrNot d) stretch
+        → (n : ℕ) × Rounds d n stretch }
+    ensures one { (d : DesignTree) (n k : ℕ) (stretch : List StateData) → Rounds d n stretch → Rounds d k stretch
+        → n ≡ k }
 {}
 
 /// The rounds of a stretch are as many parts of it as there can be, one behind the other, of which each meets every
