@@ -19,10 +19,10 @@ use Rattle.tm_sets.specs.Sets.{driver_sets, level_sets, levels_of}
 use Rattle.tm_syntax.specs.Design.{DesignTree}
 use Rattle.tm_verdicts.specs.declared.verdict.Verdict.{Verdict}
 use Rattle.tm_verdicts.specs.declared.verdict.Verdict.TheVariants as verdicts
-use Rattle.tm_commands.specs.declared.ending.Ending.{Ending}
-use Rattle.tm_commands.specs.declared.ending.Ending.TheVariants.{Usage, Generated}
-use Rattle.tm_commands.specs.declared.ending.Ending.TheVariants.{Accepted, AcceptedEnvironment}
-use Rattle.tm_commands.specs.declared.ending.Failure.{Failure}
+use Rattle.tm_report.specs.declared.ending.Ending.{Ending}
+use Rattle.tm_report.specs.declared.ending.Ending.TheVariants.{Usage, Generated}
+use Rattle.tm_report.specs.declared.ending.Ending.TheVariants.{Accepted, AcceptedEnvironment}
+use Rattle.tm_report.specs.declared.ending.Failure.{Failure}
 use Rattle.tm_commands.specs.Check.{TellsDriver, NoDriver, no_design, no_blocks, no_cert, driver_end}
 use Rattle.tm_commands.specs.Check.{CheckDriverEnds, unread_driver, judged_driver, CheckDriverMayEnd}
 use Rattle.tm_commands.specs.Check.{may_refuse_design, may_refuse_blocks, may_refuse_cert, may_judge_driver}

@@ -14,13 +14,13 @@ use Rattle.tm_cert.specs.Judge.{judge_text}
 use Rattle.tm_cert.specs.Judged.{IsRefusalOf}
 use Rattle.tm_cert.proofs.Texts.{judge_text-complete}
 use Rattle.tm_shape.specs.Shape.{shape_of}
-use Rattle.tm_commands.specs.declared.ending.Bad.TheVariants.{Cert}
-use Rattle.tm_commands.specs.declared.ending.Ending.{Ending}
-use Rattle.tm_commands.specs.declared.ending.Ending.TheVariants.{BadText}
-use Rattle.tm_commands.specs.declared.ending.Failure.{Failure}
-use Rattle.tm_commands.specs.declared.ending.Failure.TheVariants.{ReadFault, WriteFault, Memory}
-use Rattle.tm_commands.specs.declared.ending.Stop.{Stop}
-use Rattle.tm_commands.specs.declared.ending.Stop.TheVariants.{Ends, Fails}
+use Rattle.tm_report.specs.declared.ending.Bad.TheVariants.{Cert}
+use Rattle.tm_report.specs.declared.ending.Ending.{Ending}
+use Rattle.tm_report.specs.declared.ending.Ending.TheVariants.{BadText}
+use Rattle.tm_report.specs.declared.ending.Failure.{Failure}
+use Rattle.tm_report.specs.declared.ending.Failure.TheVariants.{ReadFault, WriteFault, Memory}
+use Rattle.tm_commands.specs.declared.stop.Stop.{Stop}
+use Rattle.tm_commands.specs.declared.stop.Stop.TheVariants.{Ends, Fails}
 use Rattle.tm_commands.specs.World.{FilesData}
 use Rattle.tm_commands.specs.Inputs.{TellsSpecification, TellsCert, NoCert, long_cert, bad_cert, RefusesCert}
 use Rattle.tm_commands.specs.Inputs.{refuses_bad_cert}

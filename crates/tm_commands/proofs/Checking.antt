@@ -12,19 +12,21 @@ use Rattle.tm_sets.specs.Sets.{driver_sets}
 use Rattle.tm_syntax.specs.Design.{DesignTree}
 use Rattle.tm_verdicts.specs.declared.verdict.Verdict.{Verdict}
 use Rattle.tm_verdicts.specs.declared.verdict.Verdict.TheVariants as verdicts
-use Rattle.tm_commands.specs.declared.ending.Ending.{Ending}
-use Rattle.tm_commands.specs.declared.ending.Failure.{Failure}
-use Rattle.tm_commands.specs.declared.ending.Stop.{Stop}
+use Rattle.tm_report.specs.declared.ending.Ending.{Ending}
+use Rattle.tm_report.specs.declared.ending.Failure.{Failure}
+use Rattle.tm_commands.specs.declared.stop.Stop.{Stop}
 use Rattle.tm_commands.specs.Check.{TellsDriver, NoDriver, no_design, no_blocks, no_cert, driver_end, driver_text}
 use Rattle.tm_commands.specs.Check.{CheckDriverEnds, unread_driver, judged_driver, CheckDriverMayEnd}
 use Rattle.tm_commands.specs.Check.{may_judge_driver}
 use Rattle.tm_commands.specs.Headline.{IsLongShown}
 use Rattle.tm_commands.specs.Order.{IsDueOfThree}
 use Rattle.tm_commands.specs.Words.{check_driver}
-use Rattle.tm_commands.specs.World.{FilesData, SinkData, OnlyReads}
+use Rattle.tm_commands.specs.World.{FilesData, OnlyReads}
+use Rattle.tm_report.specs.Output.{SinkData}
 use Rattle.tm_commands.specs.Inner.Judging.{HasCutDriver, HasJudgedDriver, IsDriverRead, IsVerdictOn}
 use Rattle.tm_commands.specs.Inner.Obeying.{Obeys}
-use Rattle.tm_commands.specs.Inner.Stopping.{StopsBy, stop_outcome, IsLoadFailure, IsRefusal, IsSinkFailure}
+use Rattle.tm_commands.specs.Inner.Stopping.{StopsBy, stop_outcome, IsLoadFailure, IsRefusal}
+use Rattle.tm_report.specs.Putting.{IsSinkFailure}
 use Rattle.tm_commands.proofs.Certifying.{cert_of, cert_read, no_cert_of, one_no_cert, told_cert}
 use Rattle.tm_commands.proofs.Completing.{blocks_of, blocks_read, no_blocks_of, one_no_blocks, told_blocks}
 use Rattle.tm_commands.proofs.Running.{cut_obeys, put_obeys, stopped_obeys}

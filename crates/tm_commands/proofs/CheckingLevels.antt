@@ -12,20 +12,22 @@ use Rattle.tm_sets.specs.Sets.{levels_of}
 use Rattle.tm_syntax.specs.Design.{DesignTree}
 use Rattle.tm_verdicts.specs.declared.verdict.Verdict.{Verdict}
 use Rattle.tm_verdicts.specs.declared.verdict.Verdict.TheVariants as verdicts
-use Rattle.tm_commands.specs.declared.ending.Ending.{Ending}
-use Rattle.tm_commands.specs.declared.ending.Failure.{Failure}
-use Rattle.tm_commands.specs.declared.ending.Stop.{Stop}
+use Rattle.tm_report.specs.declared.ending.Ending.{Ending}
+use Rattle.tm_report.specs.declared.ending.Failure.{Failure}
+use Rattle.tm_commands.specs.declared.stop.Stop.{Stop}
 use Rattle.tm_commands.specs.Check.{TellsEnvironment, NoEnvironment, no_spec, no_levels, environment_end}
 use Rattle.tm_commands.specs.Check.{environment_text, CheckEnvironmentEnds, unread_environment, judged_environment}
 use Rattle.tm_commands.specs.Check.{CheckEnvironmentMayEnd, may_judge_environment}
 use Rattle.tm_commands.specs.Headline.{IsLongShown}
 use Rattle.tm_commands.specs.Order.{IsDueOfTwo}
 use Rattle.tm_commands.specs.Words.{check_environment}
-use Rattle.tm_commands.specs.World.{FilesData, SinkData, OnlyReads}
+use Rattle.tm_commands.specs.World.{FilesData, OnlyReads}
+use Rattle.tm_report.specs.Output.{SinkData}
 use Rattle.tm_commands.specs.Inner.Judging.{HasCutEnvironment, HasJudgedEnvironment, IsEnvironmentRead}
 use Rattle.tm_commands.specs.Inner.Judging.{IsVerdictOnLevels}
 use Rattle.tm_commands.specs.Inner.Obeying.{Obeys}
-use Rattle.tm_commands.specs.Inner.Stopping.{StopsBy, stop_outcome, IsLoadFailure, IsRefusal, IsSinkFailure}
+use Rattle.tm_commands.specs.Inner.Stopping.{StopsBy, stop_outcome, IsLoadFailure, IsRefusal}
+use Rattle.tm_report.specs.Putting.{IsSinkFailure}
 use Rattle.tm_commands.proofs.Certifying.{cert_of, cert_read, no_cert_of, one_no_cert, told_cert}
 use Rattle.tm_commands.proofs.Running.{cut_obeys, put_obeys, stopped_obeys}
 use Rattle.tm_commands.proofs.Telling.{one_no_specification, specification_read, told_specification}

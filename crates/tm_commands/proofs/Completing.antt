@@ -10,9 +10,9 @@ use Rattle.tm_cparse.specs.declared.bad.BadDriver.{BadDriver}
 use Rattle.tm_cparse.specs.Faults.{IsDriverFile, HasFault}
 use Rattle.tm_cparse.proofs.Files.{file_no_fault}
 use Rattle.tm_cparse.proofs.OneFault.{one_fault}
-use Rattle.tm_commands.specs.declared.ending.Ending.{Ending}
-use Rattle.tm_commands.specs.declared.ending.Ending.TheVariants.{Play, BadText}
-use Rattle.tm_commands.specs.declared.ending.Bad.TheVariants.{Driver, Choices}
+use Rattle.tm_report.specs.declared.ending.Ending.{Ending}
+use Rattle.tm_report.specs.declared.ending.Ending.TheVariants.{Play, BadText}
+use Rattle.tm_report.specs.declared.ending.Bad.TheVariants.{Driver, Choices}
 use Rattle.tm_play.specs.declared.ending.PlayEnd.{PlayEnd}
 use Rattle.tm_play.specs.Script.{ScriptData}
 use Rattle.tm_play.specs.Choices.{reading_of}

@@ -11,14 +11,14 @@ use Rattle.tm_sets.specs.Sets.{levels_of}
 use Rattle.tm_syntax.specs.Design.{DesignTree}
 use Rattle.tm_syntax.proofs.Limits as limits
 use Rattle.tm_verdicts.specs.declared.verdict.Verdict.{Verdict}
-use Rattle.tm_commands.specs.declared.ending.Ending.{Ending}
-use Rattle.tm_commands.specs.declared.ending.Failure.{Failure}
+use Rattle.tm_report.specs.declared.ending.Ending.{Ending}
+use Rattle.tm_report.specs.declared.ending.Failure.{Failure}
 use Rattle.tm_commands.specs.Check.{driver_end, driver_text, environment_end, environment_text}
-use Rattle.tm_commands.specs.World.{SinkData}
+use Rattle.tm_report.specs.Output.{SinkData}
 use Rattle.tm_commands.specs.Inner.Counting.{greatest, longest_in}
 use Rattle.tm_commands.specs.Inner.Judging.{HasCutDriver, HasCutEnvironment, HasJudgedDriver, HasJudgedEnvironment}
 use Rattle.tm_commands.specs.Inner.Judging.{IsVerdictOn, IsVerdictOnLevels}
-use Rattle.tm_commands.specs.Inner.Putting.{HasPut}
+use Rattle.tm_report.specs.Putting.{HasPut}
 use Rattle.tm_commands.proofs.Counting.{longest_told}
 
 -- there are few goals

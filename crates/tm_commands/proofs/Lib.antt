@@ -9,8 +9,6 @@ mod Judging
 mod Loading
 mod Migrating
 mod Options
-mod PutLines
-mod Putting
 mod Reading
 mod Reporting
 mod Running

@@ -6,19 +6,14 @@ use Rattle.tm_base.specs.Files.{IsLonger}
 use Rattle.tm_base.specs.Count.{Rose, RoseBy}
 use Rattle.tm_base.specs.declared.files.Files.{Ghosts as FilesGhosts}
 use Rattle.tm_syntax.specs.Faults.{too_long}
-use Rattle.tm_commands.specs.declared.ending.Ending.{Ending}
-use Rattle.tm_commands.specs.declared.ending.Failure.TheVariants.{ReadFault, WriteFault, Memory}
-use Rattle.tm_commands.specs.declared.ending.Stop.{Stop}
-use Rattle.tm_commands.specs.declared.ending.Stop.TheVariants.{Ends, Fails}
+use Rattle.tm_report.specs.declared.ending.Ending.{Ending}
+use Rattle.tm_report.specs.declared.ending.Failure.TheVariants.{ReadFault, WriteFault, Memory}
+use Rattle.tm_commands.specs.declared.stop.Stop.{Stop}
+use Rattle.tm_commands.specs.declared.stop.Stop.TheVariants.{Ends, Fails}
 use Rattle.tm_commands.specs.World.{FilesData, files_data, OnlyReads}
 use Rattle.tm_commands.specs.Inputs.{TellsFault}
 use Rattle.tm_commands.specs.Headline.{long_fault, IsLongShown}
 use Rattle.tm_commands.specs.Inner.Stopping.{StopsBy, IsLoadFailure, IsReadFailure, IsMemory, IsRefusal}
-
--- a count that rose later rose before
-pub rose_later : (last : Option ℕ) (a b c : ℕ) → a ≤ b → Rose last b c → Rose last a c
-rose_later None a b c le rose = omega arith
-rose_later (Some l) a b c le rose = omega arith
 
 -- a file that is refused by this end stops a command
 pub refused_by : {C N : Ending → Type 0} {old new : FilesData} (name : List ℕ) (ending : Ending)

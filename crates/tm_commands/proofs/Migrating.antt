@@ -1,12 +1,13 @@
 -- The end of `migrate` is one, and how it is stopped.
 use Rattle.std.proofs.Common.{◌≡◌, ℕ, Option, Some, Result, Err, List, [], ◌∷◌, refl}
 use Rattle.tm_cert.specs.declared.shape.Kind.TheVariants.{Either}
-use Rattle.tm_commands.specs.declared.ending.Ending.{Ending}
-use Rattle.tm_commands.specs.declared.ending.Failure.{Failure}
-use Rattle.tm_commands.specs.declared.ending.Failure.TheVariants.{Memory}
-use Rattle.tm_commands.specs.declared.ending.Stop.{Stop}
+use Rattle.tm_report.specs.declared.ending.Ending.{Ending}
+use Rattle.tm_report.specs.declared.ending.Failure.{Failure}
+use Rattle.tm_report.specs.declared.ending.Failure.TheVariants.{Memory}
+use Rattle.tm_commands.specs.declared.stop.Stop.{Stop}
 use Rattle.tm_commands.specs.Words.{migrate}
-use Rattle.tm_commands.specs.World.{FilesData, SinkData, OnlyReads}
+use Rattle.tm_commands.specs.World.{FilesData, OnlyReads}
+use Rattle.tm_report.specs.Output.{SinkData}
 use Rattle.tm_commands.specs.Inputs.{refuses_specification, refuses_long_cert, refuses_bad_cert}
 use Rattle.tm_commands.specs.Migrate.{MigrateEnds, no_spec, no_cert, migrates, MigrateRefuses, refuses_spec}
 use Rattle.tm_commands.specs.Migrate.{refuses_cert, may_be_refused, MigrateLeaves}

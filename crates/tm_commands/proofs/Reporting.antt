@@ -6,19 +6,20 @@ use Rattle.std.proofs.lemmas.List.{append-nil, take_all}
 use Rattle.tm_base.specs.Count.{Rose}
 use Rattle.tm_base.specs.Sink.{AppendsPrefix}
 use Rattle.tm_base.specs.declared.sink.Sink.{Ghosts as SinkGhosts}
-use Rattle.tm_commands.specs.declared.ending.Ending.{Ending}
-use Rattle.tm_commands.specs.declared.ending.Failure.{Failure}
-use Rattle.tm_commands.specs.declared.ending.Failure.TheVariants.{ReadFault, WriteFault, Memory}
+use Rattle.tm_report.specs.declared.ending.Ending.{Ending}
+use Rattle.tm_report.specs.declared.ending.Failure.{Failure}
+use Rattle.tm_report.specs.declared.ending.Failure.TheVariants.{ReadFault, WriteFault, Memory}
 use Rattle.tm_commands.specs.Words.{Command}
-use Rattle.tm_commands.specs.World.{FilesData, SinkData, sink_data}
+use Rattle.tm_commands.specs.World.{FilesData}
+use Rattle.tm_report.specs.Output.{SinkData, sink_data}
 use Rattle.tm_commands.specs.Commands.{read_names, IsCommandPart, MayEnd}
-use Rattle.tm_commands.specs.Report.{ending_text, failure_text, outcome_text}
+use Rattle.tm_report.specs.Report.{ending_text, failure_text, outcome_text}
 use Rattle.tm_commands.specs.Headline.{AreTold, HasCause, IsComplete, IsShown, IsLongShown, LeavesUnreported}
 use Rattle.tm_commands.specs.Headline.{came_to_end, failed_to_read, failed_to_write, Leaves, whole_report}
 use Rattle.tm_commands.specs.Headline.{fault_report, part_report, IsCut, Takes, Reports, EndsWithLines, KeepsFiles}
-use Rattle.tm_commands.specs.Inner.Stopping.{IsSinkFailure}
+use Rattle.tm_report.specs.Putting.{IsSinkFailure}
 use Rattle.tm_commands.specs.Inner.Obeying.{PutBefore, Obeys}
-use Rattle.tm_commands.proofs.Loading.{rose_later}
+use Rattle.tm_report.proofs.Counts.{rose_later}
 use Rattle.tm_commands.proofs.Running.{are_told}
 use Rattle.tm_play.proofs.Putting.{cut_more}
 

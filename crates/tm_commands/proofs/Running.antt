@@ -7,22 +7,24 @@ use Rattle.std.proofs.lemmas.List.{append-nil}
 use Rattle.tm_base.specs.Sink.{AppendsPrefix}
 use Rattle.tm_syntax.specs.Design.{DesignTree}
 use Rattle.tm_cir.specs.Tree.{BlockTree}
-use Rattle.tm_commands.specs.declared.ending.Ending.{Ending}
-use Rattle.tm_commands.specs.declared.ending.Ending.TheVariants.{Usage, Play}
-use Rattle.tm_commands.specs.declared.ending.Failure.{Failure}
-use Rattle.tm_commands.specs.declared.ending.Stop.{Stop}
-use Rattle.tm_commands.specs.declared.ending.Stop.TheVariants as stops_at
-use Rattle.tm_commands.specs.declared.ending.Failure.TheVariants.{ReadFault, WriteFault, Memory}
+use Rattle.tm_report.specs.declared.ending.Ending.{Ending}
+use Rattle.tm_report.specs.declared.ending.Ending.TheVariants.{Usage, Play}
+use Rattle.tm_report.specs.declared.ending.Failure.{Failure}
+use Rattle.tm_commands.specs.declared.stop.Stop.{Stop}
+use Rattle.tm_commands.specs.declared.stop.Stop.TheVariants as stops_at
+use Rattle.tm_report.specs.declared.ending.Failure.TheVariants.{ReadFault, WriteFault, Memory}
 use Rattle.tm_play.specs.Script.{ScriptData}
 use Rattle.tm_commands.specs.Words.{Command, run, check_driver, check_environment, generate, migrate}
-use Rattle.tm_commands.specs.World.{FilesData, SinkData, OnlyReads, OnlyTouches}
+use Rattle.tm_commands.specs.World.{FilesData, OnlyReads, OnlyTouches}
+use Rattle.tm_report.specs.Output.{SinkData}
 use Rattle.tm_play.specs.declared.ending.PlayEnd.{PlayEnd}
 use Rattle.tm_play.specs.Played.{Ends, IsPart}
 use Rattle.tm_commands.specs.Run.{Loads, Refused, refused, ended, some_lines, no_line, RunMayEnd, may_play}
 use Rattle.tm_commands.specs.Commands.{read_names, write_names, CommandEnds, IsCommandPart, MayEnd, CommandLeaves}
 use Rattle.tm_commands.specs.Headline.{AreTold, IsLongShown, IsShown, wrote_none, Leaves}
 use Rattle.tm_commands.specs.Order.{IsDue, IsDueOfThree}
-use Rattle.tm_commands.specs.Inner.Stopping.{StopsBy, stop_outcome, IsLoadFailure, IsSinkFailure, IsRefusal}
+use Rattle.tm_commands.specs.Inner.Stopping.{StopsBy, stop_outcome, IsLoadFailure, IsRefusal}
+use Rattle.tm_report.specs.Putting.{IsSinkFailure}
 use Rattle.tm_commands.specs.Inner.Obeying.{PutBefore, Obeys}
 use Rattle.tm_play.proofs.Putting.{cut_nothing}
 use Rattle.tm_commands.proofs.Completing.{one_run_end}

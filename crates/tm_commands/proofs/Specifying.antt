@@ -8,8 +8,8 @@ use Rattle.tm_syntax.specs.declared.token.Token.{Token}
 use Rattle.tm_syntax.specs.Limits.{specification_limit}
 use Rattle.tm_syntax.specs.Design.{DesignTree}
 use Rattle.tm_syntax.specs.Faults.{FaultOf, IsOfText}
-use Rattle.tm_commands.specs.declared.ending.Ending.TheVariants.{Faulty}
-use Rattle.tm_commands.specs.declared.ending.Stop.{Stop}
+use Rattle.tm_report.specs.declared.ending.Ending.TheVariants.{Faulty}
+use Rattle.tm_commands.specs.declared.stop.Stop.{Stop}
 use Rattle.tm_commands.specs.World.{FilesData}
 use Rattle.tm_commands.specs.Headline.{long_fault}
 use Rattle.tm_front.specs.Specification.{IsDesignText, IsMemoryOr}

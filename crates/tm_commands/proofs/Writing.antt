@@ -13,11 +13,12 @@ use Rattle.tm_cert.specs.CertValue.{IsCert, IsCertText}
 use Rattle.tm_cert.specs.Written.{cert_text}
 use Rattle.tm_gen.specs.Generated.{generated_text}
 use Rattle.tm_shape.specs.Shape.{shape_of}
-use Rattle.tm_commands.specs.declared.ending.Ending.TheVariants.{Generated, Migrated}
-use Rattle.tm_commands.specs.declared.ending.Failure.{Failure}
-use Rattle.tm_commands.specs.declared.ending.Failure.TheVariants.{ReadFault, WriteFault, Memory}
+use Rattle.tm_report.specs.declared.ending.Ending.TheVariants.{Generated, Migrated}
+use Rattle.tm_report.specs.declared.ending.Failure.{Failure}
+use Rattle.tm_report.specs.declared.ending.Failure.TheVariants.{ReadFault, WriteFault, Memory}
 use Rattle.tm_commands.specs.Words.{Command, generate, migrate}
-use Rattle.tm_commands.specs.World.{FilesData, SinkData, files_data, OnlyReads, OnlyWrites, OnlyTouches}
+use Rattle.tm_commands.specs.World.{FilesData, files_data, OnlyReads, OnlyWrites, OnlyTouches}
+use Rattle.tm_report.specs.Output.{SinkData}
 use Rattle.tm_commands.specs.Commands.{read_names, write_names, IsCommandPart}
 use Rattle.tm_commands.specs.Migrate.{migrates, may_migrate}
 use Rattle.tm_commands.specs.Headline.{IsShown, Leaves}

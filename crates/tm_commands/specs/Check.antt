@@ -13,11 +13,11 @@ use Rattle.tm_sets.specs.Sets.{driver_sets, levels_of}
 use Rattle.tm_syntax.specs.Design.{DesignTree}
 use Rattle.tm_verdicts.specs.declared.verdict.Verdict.{Verdict}
 use Rattle.tm_verdicts.specs.declared.verdict.Verdict.TheVariants as verdicts
-use Rattle.tm_commands.specs.declared.ending.Ending.{Ending}
-use Rattle.tm_commands.specs.declared.ending.Ending.TheVariants.{Accepted, AcceptedEnvironment, Refused}
+use Rattle.tm_report.specs.declared.ending.Ending.{Ending}
+use Rattle.tm_report.specs.declared.ending.Ending.TheVariants.{Accepted, AcceptedEnvironment, Refused}
 use Rattle.tm_commands.specs.Inputs.{TellsSpecification, TellsBlocks, TellsCert, NoSpecification, NoBlocks, NoCert}
 use Rattle.tm_commands.specs.Inputs.{RefusesSpecification, RefusesBlocks, RefusesCert}
-use Rattle.tm_commands.specs.Report.{accepted_text, levels_text, refused_text}
+use Rattle.tm_report.specs.Report.{accepted_text, levels_text, refused_text}
 
 -- ---- `check SPEC DRIVER CERT`
 -- the files tell a design, blocks, and a driver's certificate

@@ -1,8 +1,8 @@
 -- The commands: what each reads and writes, how it ends, what it puts on the way, and what its end leaves in the files.
 use Rattle.std.specs.Prelude.{◌≡◌, ◌⊎◌, ℕ, Option, None, Some, List, [], ◌∷◌}
 use Rattle.tm_gen.specs.Generated.{generated_text}
-use Rattle.tm_commands.specs.declared.ending.Ending.{Ending}
-use Rattle.tm_commands.specs.declared.ending.Ending.TheVariants.{Usage, Generated}
+use Rattle.tm_report.specs.declared.ending.Ending.{Ending}
+use Rattle.tm_report.specs.declared.ending.Ending.TheVariants.{Usage, Generated}
 use Rattle.tm_commands.specs.Words.{Command, run, check_driver, check_environment, generate, migrate}
 use Rattle.tm_commands.specs.Check.{CheckDriverEnds, CheckDriverMayEnd, CheckEnvironmentEnds, CheckEnvironmentMayEnd}
 use Rattle.tm_commands.specs.Inputs.{Tells}

@@ -13,16 +13,17 @@ use Rattle.tm_syntax.specs.Limits.{specification_limit, file_limit}
 use Rattle.tm_syntax.specs.Places.{text_start}
 use Rattle.tm_syntax.specs.Faults.{fault}
 use Rattle.tm_syntax.specs.Faults.Limits.{above}
-use Rattle.tm_commands.specs.declared.ending.Bad.TheVariants.{TooLong}
-use Rattle.tm_commands.specs.declared.ending.Ending.{Ending}
-use Rattle.tm_commands.specs.declared.ending.Ending.TheVariants.{Faulty, BadText}
-use Rattle.tm_commands.specs.declared.ending.Failure.{Failure}
-use Rattle.tm_commands.specs.declared.ending.Failure.TheVariants.{ReadFault, WriteFault, Memory}
+use Rattle.tm_report.specs.declared.ending.Bad.TheVariants.{TooLong}
+use Rattle.tm_report.specs.declared.ending.Ending.{Ending}
+use Rattle.tm_report.specs.declared.ending.Ending.TheVariants.{Faulty, BadText}
+use Rattle.tm_report.specs.declared.ending.Failure.{Failure}
+use Rattle.tm_report.specs.declared.ending.Failure.TheVariants.{ReadFault, WriteFault, Memory}
 use Rattle.tm_commands.specs.Words.{Command}
 use Rattle.tm_commands.specs.Commands.{read_names, write_names, CommandEnds, IsCommandPart, CommandLeaves}
 use Rattle.tm_commands.specs.Order.{IsDue, IsWriteDue}
-use Rattle.tm_commands.specs.Report.{ending_text, failure_text, outcome_text}
-use Rattle.tm_commands.specs.World.{FilesData, SinkData, OnlyTouches, HasFailedRead, HasFailedWrite, HasFailedPut}
+use Rattle.tm_report.specs.Report.{ending_text, failure_text, outcome_text}
+use Rattle.tm_commands.specs.World.{FilesData, OnlyTouches, HasFailedRead, HasFailedWrite}
+use Rattle.tm_report.specs.Output.{SinkData, HasFailedPut}
 use Rattle.tm_commands.specs.World.{TookMoreThan}
 
 -- the files tell what they hold, or none of them is read

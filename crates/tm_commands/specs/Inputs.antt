@@ -16,9 +16,9 @@ use Rattle.tm_cert.specs.declared.shape.Kind.{Kind}
 use Rattle.tm_cert.specs.CertValue.{IsCertText}
 use Rattle.tm_cert.specs.Judge.{judge_text}
 use Rattle.tm_shape.specs.Shape.{shape_of}
-use Rattle.tm_commands.specs.declared.ending.Ending.{Ending}
-use Rattle.tm_commands.specs.declared.ending.Ending.TheVariants.{Faulty, BadText}
-use Rattle.tm_commands.specs.declared.ending.Bad.TheVariants.{TooLong, Driver, Cert, Choices}
+use Rattle.tm_report.specs.declared.ending.Ending.{Ending}
+use Rattle.tm_report.specs.declared.ending.Ending.TheVariants.{Faulty, BadText}
+use Rattle.tm_report.specs.declared.ending.Bad.TheVariants.{TooLong, Driver, Cert, Choices}
 use Rattle.tm_play.specs.Script.{ScriptData}
 use Rattle.tm_play.specs.Choices.{reading_of}
 

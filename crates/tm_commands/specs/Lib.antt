@@ -5,7 +5,6 @@ pub mod Inner
 pub mod Inputs
 pub mod Migrate
 pub mod Order
-pub mod Report
 pub mod Run
 pub mod Status
 pub mod Synthesis

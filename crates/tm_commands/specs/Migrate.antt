@@ -6,8 +6,8 @@ use Rattle.tm_cert.specs.declared.shape.Kind.TheVariants.{Either}
 use Rattle.tm_cert.specs.CertValue.{IsCertText}
 use Rattle.tm_cert.specs.Written.{cert_text}
 use Rattle.tm_shape.specs.Shape.{shape_of}
-use Rattle.tm_commands.specs.declared.ending.Ending.{Ending}
-use Rattle.tm_commands.specs.declared.ending.Ending.TheVariants.{Migrated}
+use Rattle.tm_report.specs.declared.ending.Ending.{Ending}
+use Rattle.tm_report.specs.declared.ending.Ending.TheVariants.{Migrated}
 use Rattle.tm_commands.specs.Inputs.{Tells, TellsSpecification, TellsCert, NoSpecification, NoCert}
 use Rattle.tm_commands.specs.Inputs.{RefusesSpecification, RefusesCert}
 

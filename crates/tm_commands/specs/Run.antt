@@ -2,8 +2,8 @@
 use Rattle.std.specs.Prelude.{ℕ, Option, List, []}
 use Rattle.tm_syntax.specs.Design.{DesignTree}
 use Rattle.tm_cir.specs.Tree.{BlockTree}
-use Rattle.tm_commands.specs.declared.ending.Ending.{Ending}
-use Rattle.tm_commands.specs.declared.ending.Ending.TheVariants.{Play}
+use Rattle.tm_report.specs.declared.ending.Ending.{Ending}
+use Rattle.tm_report.specs.declared.ending.Ending.TheVariants.{Play}
 use Rattle.tm_play.specs.declared.ending.PlayEnd.{PlayEnd}
 use Rattle.tm_play.specs.Script.{ScriptData}
 use Rattle.tm_commands.specs.Inputs.{TellsSpecification, TellsBlocks, TellsScript, NoSpecification, NoBlocks, NoScript}

@@ -1,9 +1,9 @@
 -- What a status tells, and with which code the program ends.
 use Rattle.std.specs.Prelude.{ℕ, Result, Ok, Err}
-use Rattle.tm_commands.specs.declared.ending.Ending.{Ending}
-use Rattle.tm_commands.specs.declared.ending.Ending.TheVariants as endings
-use Rattle.tm_commands.specs.declared.ending.Failure.{Failure}
-use Rattle.tm_commands.specs.declared.ending.Failure.TheVariants as failures
+use Rattle.tm_report.specs.declared.ending.Ending.{Ending}
+use Rattle.tm_report.specs.declared.ending.Ending.TheVariants as endings
+use Rattle.tm_report.specs.declared.ending.Failure.{Failure}
+use Rattle.tm_report.specs.declared.ending.Failure.TheVariants as failures
 use Rattle.tm_commands.specs.declared.status.Status.{Status}
 use Rattle.tm_commands.specs.declared.status.Status.TheVariants.{Played, Usage, Faulty, ReadFault, WriteFault, Memory}
 use Rattle.tm_commands.specs.declared.status.Status.TheVariants.{BadText, Stopped, Generated, Migrated}

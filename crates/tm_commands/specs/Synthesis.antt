@@ -11,9 +11,9 @@ use Rattle.tm_sem.specs.State.{StateData}
 use Rattle.tm_sem.specs.Step.{IsInitial}
 use Rattle.tm_sem.specs.Strategy.{Good, IsDriven, states_of}
 use Rattle.tm_syntax.specs.Design.{DesignTree}
-use Rattle.tm_commands.specs.declared.ending.Ending.{Ending}
-use Rattle.tm_commands.specs.declared.ending.Ending.TheVariants.{Accepted, AcceptedEnvironment}
-use Rattle.tm_commands.specs.declared.ending.Failure.{Failure}
+use Rattle.tm_report.specs.declared.ending.Ending.{Ending}
+use Rattle.tm_report.specs.declared.ending.Ending.TheVariants.{Accepted, AcceptedEnvironment}
+use Rattle.tm_report.specs.declared.ending.Failure.{Failure}
 use Rattle.tm_commands.specs.Inputs.{TellsSpecification, TellsBlocks}
 use Rattle.tm_commands.specs.Words.{Command, check_driver, check_environment}
 use Rattle.tm_commands.specs.World.{FilesData}

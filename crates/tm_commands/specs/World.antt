@@ -1,8 +1,7 @@
--- What files and the output show: what they hold, and counts of what went wrong.
+-- What files show: what they hold, and counts of what went wrong.
 use Rattle.std.specs.Prelude.{◌≡◌, ◌≢◌, ℕ, ◌+◌, ◌≤◌, Bool, false, Option, List, [], Contains}
 use Rattle.tm_base.specs.Count.{Rose, RoseBy}
 use Rattle.tm_base.specs.declared.files.Files.{Ghosts as FilesGhosts}
-use Rattle.tm_base.specs.declared.sink.Sink.{Ghosts as SinkGhosts}
 
 -- counts and contents of files, by name; where the files do not tell, nothing is said of the contents
 pub record FilesData : Type 0 where
@@ -13,13 +12,6 @@ pub record FilesData : Type 0 where
   pub write_faults : List ℕ → ℕ
   pub bytes_taken : ℕ
 
--- what the output took, and how many puts failed; where the output does not tell, nothing is said of what it took
-pub record SinkData : Type 0 where
-  pub tells : Bool
-  pub written : List ℕ
-  pub last_count : Option ℕ
-  pub faults : ℕ
-
 -- what these files show
 abbrev pub files_data : {A : Type 0} → FilesGhosts A → A → FilesData
 files_data F files = record {
@@ -29,15 +21,6 @@ files_data F files = record {
   read_faults = F.read_faults files;
   write_faults = F.write_faults files;
   bytes_taken = F.bytes_taken files;
-}
-
--- what this output shows
-abbrev pub sink_data : {A : Type 0} → SinkGhosts A → A → SinkData
-sink_data O out = record {
-  tells = O.tells;
-  written = O.written out;
-  last_count = O.last_count;
-  faults = O.faults out;
 }
 
 -- reads leave all contents and what was counted of writes, and no count falls
@@ -71,10 +54,6 @@ HasFailedRead old new name = Rose old.last_count (old.read_faults name) (new.rea
 -- a write of this file failed, which its count shows
 abbrev pub HasFailedWrite : FilesData → FilesData → List ℕ → Type 0
 HasFailedWrite old new name = Rose old.last_count (old.write_faults name) (new.write_faults name)
-
--- a put failed, which the count shows
-abbrev pub HasFailedPut : SinkData → SinkData → Type 0
-HasFailedPut old new = Rose old.last_count old.faults new.faults
 
 -- where the files do not tell, more bytes than the limit were taken
 abbrev pub TookMoreThan : ℕ → FilesData → FilesData → Type 0

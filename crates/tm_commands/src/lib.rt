@@ -2,14 +2,13 @@
 #![tactic(auto)]
 
 mod commands;
-mod ending;
 mod input;
 mod obeying;
-mod report;
 mod status;
+mod stop;
 mod words;
 
-pub use ending::{Bad, Ending, Failure, Ranks};
 pub use obeying::obey_and_report;
 pub use status::Status;
 pub use tm_play::{PlayEnd, StopWhy};
+pub use tm_report::{Bad, Ending, Failure, Ranks};

@@ -3,7 +3,8 @@ ghost use Rattle.std.specs.Prelude.{Some, map, IfOk, IfErr};
 ghost use Rattle.std.specs.String.{string_bytes};
 ghost use Rattle.tm_commands.specs.Words.{command_of, command_view};
 ghost use Rattle.tm_commands.specs.Commands.{MayEnd};
-ghost use Rattle.tm_commands.specs.World.{files_data, sink_data};
+ghost use Rattle.tm_commands.specs.World.{files_data};
+ghost use Rattle.tm_report.specs.Output.{sink_data};
 ghost use Rattle.tm_commands.specs.Status.{outcome_of};
 ghost use Rattle.tm_commands.specs.Headline.{HasCause, IsComplete, IsShown, IsLongShown, Reports, EndsWithLines};
 ghost use Rattle.tm_commands.specs.Headline.{KeepsFiles};
@@ -15,13 +16,12 @@ use crate::commands::check_environment::check_environment;
 use crate::commands::generate::generate;
 use crate::commands::migrate::migrate;
 use crate::commands::run::run;
-use crate::ending::{Ending, Failure};
-use crate::report::outcome::put_outcome;
 use crate::status::{Status, status_of};
 use crate::words::command::Command;
 use crate::words::reading::read_words;
 use std::alloc::Global;
 use tm_base::{Files, Sink};
+use tm_report::{Ending, Failure, put_outcome};
 
 /// Does what a command says. The lines that tell the outcome are left.
 fn obey<F: Files, O: Sink>(

@@ -2,9 +2,9 @@
 ghost use Rattle.std.specs.Prelude.{◌≡◌};
 ghost use Rattle.tm_commands.specs.Status.{outcome_of};
 
-use crate::ending::{Bad, Ending, Failure, Ranks};
 use tm_base::Name;
 use tm_play::{PlayEnd, StopWhy};
+use tm_report::{Bad, Ending, Failure, Ranks};
 use tm_sem::state::State;
 use tm_syntax::fault::Faulty;
 

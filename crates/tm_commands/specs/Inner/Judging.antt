@@ -12,10 +12,10 @@ use Rattle.tm_sem.specs.Fairness.{conditions}
 use Rattle.tm_sets.specs.Sets.{driver_sets, levels_of}
 use Rattle.tm_syntax.specs.Design.{DesignTree}
 use Rattle.tm_verdicts.specs.declared.verdict.Verdict.{Verdict}
-use Rattle.tm_commands.specs.declared.ending.Ending.{Ending}
+use Rattle.tm_report.specs.declared.ending.Ending.{Ending}
 use Rattle.tm_commands.specs.Check.{TellsDriver, TellsEnvironment, driver_end, driver_text, environment_end}
 use Rattle.tm_commands.specs.Check.{environment_text}
-use Rattle.tm_commands.specs.World.{SinkData}
+use Rattle.tm_report.specs.Output.{SinkData}
 
 -- files were read as blocks and a certificate that can be judged; where the files tell, they are what they tell
 pub record IsDriverRead (tells : Bool) (contents : List ℕ → Option (List ℕ)) (spec driver cert : List ℕ)

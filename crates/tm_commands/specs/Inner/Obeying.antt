@@ -1,13 +1,14 @@
 -- What is promised of a command before the lines that tell its outcome are put.
 use Rattle.std.specs.Prelude.{◌≡◌, ℕ, ◌≤◌, Option, Some, Result, List, [], ◌∷◌, ◌++◌, IsTrue, IfOk, IfErr}
 use Rattle.tm_base.specs.Sink.{AppendsPrefix}
-use Rattle.tm_commands.specs.declared.ending.Ending.{Ending}
-use Rattle.tm_commands.specs.declared.ending.Failure.{Failure}
-use Rattle.tm_commands.specs.declared.ending.Failure.TheVariants.{ReadFault, WriteFault, Memory}
+use Rattle.tm_report.specs.declared.ending.Ending.{Ending}
+use Rattle.tm_report.specs.declared.ending.Failure.{Failure}
+use Rattle.tm_report.specs.declared.ending.Failure.TheVariants.{ReadFault, WriteFault, Memory}
 use Rattle.tm_commands.specs.Words.{Command, command_of}
 use Rattle.tm_commands.specs.Commands.{read_names, CommandEnds, IsCommandPart, MayEnd}
 use Rattle.tm_commands.specs.Headline.{AreTold, IsComplete, IsShown, IsLongShown, KeepsFiles}
-use Rattle.tm_commands.specs.World.{FilesData, SinkData}
+use Rattle.tm_commands.specs.World.{FilesData}
+use Rattle.tm_report.specs.Output.{SinkData}
 
 -- a command that some words spell
 abbrev pub IsSpelled : Command → Type 0

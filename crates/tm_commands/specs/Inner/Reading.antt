@@ -11,12 +11,12 @@ use Rattle.tm_cert.specs.declared.refusal.ReadCertError.TheVariants.{Bad, Memory
 use Rattle.tm_cert.specs.declared.shape.CertShape.{CertShape}
 use Rattle.tm_cert.specs.declared.shape.Kind.TheVariants.{Either}
 use Rattle.tm_shape.specs.Shape.{shape_of}
-use Rattle.tm_commands.specs.declared.ending.Bad.TheVariants as bad_file
-use Rattle.tm_commands.specs.declared.ending.Ending.{Ending}
-use Rattle.tm_commands.specs.declared.ending.Ending.TheVariants as endings
-use Rattle.tm_commands.specs.declared.ending.Failure.TheVariants as failures
-use Rattle.tm_commands.specs.declared.ending.Stop.{Stop}
-use Rattle.tm_commands.specs.declared.ending.Stop.TheVariants.{Ends, Fails}
+use Rattle.tm_report.specs.declared.ending.Bad.TheVariants as bad_file
+use Rattle.tm_report.specs.declared.ending.Ending.{Ending}
+use Rattle.tm_report.specs.declared.ending.Ending.TheVariants as endings
+use Rattle.tm_report.specs.declared.ending.Failure.TheVariants as failures
+use Rattle.tm_commands.specs.declared.stop.Stop.{Stop}
+use Rattle.tm_commands.specs.declared.stop.Stop.TheVariants.{Ends, Fails}
 use Rattle.tm_commands.specs.Inputs.{Tells, TellsSpecification, TellsCert}
 
 -- a file was read as the text of this design; where the files tell, it is what they tell

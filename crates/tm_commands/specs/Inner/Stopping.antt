@@ -1,13 +1,11 @@
 -- What stops a step of a command.
-use Rattle.std.specs.Prelude.{◌≡◌, ℕ, Result, Ok, Err, List, [], IsTrue, Contains}
-use Rattle.tm_base.specs.declared.sink.SinkError.{SinkError}
-use Rattle.tm_base.specs.declared.sink.SinkError.TheVariants as sink
-use Rattle.tm_commands.specs.declared.ending.Ending.{Ending}
-use Rattle.tm_commands.specs.declared.ending.Failure.{Failure}
-use Rattle.tm_commands.specs.declared.ending.Failure.TheVariants.{ReadFault, WriteFault, Memory}
-use Rattle.tm_commands.specs.declared.ending.Stop.{Stop}
-use Rattle.tm_commands.specs.declared.ending.Stop.TheVariants.{Ends, Fails}
-use Rattle.tm_commands.specs.World.{FilesData, SinkData, HasFailedRead, HasFailedWrite, HasFailedPut}
+use Rattle.std.specs.Prelude.{◌≡◌, ℕ, Result, Ok, Err, List, IsTrue, Contains}
+use Rattle.tm_report.specs.declared.ending.Ending.{Ending}
+use Rattle.tm_report.specs.declared.ending.Failure.{Failure}
+use Rattle.tm_report.specs.declared.ending.Failure.TheVariants.{ReadFault, WriteFault, Memory}
+use Rattle.tm_commands.specs.declared.stop.Stop.{Stop}
+use Rattle.tm_commands.specs.declared.stop.Stop.TheVariants.{Ends, Fails}
+use Rattle.tm_commands.specs.World.{FilesData, HasFailedRead, HasFailedWrite}
 use Rattle.tm_commands.specs.Headline.{IsLongShown}
 
 -- an end or a failure for which this holds
@@ -39,12 +37,6 @@ IsWriteFailure name old new Memory = Unit {0}
 IsWriteFailure name old new (ReadFault other) = ⊥
 IsWriteFailure name old new (WriteFault other) = (other ≡ name) × HasFailedWrite old new name
 
--- memory ran out, or a put failed, which its count shows
-abbrev pub IsSinkFailure : SinkData → SinkData → Failure → Type 0
-IsSinkFailure out after Memory = Unit {0}
-IsSinkFailure out after (ReadFault name) = ⊥
-IsSinkFailure out after (WriteFault name) = (name ≡ []) × HasFailedPut out after
-
 -- memory ran out
 abbrev pub IsMemory : Failure → Type 0
 IsMemory Memory = Unit {0}
@@ -55,9 +47,3 @@ pub record IsRefusal (Cause Named : Ending → Type 0) (old new : FilesData) (en
   pub cause : IsTrue old.tells → Cause ending
   pub named : Named ending
   pub long : IsLongShown old new ending
-
--- the failure of a refused `put`
-abbrev pub IsFailureOf : SinkError → Failure → Type 0
-IsFailureOf error Memory = Unit {0}
-IsFailureOf error (WriteFault name) = (name ≡ []) × (error ≡ sink.Failed)
-IsFailureOf error (ReadFault name) = ⊥

@@ -4,20 +4,20 @@ ghost use Rattle.tm_cir.specs.View.{trees_of};
 ghost use Rattle.tm_commands.specs.Check.{driver_end, driver_text};
 ghost use Rattle.tm_commands.specs.Inner.Judging.{HasCutDriver, HasJudgedDriver};
 ghost use Rattle.tm_commands.specs.Inner.Obeying.{Obeys};
-ghost use Rattle.tm_commands.specs.Inner.Putting.{HasPut};
-ghost use Rattle.tm_commands.specs.Inner.Stopping.{IsSinkFailure};
+ghost use Rattle.tm_report.specs.Putting.{HasPut};
+ghost use Rattle.tm_report.specs.Putting.{IsSinkFailure};
 ghost use Rattle.tm_commands.specs.Words.{check_driver as check_words};
-ghost use Rattle.tm_commands.specs.World.{files_data, sink_data};
+ghost use Rattle.tm_commands.specs.World.{files_data};
+ghost use Rattle.tm_report.specs.Output.{sink_data};
 ghost use Rattle.tm_judging.specs.Judged.{CanJudgeDriver};
 ghost use Rattle.tm_syntax.specs.Design.View.{design_tree};
 
-use crate::ending::{Ending, Failure, Ranks};
 use crate::input::driver::{DriverInputs, load_driver};
-use crate::report::verdict::{put_accepted, put_refused};
 use std::alloc::{AllocError, Global};
 use tm_base::{Files, Sink};
 use tm_cert::{DriverCert, Rank};
 use tm_judging::judge_driver;
+use tm_report::{Ending, Failure, Ranks, put_accepted, put_refused};
 use tm_syntax::design::Design;
 use tm_verdicts::Verdict;
 

@@ -4,21 +4,21 @@ ghost use Rattle.tm_commands.specs.Check.{environment_end, environment_text};
 ghost use Rattle.tm_commands.specs.Inner.Counting.{greatest, longest_in};
 ghost use Rattle.tm_commands.specs.Inner.Judging.{HasCutEnvironment, HasJudgedEnvironment};
 ghost use Rattle.tm_commands.specs.Inner.Obeying.{Obeys};
-ghost use Rattle.tm_commands.specs.Inner.Putting.{HasPut};
-ghost use Rattle.tm_commands.specs.Inner.Stopping.{IsSinkFailure};
+ghost use Rattle.tm_report.specs.Putting.{HasPut};
+ghost use Rattle.tm_report.specs.Putting.{IsSinkFailure};
 ghost use Rattle.tm_commands.specs.Words.{check_environment as check_words};
-ghost use Rattle.tm_commands.specs.World.{files_data, sink_data};
+ghost use Rattle.tm_commands.specs.World.{files_data};
+ghost use Rattle.tm_report.specs.Output.{sink_data};
 ghost use Rattle.tm_judging.specs.Judged.{CanJudgeEnvironment};
 ghost use Rattle.tm_sem.specs.Fairness.{conditions};
 ghost use Rattle.tm_syntax.specs.Design.View.{design_tree};
 
-use crate::ending::{Ending, Failure};
 use crate::input::environment::{EnvironmentInputs, load_environment};
-use crate::report::verdict::{put_levels, put_refused};
 use std::alloc::Global;
 use tm_base::{Files, Sink};
 use tm_cert::{CertLevel, EnvCert};
 use tm_judging::judge_environment;
+use tm_report::{Ending, Failure, put_levels, put_refused};
 use tm_syntax::design::Design;
 use tm_verdicts::Verdict;
 

@@ -1,14 +1,15 @@
 //! The command `gen`.
 ghost use Rattle.std.specs.Prelude.{Some};
 ghost use Rattle.tm_commands.specs.Words.{generate as generate_words};
-ghost use Rattle.tm_commands.specs.World.{files_data, sink_data};
+ghost use Rattle.tm_commands.specs.World.{files_data};
+ghost use Rattle.tm_report.specs.Output.{sink_data};
 ghost use Rattle.tm_commands.specs.Inner.Obeying.{IsSpelled, Obeys};
 
 use crate::commands::write::write_file;
-use crate::ending::{Ending, Failure};
 use std::alloc::Global;
 use tm_base::{Files, Sink};
 use tm_gen::GenError;
+use tm_report::{Ending, Failure};
 
 /// Writes the generated specification of so many registers to a file. The line that tells the outcome is left.
 pub fn generate<F: Files, O: Sink>(

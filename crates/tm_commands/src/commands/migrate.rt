@@ -1,15 +1,16 @@
 //! The command `migrate`.
 ghost use Rattle.std.specs.Prelude.{Some};
 ghost use Rattle.tm_commands.specs.Words.{migrate as migrate_words};
-ghost use Rattle.tm_commands.specs.World.{files_data, sink_data};
+ghost use Rattle.tm_commands.specs.World.{files_data};
+ghost use Rattle.tm_report.specs.Output.{sink_data};
 ghost use Rattle.tm_commands.specs.Inner.Obeying.{IsSpelled, Obeys};
 
 use crate::commands::write::write_file;
-use crate::ending::{Ending, Failure};
 use crate::input::migration::load_migration;
 use std::alloc::Global;
 use tm_base::{Files, Sink};
 use tm_cert::write_shaped;
+use tm_report::{Ending, Failure};
 
 /// Reads a certificate for the design of a specification, and writes it to a file in format 2. The line that tells the
 /// outcome is left.

@@ -6,22 +6,22 @@ ghost use Rattle.tm_cir.specs.View.{trees_of};
 ghost use Rattle.tm_cir.specs.Fit.{FitBlocks};
 ghost use Rattle.tm_cir.specs.Tree.{BlockTree};
 ghost use Rattle.tm_commands.specs.Words.{run as run_words};
-ghost use Rattle.tm_commands.specs.World.{files_data, sink_data};
-ghost use Rattle.tm_commands.specs.declared.ending.Ending.TheVariants.{Play};
+ghost use Rattle.tm_commands.specs.World.{files_data};
+ghost use Rattle.tm_report.specs.Output.{sink_data};
+ghost use Rattle.tm_report.specs.declared.ending.Ending.TheVariants.{Play};
 ghost use Rattle.tm_play.specs.declared.ending.PlayEnd.{PlayEnd};
 ghost use Rattle.tm_play.specs.Script.{ScriptData};
 ghost use Rattle.tm_play.specs.Played.{Ends, Halts, IsPart};
 ghost use Rattle.tm_play.specs.Playable.{IsPlayable};
 ghost use Rattle.tm_commands.specs.Inner.Obeying.{Obeys};
-ghost use Rattle.tm_commands.specs.Inner.Stopping.{IsSinkFailure};
+ghost use Rattle.tm_report.specs.Putting.{IsSinkFailure};
 
-use crate::ending::{Ending, Failure};
 use crate::input::load::{Inputs, load};
-use crate::report::put::failure_of;
 use std::alloc::{AllocError, Global};
 use tm_base::{Files, Sink, SinkError};
 use tm_design_game::is_allowed;
 use tm_play::{PlayEnd, PlayError, PlayHalt, StopWhy, play_script};
+use tm_report::{Ending, Failure, failure_of};
 use tm_syntax::design::Design;
 
 /// How a play ends that goes so far: where the driver's answer is stuck, the game of the design tells whether it is

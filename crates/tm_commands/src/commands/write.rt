@@ -3,9 +3,9 @@ ghost use Rattle.std.specs.Prelude.{◌≡◌, Some, IsTrue, OnOk, IfErr};
 ghost use Rattle.tm_commands.specs.World.{files_data, OnlyWrites};
 ghost use Rattle.tm_commands.specs.Inner.Stopping.{IsWriteFailure};
 
-use crate::ending::Failure;
 use std::alloc::Global;
 use tm_base::{FileError, Files, Name};
+use tm_report::Failure;
 
 /// Makes a file, or replaces all that it holds. After a failure nothing is known of what it holds.
 pub fn write_file<F: Files>(

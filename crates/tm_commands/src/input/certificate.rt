@@ -9,11 +9,12 @@ ghost use Rattle.tm_commands.specs.Inputs.{TellsCert, NoCert, RefusesCert};
 ghost use Rattle.tm_commands.specs.Inner.Reading.{IsBadCert};
 ghost use Rattle.tm_commands.specs.Inner.Stopping.{StopsBy, IsMemory, IsReadFailure, IsRefusal};
 
-use crate::ending::{Bad, Failure, Stop};
 use crate::input::file::{TEXT_BYTES, bad_text, read_file};
+use crate::stop::Stop;
 use std::alloc::Global;
 use tm_base::Files;
 use tm_cert::{Cert, CertShape, ReadCertError, read_shaped};
+use tm_report::{Bad, Failure};
 
 /// What stops a command at a text that is no certificate.
 fn refusal(alloc: Global, name: &str, error: ReadCertError) -> Stop

@@ -15,10 +15,10 @@ ghost use Rattle.tm_commands.specs.Order.{IsDueOfThree};
 ghost use Rattle.tm_commands.specs.Inner.Judging.{IsDriverRead};
 ghost use Rattle.tm_commands.specs.Inner.Stopping.{StopsBy, IsLoadFailure, IsReadFailure, IsRefusal};
 
-use crate::ending::Stop;
 use crate::input::certificate::load_cert;
 use crate::input::load::load_blocks;
 use crate::input::specification::load_specification;
+use crate::stop::Stop;
 use std::alloc::Global;
 use tm_base::Files;
 use tm_cert::{Cert, DriverCert, Kind};

@@ -4,9 +4,10 @@ ghost use Rattle.tm_base.specs.Files.{IsLonger};
 ghost use Rattle.tm_commands.specs.World.{files_data, OnlyReads, TookMoreThan};
 ghost use Rattle.tm_commands.specs.Inner.Stopping.{StopsBy, IsReadFailure, IsMemory};
 
-use crate::ending::{Bad, Ending, Failure, Stop};
+use crate::stop::Stop;
 use std::alloc::Global;
 use tm_base::{FileError, Files, Name};
+use tm_report::{Bad, Ending, Failure};
 
 /// The most bytes of a driver, of a certificate or of choices.
 pub const TEXT_BYTES: u64 = 16_777_216;

@@ -10,14 +10,15 @@ ghost use Rattle.tm_commands.specs.Run.{Loads, Refused, RunMayEnd};
 ghost use Rattle.tm_play.specs.Playable.{IsPlayable};
 ghost use Rattle.tm_commands.specs.Inner.Stopping.{StopsBy, IsLoadFailure, IsReadFailure, IsRefusal};
 
-use crate::ending::{Bad, Failure, Stop};
 use crate::input::file::{TEXT_BYTES, bad_text, read_file};
 use crate::input::specification::load_specification;
+use crate::stop::Stop;
 use std::alloc::Global;
 use tm_base::Files;
 use tm_cir::Blocks;
 use tm_cparse::{ReadDriverError, read_driver};
 use tm_play::{Script, ScriptError, read_script};
+use tm_report::{Bad, Failure};
 use tm_syntax::design::Design;
 
 /// What `run` plays: a design, blocks that fit it, and choices.

@@ -6,9 +6,9 @@ ghost use Rattle.tm_commands.specs.Order.{IsDueOfTwo};
 ghost use Rattle.tm_commands.specs.Inner.Reading.{IsMigration};
 ghost use Rattle.tm_commands.specs.Inner.Stopping.{StopsBy, IsLoadFailure, IsRefusal};
 
-use crate::ending::Stop;
 use crate::input::certificate::load_cert;
 use crate::input::specification::load_specification;
+use crate::stop::Stop;
 use std::alloc::Global;
 use tm_base::Files;
 use tm_cert::{Cert, CertShape, Kind};

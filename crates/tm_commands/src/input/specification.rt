@@ -7,11 +7,12 @@ ghost use Rattle.tm_commands.specs.Inputs.{NoSpecification, RefusesSpecification
 ghost use Rattle.tm_commands.specs.Inner.Reading.{IsRead, refusal_of};
 ghost use Rattle.tm_commands.specs.Inner.Stopping.{StopsBy, IsReadFailure, IsRefusal};
 
-use crate::ending::{Ending, Failure, Stop};
 use crate::input::file::read_file;
+use crate::stop::Stop;
 use std::alloc::Global;
 use tm_base::{Files, Place};
 use tm_front::read_specification;
+use tm_report::{Ending, Failure};
 use tm_syntax::design::Design;
 use tm_syntax::fault::{Detail, FaultKind, Faulty, FrontError, Quantity};
 

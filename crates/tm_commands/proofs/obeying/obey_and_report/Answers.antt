@@ -1,9 +1,10 @@
 use Rattle.std.proofs.Common.{map, sym, subst, Result}
 use Rattle.std.specs.String.{string_bytes}
-use Rattle.tm_commands.specs.declared.ending.Ending.{Ending}
-use Rattle.tm_commands.specs.declared.ending.Failure.{Failure}
+use Rattle.tm_report.specs.declared.ending.Ending.{Ending}
+use Rattle.tm_report.specs.declared.ending.Failure.{Failure}
 use Rattle.tm_commands.specs.Words.{command_of}
-use Rattle.tm_commands.specs.World.{files_data, sink_data}
+use Rattle.tm_commands.specs.World.{files_data}
+use Rattle.tm_report.specs.Output.{sink_data}
 use Rattle.tm_commands.proofs.Accepting.{accepts_good, accepts_lost}
 use Rattle.tm_commands.proofs.Reporting.{Keeps, keeps_whole, keeps_cut}
 use Rattle.tm_commands.proofs.obeying.obey_and_report.Goals as goal

@@ -1,7 +1,8 @@
 use Rattle.std.proofs.Common.{◌∙◌, ap, sym, map, option_map, rules}
 use Rattle.std.specs.String.{string_bytes}
 use Rattle.tm_commands.specs.Words.{command_of, command_view}
-use Rattle.tm_commands.specs.World.{files_data, sink_data}
+use Rattle.tm_commands.specs.World.{files_data}
+use Rattle.tm_report.specs.Output.{sink_data}
 use Rattle.tm_commands.proofs.Running.{unread_words_obey, usage_obeys}
 use Rattle.tm_commands.proofs.obeying.obey_words.Goals as goal
 

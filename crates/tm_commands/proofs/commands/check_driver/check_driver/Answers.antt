@@ -1,6 +1,7 @@
 use Rattle.tm_syntax.specs.Design.View.{design_tree}
 use Rattle.tm_cir.specs.View.{trees_of}
-use Rattle.tm_commands.specs.World.{files_data, sink_data}
+use Rattle.tm_commands.specs.World.{files_data}
+use Rattle.tm_report.specs.Output.{sink_data}
 use Rattle.tm_commands.proofs.Checking.{checked_obeys, stopped_checking}
 use Rattle.tm_commands.proofs.commands.check_driver.check_driver.Goals as goal
 

@@ -2,7 +2,7 @@ use Rattle.std.proofs.Common.{[], inl, refl, ◌∙◌}
 use Rattle.tm_cir.specs.View.{trees_of}
 use Rattle.tm_play.proofs.Putting.{cut_nothing}
 use Rattle.tm_syntax.specs.Design.View.{design_tree}
-use Rattle.tm_commands.specs.World.{sink_data}
+use Rattle.tm_report.specs.Output.{sink_data}
 use Rattle.tm_commands.proofs.Judging.{driver_cut, driver_judged, few_ranks, same_ranks}
 use Rattle.tm_commands.proofs.commands.check_driver.judge.Goals as goal
 

@@ -2,8 +2,8 @@ use Rattle.std.proofs.Common.{sym, subst}
 use Rattle.tm_syntax.specs.Design.View.{design_tree}
 use Rattle.tm_verdicts.specs.declared.verdict.Verdict.{Verdict}
 use Rattle.tm_commands.specs.Check.{driver_text}
-use Rattle.tm_commands.specs.World.{sink_data}
-use Rattle.tm_commands.specs.Inner.Putting.{HasPut}
+use Rattle.tm_report.specs.Output.{sink_data}
+use Rattle.tm_report.specs.Putting.{HasPut}
 use Rattle.tm_commands.proofs.commands.check_driver.put_verdict.Goals as goal
 
 pub returns-in-Accepted : goal.returns-in-Accepted

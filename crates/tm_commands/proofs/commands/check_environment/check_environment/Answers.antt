@@ -1,5 +1,6 @@
 use Rattle.tm_syntax.specs.Design.View.{design_tree}
-use Rattle.tm_commands.specs.World.{files_data, sink_data}
+use Rattle.tm_commands.specs.World.{files_data}
+use Rattle.tm_report.specs.Output.{sink_data}
 use Rattle.tm_commands.proofs.CheckingLevels.{checked_levels_obeys, stopped_checking_levels}
 use Rattle.tm_commands.proofs.commands.check_environment.check_environment.Goals as goal
 

@@ -1,7 +1,7 @@
 use Rattle.std.proofs.Common.{[], inl, refl, ◌∙◌}
 use Rattle.tm_play.proofs.Putting.{cut_nothing}
 use Rattle.tm_syntax.specs.Design.View.{design_tree}
-use Rattle.tm_commands.specs.World.{sink_data}
+use Rattle.tm_report.specs.Output.{sink_data}
 use Rattle.tm_commands.proofs.Judging.{environment_cut, environment_judged}
 use Rattle.tm_commands.proofs.commands.check_environment.judge.Goals as goal
 

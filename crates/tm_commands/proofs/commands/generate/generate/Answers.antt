@@ -1,7 +1,8 @@
 use Rattle.std.proofs.Common.{Err, Some, refl, ap, ◌∙◌, rules, arith}
-use Rattle.tm_commands.specs.declared.ending.Failure.TheVariants.{Memory}
+use Rattle.tm_report.specs.declared.ending.Failure.TheVariants.{Memory}
 use Rattle.tm_commands.specs.Words.{generate}
-use Rattle.tm_commands.specs.World.{files_data, sink_data}
+use Rattle.tm_commands.specs.World.{files_data}
+use Rattle.tm_report.specs.Output.{sink_data}
 use Rattle.tm_commands.proofs.Running.{unread_words_obey}
 use Rattle.tm_commands.proofs.Spelling.{spelled_fit}
 use Rattle.tm_commands.proofs.Writing.{generated_obeys, ungenerated_obeys}

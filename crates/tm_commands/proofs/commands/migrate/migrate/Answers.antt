@@ -1,6 +1,7 @@
 use Rattle.std.proofs.Common.{Some, ap, ◌∙◌}
 use Rattle.tm_commands.specs.Words.{migrate}
-use Rattle.tm_commands.specs.World.{files_data, sink_data}
+use Rattle.tm_commands.specs.World.{files_data}
+use Rattle.tm_report.specs.Output.{sink_data}
 use Rattle.tm_commands.proofs.Migrating.{stopped_migrating, wanting_migrating}
 use Rattle.tm_commands.proofs.Spelling.{spelled_fit}
 use Rattle.tm_commands.proofs.Writing.{migrated_obeys, unmigrated_obeys}

@@ -1,6 +1,6 @@
 use Rattle.std.proofs.Common.{◌≡◌, rules}
-use Rattle.tm_commands.specs.declared.ending.Bad.TheVariants.{TooLong}
-use Rattle.tm_commands.specs.declared.ending.Ending.TheVariants.{BadText}
+use Rattle.tm_report.specs.declared.ending.Bad.TheVariants.{TooLong}
+use Rattle.tm_report.specs.declared.ending.Ending.TheVariants.{BadText}
 use Rattle.tm_commands.specs.Inputs.{NoCert, long_cert, RefusesCert, refuses_long_cert}
 use Rattle.tm_commands.specs.World.{files_data}
 use Rattle.tm_commands.specs.Inner.Stopping.{IsRefusal}

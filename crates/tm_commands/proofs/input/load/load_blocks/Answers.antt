@@ -1,8 +1,8 @@
 use Rattle.std.proofs.Common.{◌≡◌, ℕ, List, rules, subst}
 use Rattle.tm_syntax.specs.Design.View.{design_tree}
 use Rattle.tm_cparse.specs.Faults.{HasFault}
-use Rattle.tm_commands.specs.declared.ending.Bad.TheVariants.{TooLong, Driver}
-use Rattle.tm_commands.specs.declared.ending.Ending.TheVariants.{BadText}
+use Rattle.tm_report.specs.declared.ending.Bad.TheVariants.{TooLong, Driver}
+use Rattle.tm_report.specs.declared.ending.Ending.TheVariants.{BadText}
 use Rattle.tm_commands.specs.Inputs.{NoBlocks, long_driver, bad_driver, RefusesBlocks, refuses_long_driver}
 use Rattle.tm_commands.specs.Inputs.{refuses_bad_driver}
 use Rattle.tm_commands.specs.World.{files_data}

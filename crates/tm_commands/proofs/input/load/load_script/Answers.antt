@@ -1,7 +1,7 @@
 use Rattle.std.proofs.Common.{◌≡◌, Err, rules}
 use Rattle.tm_syntax.specs.Design.View.{design_tree}
-use Rattle.tm_commands.specs.declared.ending.Bad.TheVariants.{TooLong, Choices}
-use Rattle.tm_commands.specs.declared.ending.Ending.TheVariants.{BadText}
+use Rattle.tm_report.specs.declared.ending.Bad.TheVariants.{TooLong, Choices}
+use Rattle.tm_report.specs.declared.ending.Ending.TheVariants.{BadText}
 use Rattle.tm_play.specs.Choices.{reading_of}
 use Rattle.tm_commands.specs.Inputs.{NoScript, long_choices, bad_choices, RefusesScript, refuses_long_choices}
 use Rattle.tm_commands.specs.Inputs.{refuses_bad_choices}

@@ -1,7 +1,7 @@
 use Rattle.std.proofs.Common.{◌≡◌, rules, sym, subst}
 use Rattle.tm_syntax.specs.declared.fault.Faulty.{Faulty as Fault}
 use Rattle.tm_syntax.specs.Design.View.{design_tree}
-use Rattle.tm_commands.specs.declared.ending.Ending.TheVariants.{Faulty}
+use Rattle.tm_report.specs.declared.ending.Ending.TheVariants.{Faulty}
 use Rattle.tm_commands.specs.Headline.{long_fault}
 use Rattle.tm_commands.specs.Inputs.{NoSpecification, faulty_spec, RefusesSpecification, refuses_specification}
 use Rattle.tm_commands.specs.World.{files_data}

@@ -1,0 +1,3 @@
+pub mod Counts
+pub mod PutLines
+pub mod Putting

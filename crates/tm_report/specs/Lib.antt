@@ -1,0 +1,3 @@
+pub mod Output
+pub mod Putting
+pub mod Report
