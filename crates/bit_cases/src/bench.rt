@@ -1,7 +1,7 @@
 //! A table of terms, and a manager with levels for its inputs.
 
 use std::alloc::{AllocError, Global};
-use tm_bits::is_width;
+use tm_base::is_width;
 use tm_ddops::Manager;
 use tm_term::Terms;
 

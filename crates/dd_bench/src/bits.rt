@@ -4,7 +4,7 @@ ghost use Rattle.tm_dd.specs.Table.{Knows};
 
 use crate::failure::Failure;
 use std::alloc::{AllocError, Global};
-use tm_bits::is_width;
+use tm_base::is_width;
 use tm_blast::{are_levels, bits};
 use tm_dd::NodeId;
 use tm_ddops::Manager;

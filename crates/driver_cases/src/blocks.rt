@@ -2,7 +2,7 @@
 
 use case_rows::{number, split_word};
 use std::alloc::{AllocError, Global};
-use tm_bits::ShiftOperator;
+use tm_base::ShiftOperator;
 use tm_cir::{Block, Num64, Truth};
 
 /// A variable or a location.

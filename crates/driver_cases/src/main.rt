@@ -24,7 +24,7 @@ use answers::answer_to;
 use case_rows::{Case, Tally, read_cases, read_table};
 use std::alloc::Global;
 use std::io;
-use tm_front::{MOST_BYTES, read_specification};
+use tm_inst::{MOST_BYTES, read_specification};
 use tm_syntax::design::Design;
 
 /// The design of a specification, if it has no fault.

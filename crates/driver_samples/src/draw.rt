@@ -4,7 +4,7 @@ ghost use Rattle.std.specs.Prelude.{◌≡◌, ◌<◌, length};
 use rand::RngExt;
 use rand_pcg::Pcg32;
 use std::alloc::{AllocError, Global};
-use tm_bits::ShiftOperator;
+use tm_base::ShiftOperator;
 use tm_cir::block::{Comparison, Junction, NumOperator};
 use tm_cir::{Block, Num64, Truth};
 use tm_sem::state::State;

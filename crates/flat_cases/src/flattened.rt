@@ -5,9 +5,9 @@ ghost use Rattle.tm_syntax.specs.Faults.{IsOfText, IsSound};
 
 use std::alloc::{AllocError, Global};
 use tm_flat::Flat;
+use tm_flat_design::{empty_terms, flatten};
 use tm_syntax::design::Design;
 use tm_term::Terms;
-use tm_updates::{empty_terms, flatten};
 
 /// A design as guarded updates, with its terms.
 #[derive(Drop)]

@@ -31,8 +31,8 @@ use flattened::{Flattened, flatten_design};
 use play::play_answer;
 use std::alloc::{AllocError, Global};
 use std::io;
-use tm_front::{MOST_BYTES, read_specification};
-use tm_machine::{Machine, Tables};
+use tm_inst::{MOST_BYTES, read_specification};
+use tm_plain::{Machine, Tables};
 use tm_syntax::design::Design;
 
 /// The design of a specification, if it has no fault.

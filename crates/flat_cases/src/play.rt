@@ -8,7 +8,7 @@ use crate::told::ROOM;
 use case_rows::numbers;
 use std::alloc::{AllocError, Global};
 use step_rows::{Draw, Led, Reach, numbers_of, runs, state_of, word};
-use tm_machine::Machine;
+use tm_plain::Machine;
 use tm_sem::SemError;
 use tm_sem::state::State;
 

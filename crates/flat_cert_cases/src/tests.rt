@@ -4,7 +4,7 @@ use std::alloc::{AllocError, Global};
 use std::test::Fail;
 use tm_cert::{Kind, ReadCertError};
 use tm_flat::Flat;
-use tm_flat_cert::{read_cert, write_cert};
+use tm_judge::{read_cert, write_cert};
 use tm_term::TermId;
 
 /// In format 1: wherever the first of four bits is 0 the one goal holds, or the one fairness condition is waited for.

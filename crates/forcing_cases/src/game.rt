@@ -7,7 +7,7 @@
 use crate::diagrams::{Stop, from_table};
 use std::alloc::Global;
 use tm_ddops::Manager;
-use tm_forcing::{GameDiagrams, StepDiagrams};
+use tm_game_bits::{GameDiagrams, StepDiagrams};
 
 const FLAG: u32 = 0;
 

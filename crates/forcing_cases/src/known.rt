@@ -1,11 +1,11 @@
 //! Whether a manager knows the ids of a game.
 ghost use Rattle.std.specs.Prelude.{◌≡◌, IsTrue, All};
 ghost use Rattle.tm_dd.specs.Table.{Knows};
-ghost use Rattle.tm_forcing.specs.Diagrams.{KnowsChanges, KnowsGame, KnowsStep};
+ghost use Rattle.tm_game_bits.specs.Diagrams.{KnowsChanges, KnowsGame, KnowsStep};
 
 use tm_dd::NodeId;
 use tm_ddops::Manager;
-use tm_forcing::{GameDiagrams, StepDiagrams};
+use tm_game_bits::{GameDiagrams, StepDiagrams};
 
 /// Whether a manager knows an id.
 pub fn knows(dd: &Manager, id: NodeId) -> bool

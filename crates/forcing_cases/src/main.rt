@@ -1,4 +1,4 @@
-//! Cases of a small game: what `tm_forcing` finds of its sets of states, written out by hand.
+//! Cases of a small game: what `tm_game_bits` finds of its sets of states, written out by hand.
 //!
 //! The input is a table of `case_rows`. Sets and moves are told by tables of eight digits: those of the valuations from
 //! 7 to 0, whose bits are the flag, the turn and the input, the highest first. The rows are:
@@ -8,8 +8,8 @@
 //! - `predecessors SET`: where the driver stays in it, from where the environment forces it, and the first again.
 #![tactic(auto)]
 
-ghost use Rattle.tm_forcing.specs.Diagrams.{game_of};
-ghost use Rattle.tm_forcing.specs.Recent.{AreAnswers};
+ghost use Rattle.tm_game_bits.specs.Diagrams.{game_of};
+ghost use Rattle.tm_game_bits.specs.Recent.{AreAnswers};
 
 mod diagrams;
 mod game;
@@ -23,7 +23,7 @@ use std::alloc::{AllocError, Global};
 use std::io;
 use tm_dd::NodeId;
 use tm_ddops::Manager;
-use tm_forcing::{GameDiagrams, Recent};
+use tm_game_bits::{GameDiagrams, Recent};
 
 /// Where nobody but the driver leaves a set.
 fn calm(dd: &mut Manager, game: &GameDiagrams, set: NodeId) -> Result<u8, Stop> {

@@ -6,9 +6,9 @@ use Rattle.tm_dd.specs.declared.node.NodeId.{NodeId}
 use Rattle.tm_game.specs.Game.{GameData, Grows, IsOf, IsStates}
 use Rattle.tm_sem.specs.State.{StateData}
 use Rattle.tm_syntax.specs.Design.{DesignTree}
-use Rattle.tm_exact.specs.Exact.{HasDesign, IsStateSet}
-use Rattle.tm_exact.proofs.Growing.{kept_exact, states_set}
-use Rattle.tm_exact.proofs.Truncated.{ok_prop, set_prop}
+use Rattle.tm_solve_exact.specs.Exact.{HasDesign, IsStateSet}
+use Rattle.tm_solve_exact.proofs.Growing.{kept_exact, states_set}
+use Rattle.tm_solve_exact.proofs.Truncated.{ok_prop, set_prop}
 
 -- an id that is a set of states of each design that the game is of
 pub told_set : (g h : GameData) → HasDesign g → Grows g h → (IsSuch : DesignTree → StateData → Type 0) (id : NodeId) →

@@ -1,11 +1,11 @@
 //! The exact step operator of a game, with counts of what solving asked of it.
-ghost use Rattle.tm_exact.specs.Exact.{exact_game, exact_ids};
-ghost use Rattle.tm_exact.specs.Laws.{exact_absorbing, exact_monotone};
+ghost use Rattle.tm_solve_exact.specs.Exact.{exact_game, exact_ids};
+ghost use Rattle.tm_solve_exact.specs.Laws.{exact_absorbing, exact_monotone};
 
 use std::alloc::AllocError;
 use tm_dd::{FALSE, NodeId};
-use tm_exact::Exact;
 use tm_solve::Pre;
+use tm_solve_exact::Exact;
 
 /// How often a next set was computed for each of the three fixpoints. The last of each counts, which is unchanged.
 #[derive(Clone, Copy, Drop)]

@@ -9,10 +9,10 @@ ghost use Rattle.tm_syntax.specs.Faults.{IsOfText, IsSound};
 use crate::failure::Failure;
 use crate::weights::weights_of;
 use std::alloc::{AllocError, Global};
-use tm_design_game::{game_of, ordered_game};
-use tm_exact::Exact;
-use tm_front::{MOST_BYTES, read_specification};
 use tm_game::Game;
+use tm_inst::{MOST_BYTES, read_specification};
+use tm_judge::{game_of, ordered_game};
+use tm_solve_exact::Exact;
 use tm_syntax::design::Design;
 use tm_syntax::fault::FrontError;
 

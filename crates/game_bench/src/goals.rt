@@ -1,12 +1,12 @@
 //! How many nodes the sets have that are asked of goals.
 ghost use Rattle.std.specs.Prelude.{◌≡◌, ◌<◌, IfOk, length};
-ghost use Rattle.tm_exact.specs.Exact.{HasDesign, IsStateSet};
+ghost use Rattle.tm_solve_exact.specs.Exact.{HasDesign, IsStateSet};
 
 use std::alloc::{AllocError, Global};
 use std::fmt::Write;
 use tm_dd::NodeId;
-use tm_exact::Exact;
 use tm_game::Game;
+use tm_solve_exact::Exact;
 
 /// A set that is asked of a goal.
 #[derive(Clone, Copy)]

@@ -6,7 +6,7 @@ use crate::goals::{GoalSet, goal_sizes};
 use crate::summary::{Summary, solved};
 use crate::terms::terms_of_text;
 use std::alloc::Global;
-use tm_exact::Exact;
+use tm_solve_exact::Exact;
 
 /// What is asked of a text.
 #[derive(Clone, Copy)]

@@ -1,5 +1,5 @@
 //! The sizes of the sets of a solution.
-ghost use Rattle.tm_exact.specs.Exact.{IsStateSet, exact_ids};
+ghost use Rattle.tm_solve_exact.specs.Exact.{IsStateSet, exact_ids};
 ghost use Rattle.tm_solve.specs.Iterates.{Each, KnowsAll, KnowsChain, KnowsLevel, KnowsRanks};
 ghost use Rattle.tm_solve.specs.declared.iterates.Ranking.{Ranking as Ranks};
 

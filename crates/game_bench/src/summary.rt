@@ -1,13 +1,13 @@
 //! The numbers of a solution.
-ghost use Rattle.tm_exact.specs.Exact.{IsStateSet};
+ghost use Rattle.tm_solve_exact.specs.Exact.{IsStateSet};
 
 use crate::counted::{Counted, Counts};
 use crate::sizes::{larger, largest};
 use std::alloc::{AllocError, Global};
 use std::fmt::{Display, Error, Formatter, Write};
 use tm_dd::{FALSE, NodeId};
-use tm_exact::Exact;
 use tm_solve::{Ranking, solve};
+use tm_solve_exact::Exact;
 
 /// What solving a game counts.
 #[derive(Drop)]

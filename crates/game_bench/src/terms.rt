@@ -5,8 +5,8 @@ ghost use Rattle.tm_syntax.specs.Faults.{IsOfText, IsSound};
 use crate::failure::Failure;
 use crate::games::design_of;
 use std::alloc::{AllocError, Global};
+use tm_flat_design::{empty_terms, flatten};
 use tm_syntax::design::Design;
-use tm_updates::{empty_terms, flatten};
 
 // How many terms a design comes to.
 fn terms_of(alloc: Global, design: &Design) -> Result<u64, AllocError>

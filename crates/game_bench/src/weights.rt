@@ -1,14 +1,14 @@
 //! The weight order of the bits of a state.
 ghost use Rattle.std.specs.Prelude.{IfOk, sum};
-ghost use Rattle.tm_levels.specs.Order.{IsOrder};
+ghost use Rattle.tm_game_bits.specs.Order.{IsOrder};
 ghost use Rattle.tm_sem.specs.StateBits.{state_widths};
 ghost use Rattle.tm_syntax.specs.Design.View.{design_tree};
 ghost use Rattle.tm_syntax.specs.Faults.{IsOfText, IsSound};
 
 use std::alloc::{AllocError, Global};
-use tm_levels::weight_order;
+use tm_flat_design::inputs;
+use tm_game_bits::weight_order;
 use tm_syntax::design::Design;
-use tm_updates::inputs;
 
 /// How many inputs of a design are bits of choices and of arguments: all behind the numbers of a state.
 const BITS: usize = 128;

@@ -15,7 +15,7 @@ use case_rows::numbers;
 use std::alloc::{AllocError, Global};
 use step_rows::{Draw, Reach};
 use tm_game::Game;
-use tm_machine::Machine;
+use tm_plain::Machine;
 
 /// How many inputs are bits of choices and of arguments.
 const BITS: usize = 128;

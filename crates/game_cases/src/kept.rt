@@ -9,7 +9,7 @@ use std::alloc::{AllocError, Global};
 use step_rows::state_of;
 use tm_dd::{FALSE, NodeId};
 use tm_game::Game;
-use tm_machine::Machine;
+use tm_plain::Machine;
 use tm_sem::state::{Args, Move, State};
 
 /// A set that the game keeps: `initial`, `turn`, or that of the goal of a number.

@@ -48,10 +48,10 @@ use diagrams::{bits_answer, diagram_answer};
 use kept::{call_allowed, least_kept};
 use std::alloc::{AllocError, Global};
 use std::io;
-use tm_design_game::game_of;
-use tm_front::{MOST_BYTES, read_specification};
 use tm_game::Game;
-use tm_machine::{Machine, Tables};
+use tm_inst::{MOST_BYTES, read_specification};
+use tm_judge::game_of;
+use tm_plain::{Machine, Tables};
 use tm_syntax::design::Design;
 
 /// The design of a specification, if it has no fault.

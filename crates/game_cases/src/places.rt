@@ -4,7 +4,7 @@ use crate::fields::Fields;
 use crate::moves::{DriverMove, Moves};
 use std::alloc::{AllocError, Global};
 use step_rows::{Led, Reach, runs, state_of};
-use tm_machine::Machine;
+use tm_plain::Machine;
 use tm_sem::state::{Move, State};
 
 /// What a move leads to over all choices: whether it has an outcome, whether one is an error, and the words of the next

@@ -9,7 +9,7 @@
 use crate::faults::{details, push_name};
 use case_rows::{number, split_word};
 use std::alloc::{AllocError, Global};
-use tm_front::{MOST_BYTES, read_specification};
+use tm_inst::{MOST_BYTES, read_specification};
 use tm_syntax::design::{Design, Instance, Item, Var};
 use tm_syntax::fault::{Faulty, FrontError};
 

@@ -20,7 +20,7 @@ use answers::answer_to;
 use case_rows::{Case, Row, Tally};
 use std::io;
 use tm_locations::Locations;
-use tm_machine::{Tables, locate};
+use tm_plain::{Tables, locate};
 use tm_syntax::design::Design;
 
 /// Answers rows about the locations of a process.

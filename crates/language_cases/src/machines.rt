@@ -26,7 +26,7 @@ use plain::plain_answer;
 use play::play_answer;
 use std::alloc::{AllocError, Global};
 use std::io;
-use tm_machine::{Machine, Tables};
+use tm_plain::{Machine, Tables};
 use tm_sem::state::State;
 use tm_syntax::design::Design;
 

@@ -5,7 +5,7 @@ ghost use Rattle.tm_syntax.specs.Design.View.{design_tree};
 ghost use Rattle.tm_syntax.specs.Faults.{IsOfText, IsSound};
 
 use std::alloc::Global;
-use tm_front::{MOST_BYTES, read_specification};
+use tm_inst::{MOST_BYTES, read_specification};
 use tm_lex::{MAX_TEXT_LEN, lex};
 use tm_parse::parse;
 use tm_syntax::design::Design;

@@ -1,6 +1,6 @@
 //! Numbers, and their bits worked out by hand.
 use std::test::Fail;
-use tm_operands::bits_of_number;
+use tm_design::bits_of_number;
 
 /// Numbers, each with its bits.
 const NUMBERS: [(u64, u8); 8] = [

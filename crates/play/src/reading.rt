@@ -10,7 +10,7 @@ use std::alloc::Global;
 use tm_base::{FileError, Files};
 use tm_cir::Blocks;
 use tm_cparse::{ReadDriverError, read_driver};
-use tm_front::{MOST_BYTES, Specification, read_specification};
+use tm_inst::{MOST_BYTES, Specification, read_specification};
 use tm_play::{Script, ScriptError, read_script};
 use tm_syntax::design::Design;
 use tm_syntax::fault::FrontError;

@@ -6,10 +6,10 @@
 use case_rows::read_table;
 use std::alloc::{AllocError, Global};
 use std::io;
-use tm_bits::ShiftOperator;
+use tm_base::ShiftOperator;
 use tm_cir::block::{Comparison, Junction, NumOperator};
 use tm_cir::{Block, Blocks, Num64, Truth};
-use tm_front::{MOST_BYTES, read_specification};
+use tm_inst::{MOST_BYTES, read_specification};
 use tm_syntax::design::Design;
 
 /// The design of a specification, if it has no fault.

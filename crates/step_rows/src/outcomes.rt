@@ -2,7 +2,7 @@
 
 use crate::lists::{Reach, longer_lists};
 use std::alloc::{AllocError, Global};
-use tm_machine::Machine;
+use tm_plain::Machine;
 use tm_sem::state::{Move, Outcome, State};
 
 /// What a move leads to: the numbers of the next state, and none where it is an error.

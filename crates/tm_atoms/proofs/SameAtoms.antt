@@ -5,8 +5,8 @@ use Rattle.std.specs.Cmp.Lexicographic.{pointwise}
 use Rattle.std.proofs.lemmas.Bool.{eqb-true}
 use Rattle.std.proofs.lemmas.Bool.Decides.{nat_tests}
 use Rattle.std.proofs.lemmas.Option.{same_Some}
-use Rattle.tm_bits.specs.declared.shift_operator.ShiftOperator.{ShiftOperator}
-use Rattle.tm_bits.specs.declared.shift_operator.ShiftOperator.TheVariants as shift_operator
+use Rattle.tm_base.specs.declared.shift_operator.ShiftOperator.{ShiftOperator}
+use Rattle.tm_base.specs.declared.shift_operator.ShiftOperator.TheVariants as shift_operator
 use Rattle.tm_syntax.specs.declared.tree.UnaryOperator.{UnaryOperator}
 use Rattle.tm_syntax.specs.declared.tree.UnaryOperator.TheVariants as unary_operator
 use Rattle.tm_syntax.specs.declared.tree.BinaryOperator.{BinaryOperator}

@@ -2,7 +2,7 @@
 ghost use Rattle.std.specs.Prelude.{◌≡◌};
 ghost use Rattle.tm_atoms.specs.Inner.Nodes.{binary_of, shift_of, unary_of};
 
-use tm_bits::ShiftOperator;
+use tm_base::ShiftOperator;
 use tm_syntax::tree::{BinaryOperator, UnaryOperator};
 
 /// The operators of expressions: the prefix operators, those between two expressions, and the shifts.

@@ -1,8 +1,11 @@
+pub mod Arithmetic
+pub mod Bits
 pub mod Count
 pub mod DiskCounts
 pub mod FailPlan
 pub mod Files
 pub mod MemFiles
 pub mod MemSink
+pub mod Shift
 pub mod Sink
 pub mod Transfer

@@ -8,7 +8,7 @@ use Rattle.tm_dd.specs.declared.node.NodeId.{NodeId}
 use Rattle.tm_dd.specs.Table.{Table}
 use Rattle.tm_dd.specs.Reduced.{Extends}
 use Rattle.tm_dd.proofs.CallerLaws.{Extends-trans}
-use Rattle.tm_bits.specs.Bits.{number_of}
+use Rattle.tm_base.specs.Bits.{number_of}
 use Rattle.tm_term.specs.declared.term.TermId.{TermId}
 use Rattle.tm_term.specs.declared.term.Parts.{Parts}
 use Rattle.tm_term.specs.declared.term.Parts.TheVariants as parts

@@ -4,9 +4,9 @@ use Rattle.std.proofs.lemmas.Bool.{cases_lt, cases_eq, lt-ltb, le-ltb, eq-eqb, n
 use Rattle.std.specs.Prelude.{bit_and, bit_or, bit_xor, ◌==◌, ◌&&◌, ◌||◌, not, nat_lt, if◌then◌else◌}
 use Rattle.std.proofs.Math.Nat.{pow-suc, mod-eq_of_lt}
 use Rattle.std.proofs.lemmas.Nat.{pow_pos, shr_le}
-use Rattle.tm_bits.specs.Arithmetic.{bit}
-use Rattle.tm_bits.specs.Bits.{number_from_lowest}
-use Rattle.tm_bits.proofs.BitLists.{mod-bit, div-bit, lowest_bit, bit_and-lowest, bit_or-lowest, bit_xor-lowest}
+use Rattle.tm_base.specs.Arithmetic.{bit}
+use Rattle.tm_base.specs.Bits.{number_from_lowest}
+use Rattle.tm_base.proofs.BitLists.{mod-bit, div-bit, lowest_bit, bit_and-lowest, bit_or-lowest, bit_xor-lowest}
 use Rattle.tm_ddops.specs.Connective.{xor}
 use Rattle.tm_blast.specs.declared.cell.Cell.{Cell}
 use Rattle.tm_blast.specs.declared.cell.Cell.TheVariants.{And, Or, Xor, Sum, Choice}

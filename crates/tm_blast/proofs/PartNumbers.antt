@@ -12,8 +12,8 @@ use Rattle.tm_term.specs.declared.term.Term.TheVariants.{Const, Input, Not, And,
 use Rattle.tm_term.specs.declared.term.TermId.{TermId}
 use Rattle.tm_term.specs.Table.{Table as Terms, Fits, term_width}
 use Rattle.tm_term.specs.Value.{term_value}
-use Rattle.tm_bits.specs.Arithmetic.{difference}
-use Rattle.tm_bits.specs.Bits.{number_of}
+use Rattle.tm_base.specs.Arithmetic.{difference}
+use Rattle.tm_base.specs.Bits.{number_of}
 use Rattle.tm_blast.specs.declared.cell.Cell.TheVariants as cells
 use Rattle.tm_blast.specs.declared.compare.Comparison.TheVariants as comparisons
 use Rattle.tm_blast.specs.Bits.{values_in, input_values, AreLevels}

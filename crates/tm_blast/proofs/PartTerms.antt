@@ -1,7 +1,7 @@
 -- The bits of a term, from the bits of its parts.
 use Rattle.std.proofs.Common.{◌≡◌, ℕ, ◌+◌, ◌-◌, ◌*◌, Bool, List, [], ◌∷◌, length, take, drop, get_or, Some, refl, sym, ap, ◌∙◌, subst, arith, length-drop}
 use Rattle.std.proofs.lemmas.List.{take_all}
-use Rattle.tm_bits.specs.Arithmetic.{resize, complement, sum, difference, shift_left, shift_right, bit, equal, less}
+use Rattle.tm_base.specs.Arithmetic.{resize, complement, sum, difference, shift_left, shift_right, bit, equal, less}
 use Rattle.std.specs.Prelude.{bit_and, bit_or, bit_xor}
 use Rattle.tm_dd.specs.declared.node.NodeId.{NodeId}
 use Rattle.tm_dd.specs.Table.{Table, Knows, means}

@@ -3,11 +3,11 @@ use Rattle.std.proofs.Common.{◌≡◌, ℕ, ◌+◌, ◌-◌, ◌*◌, ◌/◌
 use Rattle.std.specs.Prelude.{All, reverse, not, if◌then◌else◌, bit_and, bit_or, bit_xor}
 use Rattle.std.proofs.lemmas.List.{length-map, length-reverse, reverse-reverse, get_or-reverse, drop-map, reverse-append, map-append}
 use Rattle.std.proofs.lemmas.List.Elements.{All-map, All-weaker}
-use Rattle.tm_bits.specs.Arithmetic.{resize, complement, sum, difference, shift_left, shift_right, bit, equal, less, choice}
-use Rattle.tm_bits.specs.Bits.{number_of, number_from_lowest}
-use Rattle.tm_bits.proofs.BitLists.{number_of-reverse, number_from_lowest-below}
-use Rattle.tm_bits.proofs.Bounds.{shift_right-below}
-use Rattle.tm_bits.proofs.Cuts.{resize-same}
+use Rattle.tm_base.specs.Arithmetic.{resize, complement, sum, difference, shift_left, shift_right, bit, equal, less, choice}
+use Rattle.tm_base.specs.Bits.{number_of, number_from_lowest}
+use Rattle.tm_base.proofs.BitLists.{number_of-reverse, number_from_lowest-below}
+use Rattle.tm_base.proofs.Bounds.{shift_right-below}
+use Rattle.tm_base.proofs.Cuts.{resize-same}
 use Rattle.tm_dd.specs.NodeId.{complement as turned}
 use Rattle.tm_dd.specs.declared.node.NodeId.{NodeId}
 use Rattle.tm_dd.specs.declared.node.TheConstants.{FALSE, TRUE}

@@ -1,6 +1,6 @@
 -- The bits of a term, as decision diagrams.
 use Rattle.std.specs.Prelude.{◌≡◌, ℕ, ◌<◌, Bool, List, length, map, All, slice_index, slice_index_or}
-use Rattle.tm_bits.specs.Bits.{number_of}
+use Rattle.tm_base.specs.Bits.{number_of}
 use Rattle.tm_dd.specs.declared.node.NodeId.{NodeId}
 use Rattle.tm_dd.specs.Table.{Table, Knows, means}
 use Rattle.tm_term.specs.declared.term.TermId.{TermId}

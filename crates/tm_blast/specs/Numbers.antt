@@ -1,7 +1,7 @@
 -- Lists of bits from the least significant bit, as the numbers that they mean.
 use Rattle.std.specs.Prelude.{◌≡◌, ℕ, Bool, List, Vec, length, map, All}
 use Rattle.std.specs.declared.alloc.Global.{Global}
-use Rattle.tm_bits.specs.Bits.{number_from_lowest}
+use Rattle.tm_base.specs.Bits.{number_from_lowest}
 use Rattle.tm_dd.specs.declared.node.NodeId.{NodeId}
 use Rattle.tm_dd.specs.Table.{Table, Knows}
 use Rattle.tm_blast.specs.Bits.{values_in}

@@ -1,7 +1,7 @@
 -- The value of a term from the numbers that its parts are, by how many parts it has. These stand between the code and
 -- the definition of a term's value.
 use Rattle.std.specs.Prelude.{ℕ, ◌<◌, bit_and, bit_or, bit_xor}
-use Rattle.tm_bits.specs.Arithmetic.{resize, complement, sum, difference, shift_left, shift_right, equal, less}
+use Rattle.tm_base.specs.Arithmetic.{resize, complement, sum, difference, shift_left, shift_right, equal, less}
 use Rattle.tm_term.specs.declared.term.Term.{Term}
 use Rattle.tm_term.specs.declared.term.Term.TheVariants.{Not, And, Or, Xor, Add, Sub, Shl, Shr, Eq, Less, Resize}
 

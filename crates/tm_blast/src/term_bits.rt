@@ -1,6 +1,6 @@
 //! The bits of one term, from those of its parts.
 ghost use Rattle.std.specs.Prelude.{◌≡◌, [], ◌∷◌, All, IfOk, Some, length, reverse};
-ghost use Rattle.tm_bits.specs.Arithmetic as numbers;
+ghost use Rattle.tm_base.specs.Arithmetic as numbers;
 ghost use Rattle.tm_dd.specs.Reduced.{Extends};
 ghost use Rattle.tm_dd.specs.Table.{Table, Knows, means};
 ghost use Rattle.tm_term.specs.Parts.{parts_of};

@@ -2,7 +2,7 @@
 use Rattle.std.proofs.Common.{◌≡◌, ℕ, List, [], ◌∷◌, ◌++◌, length, map, refl, sym, ap, ◌∙◌, subst}
 use Rattle.std.specs.List.{flat_map}
 use Rattle.std.proofs.lemmas.List.{append-nil, append_assoc, length-map}
-use Rattle.tm_answers.proofs.Growth.{sized_kept}
+use Rattle.tm_check.proofs.Growth.{sized_kept}
 use Rattle.tm_cert.specs.declared.cert.Rank.{Rank}
 use Rattle.tm_cert.specs.Cert.{DriverData}
 use Rattle.tm_check.specs.declared.loaded.DriverDiagrams.{DriverDiagrams}
@@ -17,15 +17,15 @@ use Rattle.tm_game.proofs.Growing.{of_kept}
 use Rattle.tm_sem.specs.declared.state.Move.{Move}
 use Rattle.tm_sem.specs.Certificates.{DriverSets, WaitForConditions}
 use Rattle.tm_sem.specs.State.{StateData}
-use Rattle.tm_sets.specs.Sets.{driver_sets, ranked_set}
-use Rattle.tm_sets.proofs.Shapes.{fairs_shape, goals_shape}
+use Rattle.tm_verdict.specs.Sets.{driver_sets, ranked_set}
+use Rattle.tm_verdict.proofs.Shapes.{fairs_shape, goals_shape}
 use Rattle.tm_syntax.specs.Design.{DesignTree}
-use Rattle.tm_verdicts.specs.declared.verdict.Verdict.{Verdict}
-use Rattle.tm_verdicts.specs.declared.verdict.Verdict.TheVariants.{Accepted, Refused}
-use Rattle.tm_verdicts.specs.Driver.{DriverPart, Passes, begins_within, driver_parts, falls_when_fair, goal_parts}
-use Rattle.tm_verdicts.specs.Driver.{goals_of, is_answered, is_calm, is_ranked, never_rises}
-use Rattle.tm_verdicts.proofs.DriverParts.{meets_of_parts}
-use Rattle.tm_verdicts.proofs.Listed.{all_first, all_second, each_below, each_mapped}
+use Rattle.tm_verdict.specs.declared.verdict.Verdict.{Verdict}
+use Rattle.tm_verdict.specs.declared.verdict.Verdict.TheVariants.{Accepted, Refused}
+use Rattle.tm_verdict.specs.Driver.{DriverPart, Passes, begins_within, driver_parts, falls_when_fair, goal_parts}
+use Rattle.tm_verdict.specs.Driver.{goals_of, is_answered, is_calm, is_ranked, never_rises}
+use Rattle.tm_verdict.proofs.DriverParts.{meets_of_parts}
+use Rattle.tm_verdict.proofs.Listed.{all_first, all_second, each_below, each_mapped}
 
 -- what is known once a certificate is loaded
 pub told_of : (d : DesignTree) (bs : List BlockTree) (c : DriverData) (g h : GameData) (told : DriverDiagrams) →

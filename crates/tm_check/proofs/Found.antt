@@ -19,18 +19,18 @@ use Rattle.tm_dd.specs.declared.node.NodeId.{NodeId}
 use Rattle.tm_dd.specs.declared.node.TheConstants.{FALSE}
 use Rattle.tm_dd.specs.Table.{Table, means}
 use Rattle.tm_ddops.specs.Manager.{IsFunction}
-use Rattle.tm_failures.specs.Found.{IsFound, NamesStates, RestsOn, within_rank}
+use Rattle.tm_verdict.specs.Found.{IsFound, NamesStates, RestsOn, within_rank}
 use Rattle.tm_game.specs.Game.{GameData, Grows, IsSet, IsStates}
 use Rattle.tm_game.specs.Least.{HoldsNowhere, test_of}
 use Rattle.tm_sem.specs.Certificates.{AreRanked, DriverSets, IsIn, RankedSet, rank}
 use Rattle.tm_sem.specs.State.{StateData}
 use Rattle.tm_sem.specs.Step.{IsInitial}
 use Rattle.tm_syntax.specs.Design.{DesignTree}
-use Rattle.tm_verdicts.specs.declared.verdict.Verdict.{Verdict}
-use Rattle.tm_verdicts.specs.declared.verdict.Verdict.TheVariants.{Accepted, Refused}
-use Rattle.tm_verdicts.specs.Driver.{DriverPart, adds_state, begins_within, driver_condition, driver_goal}
-use Rattle.tm_verdicts.specs.Driver.{driver_meaning, is_ranked, lies_within}
-use Rattle.tm_verdicts.proofs.Trying.{refused_alone}
+use Rattle.tm_verdict.specs.declared.verdict.Verdict.{Verdict}
+use Rattle.tm_verdict.specs.declared.verdict.Verdict.TheVariants.{Accepted, Refused}
+use Rattle.tm_verdict.specs.Driver.{DriverPart, adds_state, begins_within, driver_condition, driver_goal}
+use Rattle.tm_verdict.specs.Driver.{driver_meaning, is_ranked, lies_within}
+use Rattle.tm_verdict.proofs.Trying.{refused_alone}
 
 -- the states of all ranks are those of the last one and lower ones
 last_is : (d : DesignTree) (order : List ℕ) (s : Table) (ranked : List RankedSet) (xs : List RankedDiagrams) →

@@ -2,9 +2,9 @@
 use Rattle.std.proofs.Common.{◌≡◌, ℕ, ◌+◌, true, List, length, get_or, refl, sym, ◌∙◌, subst}
 use Rattle.std.specs.Prelude.{All, sum}
 use Rattle.std.proofs.lemmas.Option.{slice_get-get_or}
-use Rattle.tm_answers.specs.declared.replies.Replies.{Replies}
-use Rattle.tm_answers.proofs.Growth.{sized_kept}
-use Rattle.tm_answers.proofs.Keeping.{replies_kept}
+use Rattle.tm_check.specs.declared.replies.Replies.{Replies}
+use Rattle.tm_check.proofs.Growth.{sized_kept}
+use Rattle.tm_check.proofs.KeepingReplies.{replies_kept}
 use Rattle.tm_check.specs.declared.leaving.Leaving.{Leaving}
 use Rattle.tm_check.specs.declared.loaded.DriverDiagrams.{DriverDiagrams}
 use Rattle.tm_check.specs.declared.loaded.RankedDiagrams.{RankedDiagrams}
@@ -20,19 +20,19 @@ use Rattle.tm_cir.proofs.Deciding.{some_answer}
 use Rattle.tm_cir.proofs.Determined.{one_answer}
 use Rattle.tm_dd.specs.declared.node.NodeId.{NodeId}
 use Rattle.tm_dd.specs.Table.{Knows}
-use Rattle.tm_failures.specs.Found.{MayLeave, within_rank}
-use Rattle.tm_failures.specs.Regular.{IsDriver}
+use Rattle.tm_verdict.specs.Found.{MayLeave, within_rank}
+use Rattle.tm_verdict.specs.Regular.{IsDriver}
 use Rattle.tm_game.specs.Game.{GameData, Grows}
 use Rattle.tm_game.proofs.Growing.{known_kept, of_kept, states_kept}
-use Rattle.tm_levels.specs.Order.{IsOrder}
-use Rattle.tm_levels.proofs.Orders.{length_order}
-use Rattle.tm_loading.specs.Loaded.{AreLoaded}
+use Rattle.tm_game_bits.specs.Order.{IsOrder}
+use Rattle.tm_game_bits.proofs.Orders.{length_order}
+use Rattle.tm_verdict.specs.Loaded.{AreLoaded}
 use Rattle.tm_sem.specs.declared.state.Move.{Move}
 use Rattle.tm_sem.specs.Certificates.{DriverSets, RankedSet}
 use Rattle.tm_sem.specs.State.{StateData}
 use Rattle.tm_sem.specs.StateBits.{state_widths}
 use Rattle.tm_sem.specs.Step.{is_driver_move}
-use Rattle.tm_sets.specs.Fitting.{AreNodes}
+use Rattle.tm_verdict.specs.Fitting.{AreNodes}
 use Rattle.tm_syntax.specs.Design.{DesignTree}
 
 -- blocks are a strategy of the driver

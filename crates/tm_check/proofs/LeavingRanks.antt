@@ -4,17 +4,17 @@ use Rattle.std.proofs.Common.{length, get_or, refl, sym, ap, ◌∙◌, subst, a
 use Rattle.std.specs.Prelude.{slice_get}
 use Rattle.std.proofs.lemmas.List.{length_push}
 use Rattle.std.proofs.lemmas.Option.{slice_get-get_or, slice_get_within}
-use Rattle.tm_answers.specs.declared.replies.Replies.{Replies}
-use Rattle.tm_answers.specs.Good.{IsAnsweredWell}
-use Rattle.tm_answers.proofs.Growth.{sized_kept}
-use Rattle.tm_answers.proofs.Pushed.{pushed_at}
+use Rattle.tm_check.specs.declared.replies.Replies.{Replies}
+use Rattle.tm_check.specs.Good.{IsAnsweredWell}
+use Rattle.tm_check.proofs.Growth.{sized_kept}
+use Rattle.tm_check.proofs.Pushed.{pushed_at}
 use Rattle.tm_check.specs.declared.leaving.Leaving.{Leaving}
 use Rattle.tm_check.specs.declared.loaded.DriverDiagrams.{DriverDiagrams}
 use Rattle.tm_check.specs.declared.loaded.RankedDiagrams.{RankedDiagrams}
 use Rattle.tm_check.specs.Leaving.{AreAnswers, AreLeaving, AreLeavingRanks, Plays}
 use Rattle.tm_check.specs.Loaded.{AreRankedDiagrams, row_at}
 use Rattle.tm_check.specs.Told.{IsTold}
-use Rattle.tm_assigned.specs.States.{state_of}
+use Rattle.tm_game_bits.specs.AssignedStates.{state_of}
 use Rattle.tm_check.proofs.Keeping.{leaving_ranks_kept}
 use Rattle.tm_check.proofs.Parts.{ranked_here}
 use Rattle.tm_check.proofs.States.{states_none, states_or, states_same, states_without}
@@ -25,8 +25,8 @@ use Rattle.tm_dd.specs.declared.node.NodeId.{NodeId}
 use Rattle.tm_dd.specs.declared.node.TheConstants.{FALSE}
 use Rattle.tm_dd.specs.Table.{Knows, Table, means}
 use Rattle.tm_ddops.specs.Manager.{IsFunction}
-use Rattle.tm_failures.specs.Found.{AnswerKeeps, MayLeave, within_rank}
-use Rattle.tm_forcing.proofs.Extended.{IsSetOf-Extends}
+use Rattle.tm_verdict.specs.Found.{AnswerKeeps, MayLeave, within_rank}
+use Rattle.tm_game_bits.proofs.Extended.{IsSetOf-Extends}
 use Rattle.tm_game.specs.Game.{GameData, Grows, IsStates, in_set}
 use Rattle.tm_game.proofs.Growing.{grows_then, of_kept, states_kept}
 use Rattle.tm_sem.specs.Certificates.{AreRanked, DriverSets, RankedSet}

@@ -1,25 +1,25 @@
 -- A set of the states at which a part is found to fail decides on that part.
 use Rattle.std.proofs.Common.{◌≡◌, ℕ, [], ◌∷◌, ◌∙◌}
-use Rattle.tm_answers.specs.Reads.{IsSized}
+use Rattle.tm_check.specs.Reads.{IsSized}
 use Rattle.tm_check.specs.Tried.{AreTried, IsFirstFailure}
 use Rattle.tm_check.proofs.States.{test_all, test_only}
 use Rattle.tm_dd.specs.declared.node.NodeId.{NodeId}
-use Rattle.tm_failures.specs.Found.{IsFound, NamesStates, RestsOn}
-use Rattle.tm_failures.specs.Regular.{IsDriver, IsRegular}
-use Rattle.tm_failures.proofs.DriverFailures.{fails, found}
-use Rattle.tm_failures.proofs.DriverPasses.{passes}
+use Rattle.tm_verdict.specs.Found.{IsFound, NamesStates, RestsOn}
+use Rattle.tm_verdict.specs.Regular.{IsDriver, IsRegular}
+use Rattle.tm_verdict.proofs.DriverFailures.{fails, found}
+use Rattle.tm_verdict.proofs.DriverPasses.{passes}
 use Rattle.tm_game.specs.Game.{GameData, IsOf, IsStates}
 use Rattle.tm_sem.specs.declared.state.Move.{Move}
 use Rattle.tm_sem.specs.Certificates.{DriverSets}
 use Rattle.tm_sem.specs.State.{StateData}
 use Rattle.tm_syntax.specs.Design.{DesignTree}
-use Rattle.tm_verdicts.specs.declared.verdict.Verdict.{Verdict}
-use Rattle.tm_verdicts.specs.declared.verdict.Verdict.TheVariants.{Accepted, Refused}
-use Rattle.tm_verdicts.specs.Driver.{DriverPart, FailsAt, IsReported, adds_state, begins_within, driver_condition}
-use Rattle.tm_verdicts.specs.Driver.{driver_goal, driver_meaning, falls_when_fair, is_answered, is_calm, is_ranked}
-use Rattle.tm_verdicts.specs.Driver.{lies_within, never_rises}
-use Rattle.tm_verdicts.specs.Reported.{IsFirstOf}
-use Rattle.tm_verdicts.proofs.Trying.{refused_alone}
+use Rattle.tm_verdict.specs.declared.verdict.Verdict.{Verdict}
+use Rattle.tm_verdict.specs.declared.verdict.Verdict.TheVariants.{Accepted, Refused}
+use Rattle.tm_verdict.specs.Driver.{DriverPart, FailsAt, IsReported, adds_state, begins_within, driver_condition}
+use Rattle.tm_verdict.specs.Driver.{driver_goal, driver_meaning, falls_when_fair, is_answered, is_calm, is_ranked}
+use Rattle.tm_verdict.specs.Driver.{lies_within, never_rises}
+use Rattle.tm_verdict.specs.Reported.{IsFirstOf}
+use Rattle.tm_verdict.proofs.Trying.{refused_alone}
 
 module _ (d : DesignTree) (regular : IsRegular d) (answers : StateData → ℕ → Move → Type 0)
     (driver : IsDriver answers) (c : DriverSets) where

@@ -13,8 +13,8 @@ use Rattle.tm_cir.specs.Tree.{BlockTree}
 use Rattle.tm_dd.specs.declared.node.NodeId.{NodeId}
 use Rattle.tm_dd.specs.Table.{Table, means}
 use Rattle.tm_ddops.specs.Manager.{IsFunction}
-use Rattle.tm_failures.specs.Found.{AnswerKeeps, IsFound, IsOfRank, MayLeave, within_rank}
-use Rattle.tm_failures.proofs.Ranks.{of_rank, rank_is}
+use Rattle.tm_verdict.specs.Found.{AnswerKeeps, IsFound, IsOfRank, MayLeave, within_rank}
+use Rattle.tm_verdict.proofs.Ranks.{of_rank, rank_is}
 use Rattle.tm_game.specs.Game.{GameData, IsStates}
 use Rattle.tm_sem.specs.declared.state.Move.{Move}
 use Rattle.tm_sem.specs.Certificates.{AreRanked, DriverSets, RankedSet, rank}
@@ -24,7 +24,7 @@ use Rattle.tm_sem.specs.Play.{goal_holds}
 use Rattle.tm_sem.specs.State.{StateData}
 use Rattle.tm_sem.specs.Step.{IsInitial, IsState, is_driver_turn}
 use Rattle.tm_syntax.specs.Design.{DesignTree}
-use Rattle.tm_verdicts.specs.Driver.{begins_within, is_answered, is_calm, is_ranked, lies_within}
+use Rattle.tm_verdict.specs.Driver.{begins_within, is_answered, is_calm, is_ranked, lies_within}
 
 -- ---- the ranked regions of a goal
 module _ (d : DesignTree) (bs : List BlockTree) (c : DriverSets) (g : GameData) (told : DriverDiagrams)

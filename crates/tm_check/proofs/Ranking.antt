@@ -3,7 +3,7 @@ use Rattle.std.proofs.Common.{◌≡◌, ◌⊎◌, inl, inr, ℕ, ◌+◌, true
 use Rattle.std.proofs.Common.{◌∙◌, subst, arith}
 use Rattle.std.specs.Prelude.{slice_get}
 use Rattle.std.proofs.lemmas.List.{length_push}
-use Rattle.tm_answers.proofs.Pushed.{pushed_at}
+use Rattle.tm_check.proofs.Pushed.{pushed_at}
 use Rattle.tm_check.specs.declared.loaded.RankedDiagrams.{RankedDiagrams}
 use Rattle.tm_check.specs.Loaded.{AreRankedDiagrams, IsRanked}
 use Rattle.tm_check.proofs.Keeping.{ranked_kept}
@@ -13,7 +13,7 @@ use Rattle.tm_dd.specs.declared.node.NodeId.{NodeId}
 use Rattle.tm_dd.specs.declared.node.TheConstants.{FALSE}
 use Rattle.tm_dd.specs.Table.{means}
 use Rattle.tm_ddops.specs.Manager.{IsFunction}
-use Rattle.tm_failures.specs.Found.{within_rank}
+use Rattle.tm_verdict.specs.Found.{within_rank}
 use Rattle.tm_game.specs.Game.{GameData, Grows, IsStates}
 use Rattle.tm_game.proofs.Growing.{grows_then, states_kept}
 use Rattle.tm_sem.specs.Certificates.{RankedSet}

@@ -6,10 +6,10 @@ use Rattle.std.specs.declared.alloc.Global.{Global}
 use Rattle.std.specs.Option.{option_map, option_map_or}
 use Rattle.std.proofs.lemmas.List.{length_push}
 use Rattle.std.proofs.lemmas.Option.{slice_get-get_or, slice_get-map, slice_get_within}
-use Rattle.tm_answers.specs.declared.replies.Replies.{Replies}
-use Rattle.tm_answers.specs.Replies.{AreReplies}
-use Rattle.tm_answers.proofs.Keeping.{replies_kept}
-use Rattle.tm_answers.proofs.Pushed.{pushed_at}
+use Rattle.tm_check.specs.declared.replies.Replies.{Replies}
+use Rattle.tm_check.specs.Replies.{AreReplies}
+use Rattle.tm_check.proofs.KeepingReplies.{replies_kept}
+use Rattle.tm_check.proofs.Pushed.{pushed_at}
 use Rattle.tm_cert.specs.declared.cert.Rank.{Rank}
 use Rattle.tm_check.specs.declared.loaded.DriverDiagrams.{DriverDiagrams}
 use Rattle.tm_check.specs.declared.loaded.RankedDiagrams.{RankedDiagrams}

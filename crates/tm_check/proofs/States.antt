@@ -1,16 +1,16 @@
 -- Sets of states as diagrams, and as tests.
 use Rattle.std.proofs.Common.{◌≡◌, ◌⊎◌, inl, inr, ℕ, Bool, true, false, ◌&&◌, ◌||◌, not, List, refl, sym, ◌∙◌, subst}
 use Rattle.std.proofs.Common.{arith, true≢false}
-use Rattle.tm_answers.specs.Reads.{IsSized}
-use Rattle.tm_assigned.specs.States.{assignment_of, coding_of, state_of}
-use Rattle.tm_coding.specs.Coding.{IsCoding}
+use Rattle.tm_check.specs.Reads.{IsSized}
+use Rattle.tm_game_bits.specs.AssignedStates.{assignment_of, coding_of, state_of}
+use Rattle.tm_game_bits.specs.Coding.{IsCoding}
 use Rattle.tm_dd.specs.declared.node.NodeId.{NodeId}
 use Rattle.tm_dd.specs.declared.node.TheConstants.{FALSE}
 use Rattle.tm_dd.specs.Table.{Table, means}
 use Rattle.tm_dd.proofs.CallerLaws.{means-FALSE}
 use Rattle.tm_ddops.specs.Manager.{IsFunction}
-use Rattle.tm_forcing.specs.Functions.{Assignment}
-use Rattle.tm_forcing.proofs.Sets.{IsSetOf-same, both_true, some_true, true_first, true_second}
+use Rattle.tm_game_bits.specs.Functions.{Assignment}
+use Rattle.tm_game_bits.proofs.Sets.{IsSetOf-same, both_true, some_true, true_first, true_second}
 use Rattle.tm_game.specs.Game.{GameData, IsOf, IsSet, IsStates}
 use Rattle.tm_game.proofs.SetTests.{coding_told, states_set}
 use Rattle.tm_sem.specs.State.{StateData}

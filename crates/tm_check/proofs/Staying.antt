@@ -1,14 +1,14 @@
 -- The states from which not every step stays in a set.
 use Rattle.std.proofs.Common.{◌≡◌, ℕ, Bool, true, List}
-use Rattle.tm_answers.specs.Good.{IsAnsweredWell}
-use Rattle.tm_answers.specs.Reads.{IsSized}
+use Rattle.tm_check.specs.Good.{IsAnsweredWell}
+use Rattle.tm_check.specs.Reads.{IsSized}
 use Rattle.tm_check.proofs.States.{states_same, test_all, test_only}
 use Rattle.tm_cir.specs.Answer.{Answers}
 use Rattle.tm_cir.specs.Tree.{BlockTree}
 use Rattle.tm_dd.specs.declared.node.NodeId.{NodeId}
 use Rattle.tm_dd.specs.Table.{Table}
-use Rattle.tm_failures.specs.Found.{AnswerKeeps}
-use Rattle.tm_failures.specs.Regular.{IsRegular}
+use Rattle.tm_verdict.specs.Found.{AnswerKeeps}
+use Rattle.tm_verdict.specs.Regular.{IsRegular}
 use Rattle.tm_game.specs.Game.{GameData, IsOf, IsStates, in_set}
 use Rattle.tm_sem.specs.declared.state.Move.{Move}
 use Rattle.tm_sem.specs.declared.state.Outcome.TheVariants.{Next}

@@ -4,8 +4,8 @@ use Rattle.std.proofs.Common.{sym, ap, ◌∙◌, subst, arith}
 use Rattle.std.specs.Prelude.{slice_get}
 use Rattle.std.proofs.lemmas.Bool.{cases_lt}
 use Rattle.std.proofs.lemmas.Option.{slice_get-get_or, slice_get_within}
-use Rattle.tm_answers.specs.Good.{IsAnsweredWell}
-use Rattle.tm_answers.proofs.Growth.{sized_kept}
+use Rattle.tm_check.specs.Good.{IsAnsweredWell}
+use Rattle.tm_check.proofs.Growth.{sized_kept}
 use Rattle.tm_check.specs.declared.leaving.Leaving.{Leaving}
 use Rattle.tm_check.specs.declared.loaded.DriverDiagrams.{DriverDiagrams}
 use Rattle.tm_check.specs.declared.loaded.RankedDiagrams.{RankedDiagrams}
@@ -22,7 +22,7 @@ use Rattle.tm_dd.specs.declared.node.NodeId.{NodeId}
 use Rattle.tm_dd.specs.declared.node.TheConstants.{FALSE}
 use Rattle.tm_dd.specs.Table.{means}
 use Rattle.tm_ddops.specs.Manager.{IsFunction}
-use Rattle.tm_failures.specs.Found.{AnswerKeeps, IsFound, MayLeave, within_rank}
+use Rattle.tm_verdict.specs.Found.{AnswerKeeps, IsFound, MayLeave, within_rank}
 use Rattle.tm_game.specs.Game.{AreFairs, AreGoals, GameData, Grows, IsStates, in_set}
 use Rattle.tm_game.proofs.Growing.{grows_none, grows_then, of_kept, states_kept}
 use Rattle.tm_sem.specs.Certificates.{AreRanked, DriverSets, RankedSet}
@@ -32,7 +32,7 @@ use Rattle.tm_sem.specs.Play.{goal_holds}
 use Rattle.tm_sem.specs.State.{StateData}
 use Rattle.tm_sem.specs.Step.{is_driver_turn}
 use Rattle.tm_syntax.specs.Design.{DesignTree}
-use Rattle.tm_verdicts.specs.Driver.{falls_when_fair, is_answered, is_calm, never_rises}
+use Rattle.tm_verdict.specs.Driver.{falls_when_fair, is_answered, is_calm, never_rises}
 
 module _ (d : DesignTree) (bs : List BlockTree) (c : DriverSets) (told : DriverDiagrams) where
   -- C3

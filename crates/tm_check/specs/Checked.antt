@@ -1,11 +1,11 @@
 -- What is asked of a driver, its certificate and a game where they are checked.
 use Rattle.std.specs.Prelude.{◌<◌, ◌^◌, List, length}
-use Rattle.tm_answers.specs.Reads.{IsSized}
+use Rattle.tm_check.specs.Reads.{IsSized}
 use Rattle.tm_cert.specs.Cert.{DriverData}
 use Rattle.tm_check.specs.Loaded.{CanLoad}
 use Rattle.tm_cir.specs.Fit.{FitBlocks}
 use Rattle.tm_cir.specs.Tree.{BlockTree}
-use Rattle.tm_failures.specs.Regular.{IsRegular}
+use Rattle.tm_verdict.specs.Regular.{IsRegular}
 use Rattle.tm_game.specs.Game.{GameData}
 use Rattle.tm_sem.specs.State.{StateData}
 use Rattle.tm_sem.specs.Step.{IsInitial}

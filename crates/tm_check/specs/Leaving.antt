@@ -1,8 +1,8 @@
 -- The answers of a driver, and the states from which not every step stays within some ranks.
 use Rattle.std.specs.Prelude.{◌≡◌, ℕ, ◌+◌, ◌<◌, List, Some, length, slice_get}
-use Rattle.tm_answers.specs.declared.replies.Replies.{Replies}
-use Rattle.tm_answers.specs.Reads.{IsSized}
-use Rattle.tm_answers.specs.Replies.{AreReplies}
+use Rattle.tm_check.specs.declared.replies.Replies.{Replies}
+use Rattle.tm_check.specs.Reads.{IsSized}
+use Rattle.tm_check.specs.Replies.{AreReplies}
 use Rattle.tm_check.specs.declared.leaving.Leaving.{Leaving}
 use Rattle.tm_check.specs.declared.loaded.DriverDiagrams.{DriverDiagrams}
 use Rattle.tm_check.specs.Told.{IsTold}
@@ -10,8 +10,8 @@ use Rattle.tm_cir.specs.Answer.{Answers}
 use Rattle.tm_cir.specs.Fit.{FitBlocks}
 use Rattle.tm_cir.specs.Tree.{BlockTree}
 use Rattle.tm_dd.specs.declared.node.NodeId.{NodeId}
-use Rattle.tm_failures.specs.Found.{Awaits, IsOfRank, MayLeave, within_rank}
-use Rattle.tm_failures.specs.Regular.{IsRegular}
+use Rattle.tm_verdict.specs.Found.{Awaits, IsOfRank, MayLeave, within_rank}
+use Rattle.tm_verdict.specs.Regular.{IsRegular}
 use Rattle.tm_game.specs.Game.{GameData, IsOf, IsStates}
 use Rattle.tm_sem.specs.Certificates.{AreRanked, DriverSets, RankedSet}
 use Rattle.tm_sem.specs.Fairness.{IsFair}

@@ -1,6 +1,13 @@
+pub mod Arguments
 pub mod Checked
+pub mod Good
 pub mod Leaving
 pub mod Loaded
+pub mod Operators
+pub mod Reading
+pub mod Reads
+pub mod Replies
 pub mod Told
 pub mod Tried
 pub mod Verdict
+pub mod Worth

@@ -7,14 +7,14 @@ use Rattle.tm_check.specs.declared.loaded.DriverDiagrams.{DriverDiagrams}
 use Rattle.tm_check.specs.declared.loaded.RankedDiagrams.{RankedDiagrams}
 use Rattle.tm_dd.specs.declared.node.NodeId.{NodeId}
 use Rattle.tm_dd.specs.Table.{Table}
-use Rattle.tm_failures.specs.Found.{within_rank}
+use Rattle.tm_verdict.specs.Found.{within_rank}
 use Rattle.tm_game.specs.Game.{GameData, IsOf, IsStates}
-use Rattle.tm_levels.specs.Order.{IsOrder}
-use Rattle.tm_loading.specs.Loaded.{AreLoaded}
+use Rattle.tm_game_bits.specs.Order.{IsOrder}
+use Rattle.tm_verdict.specs.Loaded.{AreLoaded}
 use Rattle.tm_sem.specs.Certificates.{DriverSets, RankedSet}
 use Rattle.tm_sem.specs.Fairness.{conditions}
 use Rattle.tm_sem.specs.StateBits.{state_widths}
-use Rattle.tm_sets.specs.Fitting.{AreNodes, FitsDriver}
+use Rattle.tm_verdict.specs.Fitting.{AreNodes, FitsDriver}
 use Rattle.tm_syntax.specs.Design.{DesignTree}
 
 -- the diagrams of a ranked region: its states, those of its rank and lower ones, and those of lower ranks alone

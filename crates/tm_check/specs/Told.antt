@@ -1,7 +1,7 @@
 -- What is known of a driver and its certificate where conditions are tried.
 use Rattle.std.specs.Prelude.{◌≡◌, ◌-◌, ◌^◌, ◌<◌, List, length, slice_get}
 use Rattle.std.specs.Option.{option_map_or}
-use Rattle.tm_answers.specs.Reads.{IsSized}
+use Rattle.tm_check.specs.Reads.{IsSized}
 use Rattle.tm_check.specs.declared.loaded.DriverDiagrams.{DriverDiagrams}
 use Rattle.tm_check.specs.declared.loaded.RankedDiagrams.{RankedDiagrams}
 use Rattle.tm_check.specs.Loaded.{AreDiagrams}
@@ -9,7 +9,7 @@ use Rattle.tm_cir.specs.Fit.{FitBlocks}
 use Rattle.tm_cir.specs.Tree.{BlockTree}
 use Rattle.tm_dd.specs.declared.node.NodeId.{NodeId}
 use Rattle.tm_dd.specs.declared.node.TheConstants.{FALSE}
-use Rattle.tm_failures.specs.Regular.{IsRegular}
+use Rattle.tm_verdict.specs.Regular.{IsRegular}
 use Rattle.tm_game.specs.Game.{GameData, IsOf}
 use Rattle.tm_sem.specs.Certificates.{DriverSets, WaitForConditions}
 use Rattle.tm_sem.specs.State.{StateData}

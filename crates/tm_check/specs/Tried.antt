@@ -8,10 +8,10 @@ use Rattle.tm_sem.specs.Certificates.{DriverSets}
 use Rattle.tm_sem.specs.State.{StateData}
 use Rattle.tm_sem.specs.StateBits.{IsLeast}
 use Rattle.tm_syntax.specs.Design.{DesignTree}
-use Rattle.tm_verdicts.specs.declared.verdict.Verdict.{Verdict}
-use Rattle.tm_verdicts.specs.declared.verdict.Verdict.TheVariants.{Accepted, Refused}
-use Rattle.tm_verdicts.specs.Driver.{DriverPart, Passes, driver_meaning, is_answered, is_calm, is_ranked}
-use Rattle.tm_verdicts.specs.Tried as parts
+use Rattle.tm_verdict.specs.declared.verdict.Verdict.{Verdict}
+use Rattle.tm_verdict.specs.declared.verdict.Verdict.TheVariants.{Accepted, Refused}
+use Rattle.tm_verdict.specs.Driver.{DriverPart, Passes, driver_meaning, is_answered, is_calm, is_ranked}
+use Rattle.tm_verdict.specs.Tried as parts
 
 -- parts of a driver's certificate were tried in order, with this verdict
 abbrev pub AreTried : DesignTree → (StateData → ℕ → Move → Type 0) → DriverSets → List DriverPart → Verdict → Type 0

@@ -4,9 +4,9 @@ use Rattle.tm_sem.specs.declared.state.Move.{Move}
 use Rattle.tm_sem.specs.Certificates.{DriverSets, MeetsDriver}
 use Rattle.tm_sem.specs.State.{StateData}
 use Rattle.tm_syntax.specs.Design.{DesignTree}
-use Rattle.tm_verdicts.specs.declared.verdict.Verdict.{Verdict}
-use Rattle.tm_verdicts.specs.declared.verdict.Verdict.TheVariants.{Accepted, Refused}
-use Rattle.tm_verdicts.specs.Driver.{IsRefused}
+use Rattle.tm_verdict.specs.declared.verdict.Verdict.{Verdict}
+use Rattle.tm_verdict.specs.declared.verdict.Verdict.TheVariants.{Accepted, Refused}
+use Rattle.tm_verdict.specs.Driver.{IsRefused}
 
 -- accepted, where the sets are a certificate of the strategy; refused, with the first condition that fails, its goal
 -- and its least state

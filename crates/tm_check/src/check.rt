@@ -1,7 +1,7 @@
 //! The check of a driver's certificate.
 ghost use Rattle.std.specs.Prelude.{◌≡◌, ◌<◌, ◌^◌, ◌∷◌, ◌++◌, [], IfOk, List, Ok, length, map};
 ghost use Rattle.std.specs.List.{flat_map};
-ghost use Rattle.tm_answers.specs.Reads.{IsSized};
+ghost use Rattle.tm_check.specs.Reads.{IsSized};
 ghost use Rattle.tm_check.specs.Checked.{CanCheck};
 ghost use Rattle.tm_check.specs.Leaving.{AreAnswers, HasAnswers};
 ghost use Rattle.tm_check.specs.Told.{HasTold, IsTold};
@@ -14,23 +14,23 @@ ghost use Rattle.tm_cir.specs.View.{trees_of};
 ghost use Rattle.tm_game.specs.Game.{Grows, IsOf};
 ghost use Rattle.tm_sem.specs.Certificates.{DriverSets};
 ghost use Rattle.tm_sem.specs.Strategy.{Good};
-ghost use Rattle.tm_sets.specs.Sets.{driver_sets};
+ghost use Rattle.tm_verdict.specs.Sets.{driver_sets};
 ghost use Rattle.tm_syntax.specs.Design.{DesignTree};
 ghost use Rattle.tm_syntax.specs.Design.View.{design_tree};
-ghost use Rattle.tm_verdicts.specs.Driver.{begins_within, falls_when_fair, goal_parts, goals_of, is_answered, is_calm};
-ghost use Rattle.tm_verdicts.specs.Driver.{is_ranked, never_rises};
+ghost use Rattle.tm_verdict.specs.Driver.{begins_within, falls_when_fair, goal_parts, goals_of, is_answered, is_calm};
+ghost use Rattle.tm_verdict.specs.Driver.{is_ranked, never_rises};
 
 use crate::leaving::leaving_sets;
 use crate::loaded::{DriverDiagrams, load};
 use crate::regions::{beginning, ranking, regions};
 use crate::steps::{answering, calming, falling, never_rising};
+use crate::{Replies, read_replies};
 use std::alloc::{AllocError, Global};
-use tm_answers::{Replies, read_replies};
 use tm_cert::DriverCert;
 use tm_cir::Blocks;
 use tm_game::Game;
 use tm_syntax::design::Design;
-use tm_verdicts::Verdict;
+use tm_verdict::Verdict;
 
 /// Whether the blocks have the certificate: every condition holds, or the first that fails, by number, then by goal,
 /// with its least state by place. Where the failing part names no state, that is the least initial one.

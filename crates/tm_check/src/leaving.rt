@@ -1,13 +1,13 @@
 //! The states from which not every step stays within some ranks.
 ghost use Rattle.std.specs.Prelude.{◌≡◌, ◌<◌, ℕ, Bool, true, IfOk, List, length};
-ghost use Rattle.tm_answers.specs.Good.{HasReplies};
-ghost use Rattle.tm_answers.specs.Replies.{AreReplies};
+ghost use Rattle.tm_check.specs.Good.{HasReplies};
+ghost use Rattle.tm_check.specs.Replies.{AreReplies};
 ghost use Rattle.tm_check.specs.Leaving.{AreAnswers, AreLeaving, AreLeavingRanks, HasAnswers, Plays};
 ghost use Rattle.tm_check.specs.Loaded.{row_at};
 ghost use Rattle.tm_check.specs.Told.{HasTold, IsTold};
 ghost use Rattle.tm_cir.specs.Answer.{Answers};
 ghost use Rattle.tm_cir.specs.Tree.{BlockTree};
-ghost use Rattle.tm_failures.specs.Found.{MayLeave};
+ghost use Rattle.tm_verdict.specs.Found.{MayLeave};
 ghost use Rattle.tm_game.specs.Game.{Grows, IsOf, IsSet, IsStates};
 ghost use Rattle.tm_sem.specs.Certificates.{DriverSets};
 ghost use Rattle.tm_sem.specs.State.{StateData};
@@ -15,8 +15,8 @@ ghost use Rattle.tm_syntax.specs.Design.{DesignTree};
 
 use crate::loaded::{DriverDiagrams, rank_count, ranked_at};
 use crate::trying::without;
+use crate::{Replies, good_answers};
 use std::alloc::{AllocError, Global};
-use tm_answers::{Replies, good_answers};
 use tm_dd::{FALSE, NodeId};
 use tm_game::Game;
 

@@ -3,14 +3,14 @@ ghost use Rattle.std.specs.Prelude.{◌≡◌, ◌<◌, All, IfOk, List, Some, l
 ghost use Rattle.tm_cert.specs.declared.cert.Entry.{Entry as Node};
 ghost use Rattle.tm_check.specs.Loaded.{AreDiagrams, AreRankedDiagrams, CanLoad, IsLoadedIn, row_at};
 ghost use Rattle.tm_game.specs.Game.{Grows};
-ghost use Rattle.tm_sets.specs.Sets.{driver_sets, ranked_set};
+ghost use Rattle.tm_verdict.specs.Sets.{driver_sets, ranked_set};
 ghost use Rattle.tm_syntax.specs.Design.{DesignTree};
 
 use std::alloc::{AllocError, Global};
 use tm_cert::{DriverCert, Rank};
 use tm_dd::{FALSE, NodeId};
 use tm_game::Game;
-use tm_loading::{load_nodes, load_set};
+use tm_verdict::{load_nodes, load_set};
 
 /// A ranked region: the number of the fairness condition that is waited for in it, its states, the states of its rank
 /// and lower ones, and those of lower ranks alone.

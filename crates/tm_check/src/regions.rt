@@ -9,15 +9,15 @@ ghost use Rattle.tm_cir.specs.Tree.{BlockTree};
 ghost use Rattle.tm_game.specs.Game.{Grows};
 ghost use Rattle.tm_sem.specs.Certificates.{DriverSets};
 ghost use Rattle.tm_syntax.specs.Design.{DesignTree};
-ghost use Rattle.tm_verdicts.specs.Driver.{adds_state, begins_within, goal_parts, goals_of, is_ranked, lies_within};
-ghost use Rattle.tm_verdicts.specs.Driver.{region_parts};
+ghost use Rattle.tm_verdict.specs.Driver.{adds_state, begins_within, goal_parts, goals_of, is_ranked, lies_within};
+ghost use Rattle.tm_verdict.specs.Driver.{region_parts};
 
 use crate::loaded::{DriverDiagrams, rank_count, ranked_at};
 use crate::trying::{try_part, without};
 use std::alloc::AllocError;
 use tm_dd::{FALSE, NodeId};
 use tm_game::Game;
-use tm_verdicts::Verdict;
+use tm_verdict::Verdict;
 
 /// C0: each ranked region lies in the region, and adds a state.
 pub(crate) fn regions(game: &mut Game, told: &DriverDiagrams) -> Result<Verdict, AllocError>

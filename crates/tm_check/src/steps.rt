@@ -11,16 +11,16 @@ ghost use Rattle.tm_dd.specs.Table.{Knows};
 ghost use Rattle.tm_game.specs.Game.{Grows, IsStates};
 ghost use Rattle.tm_sem.specs.Certificates.{DriverSets};
 ghost use Rattle.tm_syntax.specs.Design.{DesignTree};
-ghost use Rattle.tm_verdicts.specs.Driver.{falls_when_fair, goals_of, is_answered, is_calm, never_rises};
+ghost use Rattle.tm_verdict.specs.Driver.{falls_when_fair, goals_of, is_answered, is_calm, never_rises};
 
 use crate::leaving::Leaving;
 use crate::loaded::{DriverDiagrams, rank_count, ranked_at};
 use crate::trying::{try_part, without};
+use crate::{Replies, good_answers};
 use std::alloc::{AllocError, Global};
-use tm_answers::{Replies, good_answers};
 use tm_dd::{FALSE, NodeId};
 use tm_game::Game;
-use tm_verdicts::Verdict;
+use tm_verdict::Verdict;
 
 /// C3: from a state of the region no stutter or process step errs or leaves it.
 pub(crate) fn calming(game: &mut Game, told: &DriverDiagrams) -> Result<Verdict, AllocError>

@@ -9,7 +9,7 @@ ghost use Rattle.tm_syntax.specs.Design.{DesignTree};
 use std::alloc::AllocError;
 use tm_dd::NodeId;
 use tm_game::Game;
-use tm_verdicts::Verdict;
+use tm_verdict::Verdict;
 
 /// What of a set another one leaves out.
 pub(crate) fn without(game: &mut Game, set: NodeId, other: NodeId) -> Result<NodeId, AllocError>

@@ -1,8 +1,8 @@
 -- The value of an expression, as ISO/IEC 9899:2011 has it for `uint64_t`: arithmetic is modulo 2 ^ 64 (6.2.5),
 -- and comparisons and logical operators give 1 or 0 (6.5.3.3, 6.5.8, 6.5.9, 6.5.13, 6.5.14).
 use Rattle.std.specs.Prelude.{ℕ, Bool, ◌==◌, ◌&&◌, ◌||◌, bit_and, bit_or, bit_xor, slice_index}
-use Rattle.tm_bits.specs.Arithmetic as bits
-use Rattle.tm_bits.specs.Shift.{shift as shifted}
+use Rattle.tm_base.specs.Arithmetic as bits
+use Rattle.tm_base.specs.Shift.{shift as shifted}
 use Rattle.tm_sem.specs.State.{StateData}
 use Rattle.tm_cir.specs.declared.block.NumOperator.{NumOperator}
 use Rattle.tm_cir.specs.declared.block.NumOperator.TheVariants as numbers

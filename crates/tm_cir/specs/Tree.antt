@@ -2,7 +2,7 @@
 -- Operators are the code's own types, which are plain data already.
 use Rattle.std.specs.Prelude.{ℕ, List}
 use Rattle.tm_cir.specs.declared.block.NumOperator.{NumOperator}
-use Rattle.tm_bits.specs.declared.shift_operator.ShiftOperator.{ShiftOperator}
+use Rattle.tm_base.specs.declared.shift_operator.ShiftOperator.{ShiftOperator}
 use Rattle.tm_cir.specs.declared.block.Comparison.{Comparison}
 use Rattle.tm_cir.specs.declared.block.Junction.{Junction}
 

@@ -1,6 +1,6 @@
 //! The blocks of a driver, and the expressions in them: the subset of C11 that a driver's text is written in.
 
-use tm_bits::ShiftOperator;
+use tm_base::ShiftOperator;
 
 /// The greatest number of arguments of a call. A parameter has at least one bit, and a task's parameters at most 64.
 pub const MOST_ARGUMENTS: usize = 64;

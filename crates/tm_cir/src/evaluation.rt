@@ -1,12 +1,12 @@
 //! The value of an expression.
 ghost use Rattle.std.specs.Prelude.{◌≡◌, length};
-ghost use Rattle.tm_bits.specs.Arithmetic.{is_nonzero};
+ghost use Rattle.tm_base.specs.Arithmetic.{is_nonzero};
 ghost use Rattle.tm_cir.specs.View.{num_tree, truth_tree};
 ghost use Rattle.tm_cir.specs.Meaning.{num_value, binary_value, comparison_value, holds};
 ghost use Rattle.tm_cir.specs.Fit.{FitsNum, FitsTruth};
 
 use crate::block::{Comparison, Junction, Num64, NumOperator, Truth};
-use tm_bits::{complement, difference, shift, sum};
+use tm_base::{complement, difference, shift, sum};
 use tm_sem::state::State;
 
 /// The value of a number at a state with this pending goal.

@@ -15,10 +15,10 @@ use Rattle.tm_sem.specs.Fairness.{conditions}
 use Rattle.tm_sem.specs.Strategy.{Good}
 use Rattle.tm_sem.proofs.Losing.{certified_is_lost}
 use Rattle.tm_sem.proofs.Sums.{waits_for_less_than_all}
-use Rattle.tm_sets.specs.Sets.{driver_sets, level_sets, levels_of}
+use Rattle.tm_verdict.specs.Sets.{driver_sets, level_sets, levels_of}
 use Rattle.tm_syntax.specs.Design.{DesignTree}
-use Rattle.tm_verdicts.specs.declared.verdict.Verdict.{Verdict}
-use Rattle.tm_verdicts.specs.declared.verdict.Verdict.TheVariants as verdicts
+use Rattle.tm_verdict.specs.declared.verdict.Verdict.{Verdict}
+use Rattle.tm_verdict.specs.declared.verdict.Verdict.TheVariants as verdicts
 use Rattle.tm_report.specs.declared.ending.Ending.{Ending}
 use Rattle.tm_report.specs.declared.ending.Ending.TheVariants.{Usage, Generated}
 use Rattle.tm_report.specs.declared.ending.Ending.TheVariants.{Accepted, AcceptedEnvironment}

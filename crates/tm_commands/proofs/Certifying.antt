@@ -13,7 +13,7 @@ use Rattle.tm_cert.specs.CertValue.{IsCertText}
 use Rattle.tm_cert.specs.Judge.{judge_text}
 use Rattle.tm_cert.specs.Judged.{IsRefusalOf}
 use Rattle.tm_cert.proofs.Texts.{judge_text-complete}
-use Rattle.tm_shape.specs.Shape.{shape_of}
+use Rattle.tm_judge.specs.Shape.{shape_of}
 use Rattle.tm_report.specs.declared.ending.Bad.TheVariants.{Cert}
 use Rattle.tm_report.specs.declared.ending.Ending.{Ending}
 use Rattle.tm_report.specs.declared.ending.Ending.TheVariants.{BadText}

@@ -8,10 +8,10 @@ use Rattle.tm_cert.specs.Cert.{DriverData}
 use Rattle.tm_check.specs.Verdict.{IsDriverVerdict}
 use Rattle.tm_cir.specs.Answer.{Answers}
 use Rattle.tm_cir.specs.Tree.{BlockTree}
-use Rattle.tm_sets.specs.Sets.{driver_sets}
+use Rattle.tm_verdict.specs.Sets.{driver_sets}
 use Rattle.tm_syntax.specs.Design.{DesignTree}
-use Rattle.tm_verdicts.specs.declared.verdict.Verdict.{Verdict}
-use Rattle.tm_verdicts.specs.declared.verdict.Verdict.TheVariants as verdicts
+use Rattle.tm_verdict.specs.declared.verdict.Verdict.{Verdict}
+use Rattle.tm_verdict.specs.declared.verdict.Verdict.TheVariants as verdicts
 use Rattle.tm_report.specs.declared.ending.Ending.{Ending}
 use Rattle.tm_report.specs.declared.ending.Failure.{Failure}
 use Rattle.tm_commands.specs.declared.stop.Stop.{Stop}

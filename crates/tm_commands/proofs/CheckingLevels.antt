@@ -8,10 +8,10 @@ use Rattle.tm_cert.specs.Cert.{EnvData}
 use Rattle.tm_envcheck.specs.Verdict.{IsEnvironmentVerdict}
 use Rattle.tm_sem.specs.Certificates.{longest_chain}
 use Rattle.tm_sem.specs.Fairness.{conditions}
-use Rattle.tm_sets.specs.Sets.{levels_of}
+use Rattle.tm_verdict.specs.Sets.{levels_of}
 use Rattle.tm_syntax.specs.Design.{DesignTree}
-use Rattle.tm_verdicts.specs.declared.verdict.Verdict.{Verdict}
-use Rattle.tm_verdicts.specs.declared.verdict.Verdict.TheVariants as verdicts
+use Rattle.tm_verdict.specs.declared.verdict.Verdict.{Verdict}
+use Rattle.tm_verdict.specs.declared.verdict.Verdict.TheVariants as verdicts
 use Rattle.tm_report.specs.declared.ending.Ending.{Ending}
 use Rattle.tm_report.specs.declared.ending.Failure.{Failure}
 use Rattle.tm_commands.specs.declared.stop.Stop.{Stop}

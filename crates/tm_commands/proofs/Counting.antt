@@ -5,7 +5,7 @@ use Rattle.std.proofs.lemmas.List.{drop_more, length-map}
 use Rattle.tm_cert.specs.Cert.{EnvData, LevelData}
 use Rattle.tm_sem.specs.Certificates.{longest_chain, longest_of}
 use Rattle.tm_sem.specs.State.{StateData}
-use Rattle.tm_sets.specs.Sets.{level_sets, levels_of, set_of}
+use Rattle.tm_verdict.specs.Sets.{level_sets, levels_of, set_of}
 use Rattle.tm_syntax.specs.Design.{DesignTree}
 use Rattle.tm_commands.specs.Inner.Counting.{greatest, longest_in}
 

@@ -4,13 +4,13 @@ use Rattle.std.proofs.Common.{subst, arith}
 use Rattle.std.proofs.lemmas.List.{length-map}
 use Rattle.tm_cert.specs.Cert.{DriverData, EnvData}
 use Rattle.tm_cir.specs.Tree.{BlockTree}
-use Rattle.tm_judging.specs.Judged.{CanJudgeDriver}
+use Rattle.tm_judge.specs.Judged.{CanJudgeDriver}
 use Rattle.tm_sem.specs.Certificates.{longest_chain}
 use Rattle.tm_sem.specs.Fairness.{conditions}
-use Rattle.tm_sets.specs.Sets.{levels_of}
+use Rattle.tm_verdict.specs.Sets.{levels_of}
 use Rattle.tm_syntax.specs.Design.{DesignTree}
 use Rattle.tm_syntax.proofs.Limits as limits
-use Rattle.tm_verdicts.specs.declared.verdict.Verdict.{Verdict}
+use Rattle.tm_verdict.specs.declared.verdict.Verdict.{Verdict}
 use Rattle.tm_report.specs.declared.ending.Ending.{Ending}
 use Rattle.tm_report.specs.declared.ending.Failure.{Failure}
 use Rattle.tm_commands.specs.Check.{driver_end, driver_text, environment_end, environment_text}

@@ -11,9 +11,9 @@ use Rattle.tm_cert.specs.CertValue.{IsCertText}
 use Rattle.tm_cert.specs.Judge.{wants}
 use Rattle.tm_sem.specs.Fairness.{conditions}
 use Rattle.tm_sem.specs.StateBits.{state_widths}
-use Rattle.tm_sets.specs.Fitting.{FitsDriver, FitsEnvironment}
-use Rattle.tm_sets.proofs.Read.{read_drivers_fit, read_environments_fit}
-use Rattle.tm_shape.specs.Shape.{shape_of}
+use Rattle.tm_verdict.specs.Fitting.{FitsDriver, FitsEnvironment}
+use Rattle.tm_verdict.proofs.Read.{read_drivers_fit, read_environments_fit}
+use Rattle.tm_judge.specs.Shape.{shape_of}
 use Rattle.tm_syntax.specs.Design.{DesignTree}
 
 module _ (d : DesignTree) (shape : CertShape) (text : List ℕ) where

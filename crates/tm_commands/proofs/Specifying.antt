@@ -12,7 +12,7 @@ use Rattle.tm_report.specs.declared.ending.Ending.TheVariants.{Faulty}
 use Rattle.tm_commands.specs.declared.stop.Stop.{Stop}
 use Rattle.tm_commands.specs.World.{FilesData}
 use Rattle.tm_commands.specs.Headline.{long_fault}
-use Rattle.tm_front.specs.Specification.{IsDesignText, IsMemoryOr}
+use Rattle.tm_inst.specs.Specification.{IsDesignText, IsMemoryOr}
 use Rattle.tm_commands.specs.Inputs.{TellsSpecification, NoSpecification, faulty_spec, RefusesSpecification}
 use Rattle.tm_commands.specs.Inputs.{refuses_specification}
 use Rattle.tm_commands.specs.Inner.Reading.{IsRead, refusal_of}

@@ -6,7 +6,7 @@ use Rattle.tm_syntax.specs.Limits.{file_limit}
 use Rattle.tm_syntax.specs.Design.{DesignTree}
 use Rattle.tm_syntax.specs.Faults.{FaultOf}
 use Rattle.tm_parse.proofs.OneFault.{faults_of_text_agree}
-use Rattle.tm_front.specs.Specification.{IsDesignText}
+use Rattle.tm_inst.specs.Specification.{IsDesignText}
 use Rattle.tm_report.specs.declared.ending.Ending.{Ending}
 use Rattle.tm_report.specs.declared.ending.Ending.TheVariants.{Faulty}
 use Rattle.tm_commands.specs.Inputs.{TellsSpecification, NoSpecification, faulty_spec}

@@ -30,7 +30,7 @@ use Rattle.tm_parse.proofs.DerivedDecls.{one_tree}
 use Rattle.tm_cparse.specs.Faults.{HasNames}
 use Rattle.tm_cparse.proofs.DesignNames.{has_names}
 use Rattle.tm_commands.specs.Headline.{long_fault}
-use Rattle.tm_front.specs.Specification.{IsDesignText}
+use Rattle.tm_inst.specs.Specification.{IsDesignText}
 
 -- what holds of the tokens of a text holds of all that are its tokens
 moved : {text : List ℕ} {one other : List Token} (P : List Token → Type 0) → AreTokens text one →

@@ -12,7 +12,7 @@ use Rattle.tm_cert.specs.declared.shape.Kind.TheVariants.{Either}
 use Rattle.tm_cert.specs.CertValue.{IsCert, IsCertText}
 use Rattle.tm_cert.specs.Written.{cert_text}
 use Rattle.tm_gen.specs.Generated.{generated_text}
-use Rattle.tm_shape.specs.Shape.{shape_of}
+use Rattle.tm_judge.specs.Shape.{shape_of}
 use Rattle.tm_report.specs.declared.ending.Ending.TheVariants.{Generated, Migrated}
 use Rattle.tm_report.specs.declared.ending.Failure.{Failure}
 use Rattle.tm_report.specs.declared.ending.Failure.TheVariants.{ReadFault, WriteFault, Memory}

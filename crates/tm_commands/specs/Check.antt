@@ -9,10 +9,10 @@ use Rattle.tm_cir.specs.Tree.{BlockTree}
 use Rattle.tm_envcheck.specs.Verdict.{IsEnvironmentVerdict}
 use Rattle.tm_sem.specs.Certificates.{longest_chain}
 use Rattle.tm_sem.specs.Fairness.{conditions}
-use Rattle.tm_sets.specs.Sets.{driver_sets, levels_of}
+use Rattle.tm_verdict.specs.Sets.{driver_sets, levels_of}
 use Rattle.tm_syntax.specs.Design.{DesignTree}
-use Rattle.tm_verdicts.specs.declared.verdict.Verdict.{Verdict}
-use Rattle.tm_verdicts.specs.declared.verdict.Verdict.TheVariants as verdicts
+use Rattle.tm_verdict.specs.declared.verdict.Verdict.{Verdict}
+use Rattle.tm_verdict.specs.declared.verdict.Verdict.TheVariants as verdicts
 use Rattle.tm_report.specs.declared.ending.Ending.{Ending}
 use Rattle.tm_report.specs.declared.ending.Ending.TheVariants.{Accepted, AcceptedEnvironment, Refused}
 use Rattle.tm_commands.specs.Inputs.{TellsSpecification, TellsBlocks, TellsCert, NoSpecification, NoBlocks, NoCert}

@@ -6,7 +6,7 @@ use Rattle.tm_syntax.specs.declared.token.Token.{Token}
 use Rattle.tm_syntax.specs.Limits.{file_limit}
 use Rattle.tm_syntax.specs.Design.{DesignTree}
 use Rattle.tm_syntax.specs.Faults.{FaultOf}
-use Rattle.tm_front.specs.Specification.{IsDesignText}
+use Rattle.tm_inst.specs.Specification.{IsDesignText}
 use Rattle.tm_cir.specs.Tree.{BlockTree}
 use Rattle.tm_cparse.specs.declared.bad.BadDriver.{BadDriver}
 use Rattle.tm_cparse.specs.Faults.{IsDriverFile, HasFault}
@@ -15,7 +15,7 @@ use Rattle.tm_cert.specs.declared.refusal.BadCert.{BadCert}
 use Rattle.tm_cert.specs.declared.shape.Kind.{Kind}
 use Rattle.tm_cert.specs.CertValue.{IsCertText}
 use Rattle.tm_cert.specs.Judge.{judge_text}
-use Rattle.tm_shape.specs.Shape.{shape_of}
+use Rattle.tm_judge.specs.Shape.{shape_of}
 use Rattle.tm_report.specs.declared.ending.Ending.{Ending}
 use Rattle.tm_report.specs.declared.ending.Ending.TheVariants.{Faulty, BadText}
 use Rattle.tm_report.specs.declared.ending.Bad.TheVariants.{TooLong, Driver, Cert, Choices}

@@ -5,7 +5,7 @@ use Rattle.tm_cert.specs.declared.cert.Cert.{Cert}
 use Rattle.tm_cert.specs.declared.shape.Kind.TheVariants.{Either}
 use Rattle.tm_cert.specs.CertValue.{IsCertText}
 use Rattle.tm_cert.specs.Written.{cert_text}
-use Rattle.tm_shape.specs.Shape.{shape_of}
+use Rattle.tm_judge.specs.Shape.{shape_of}
 use Rattle.tm_report.specs.declared.ending.Ending.{Ending}
 use Rattle.tm_report.specs.declared.ending.Ending.TheVariants.{Migrated}
 use Rattle.tm_commands.specs.Inputs.{Tells, TellsSpecification, TellsCert, NoSpecification, NoCert}

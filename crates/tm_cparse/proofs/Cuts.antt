@@ -10,7 +10,7 @@ use Rattle.std.proofs.lemmas.List.Folds.{list_all-append}
 use Rattle.std.proofs.lemmas.List.Sums.{list_all-from_AllPass, prefix_len-le-length}
 use Rattle.std.proofs.Math.Numerals.{one-add}
 use Rattle.tm_cir.specs.declared.block.NumOperator.TheVariants as numbers
-use Rattle.tm_bits.specs.declared.shift_operator.ShiftOperator.TheVariants.{Left, Right}
+use Rattle.tm_base.specs.declared.shift_operator.ShiftOperator.TheVariants.{Left, Right}
 use Rattle.tm_cir.specs.declared.block.Comparison.TheVariants.{Equal, NotEqual, Less, LessEqual, Greater, GreaterEqual}
 use Rattle.tm_cir.specs.declared.block.Junction.TheVariants as truths
 use Rattle.tm_syntax.specs.Tokens.{begins_name, continues_name, IsWordLike}

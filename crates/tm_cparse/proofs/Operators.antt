@@ -1,6 +1,6 @@
 -- Signs that are no shifts.
 use Rattle.std.proofs.Common.{◌≢◌, refl}
-use Rattle.tm_bits.specs.declared.shift_operator.ShiftOperator.{ShiftOperator}
+use Rattle.tm_base.specs.declared.shift_operator.ShiftOperator.{ShiftOperator}
 use Rattle.tm_cir.specs.Text.Token.{shifting}
 use Rattle.tm_cparse.specs.declared.token.Sign.{Sign}
 use Rattle.tm_cparse.specs.declared.token.Sign.TheVariants as signs

@@ -1,6 +1,6 @@
 -- The steps of the reader of expressions, as its functions take them.
 use Rattle.std.proofs.Common.{◌≡◌, ◌≢◌, ℕ, ◌<◌, false, None, Some, List, [], ◌∷◌, refl, sym, ap, ◌∙◌, subst, Result, Ok, Err}
-use Rattle.tm_bits.specs.declared.shift_operator.ShiftOperator.{ShiftOperator}
+use Rattle.tm_base.specs.declared.shift_operator.ShiftOperator.{ShiftOperator}
 use Rattle.tm_cir.specs.Tree.{NumTree, TruthTree, num}
 use Rattle.tm_cir.specs.Tree as trees
 use Rattle.tm_cir.specs.Text.Token.{Token, word, variable, location, constant, sign, Sign, termite_goal, termite_last, open_parenthesis, close_parenthesis, colon, question, arithmetic, shifting, comparing, joining}

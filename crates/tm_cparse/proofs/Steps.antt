@@ -1,6 +1,6 @@
 -- What follows an operand: an operator, `:`, or the parenthesis that closes.
 use Rattle.std.proofs.Common.{◌≡◌, ◌≢◌, ℕ, ◌<◌, None, Some, List, ◌∷◌, ◌++◌, refl, sym, ap, ◌∙◌, subst, arith}
-use Rattle.tm_bits.specs.declared.shift_operator.ShiftOperator.{ShiftOperator}
+use Rattle.tm_base.specs.declared.shift_operator.ShiftOperator.{ShiftOperator}
 use Rattle.tm_cir.specs.Tree.{NumTree, TruthTree, num}
 use Rattle.tm_cir.specs.Tree as trees
 use Rattle.tm_cir.specs.Text.Token.{Token, constant, sign, Sign, close_parenthesis, colon, shifting}

@@ -15,7 +15,7 @@ use crate::spot::{Read, Spot, Stop, amount, need_sign, parted, taken};
 use crate::token::{Sign, Token, Word};
 use crate::waiting::WaitingParts;
 use std::alloc::Global;
-use tm_bits::ShiftOperator;
+use tm_base::ShiftOperator;
 use tm_cir::{Num64, Truth};
 
 /// The operand in front of these tokens, or none where one is to come.

@@ -8,7 +8,7 @@ ghost use Rattle.tm_cparse.specs.Inner.Parts.{part_tree, IsOf, Closes, sort_of, 
 
 use crate::token::Sign;
 use std::alloc::{AllocError, Global};
-use tm_bits::ShiftOperator;
+use tm_base::ShiftOperator;
 use tm_cir::block::{Comparison, Junction, NumOperator};
 use tm_cir::{Num64, Truth};
 

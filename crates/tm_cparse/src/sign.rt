@@ -6,7 +6,7 @@ ghost use Rattle.tm_cparse.specs.View.{sign_tree};
 ghost use Rattle.tm_cparse.specs.Inner.Scanning.{BeginsNoSign, IsFirstSign};
 
 use crate::token::Sign;
-use tm_bits::ShiftOperator;
+use tm_base::ShiftOperator;
 use tm_cir::block::{Comparison, Junction, NumOperator};
 
 /// The longest sign in front of a text, and the number of its bytes.

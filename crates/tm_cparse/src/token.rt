@@ -1,7 +1,7 @@
 //! The tokens of the C text, with any names. A name is told by its number in the design; one of more than 32 bits
 //! counts as the greatest, since no design has so many items.
 
-use tm_bits::ShiftOperator;
+use tm_base::ShiftOperator;
 use tm_cir::block::{Comparison, Junction, NumOperator};
 
 /// A word that has one meaning.

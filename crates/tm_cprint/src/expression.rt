@@ -8,7 +8,7 @@ ghost use Rattle.tm_cprint.specs.Layout.{num_text, truth_text};
 
 use crate::piece::{push, push_constant, push_location, push_variable};
 use std::alloc::AllocError;
-use tm_bits::ShiftOperator;
+use tm_base::ShiftOperator;
 use tm_cir::block::{Comparison, Junction, NumOperator};
 use tm_cir::{Num64, Truth};
 use tm_syntax::design::Design;

@@ -6,7 +6,7 @@ use Rattle.std.specs.Option.{option_map, option_map_or}
 use Rattle.std.proofs.lemmas.Bool.{cases_Bool}
 use Rattle.std.proofs.lemmas.List.{length-map}
 use Rattle.std.proofs.lemmas.Option.{slice_get-map}
-use Rattle.tm_assigned.specs.States.{assignment_of}
+use Rattle.tm_game_bits.specs.AssignedStates.{assignment_of}
 use Rattle.tm_dd.specs.declared.node.NodeId.{NodeId}
 use Rattle.tm_dd.specs.Table.{means}
 use Rattle.tm_envcheck.specs.declared.levels.LevelDiagrams.{LevelDiagrams}
@@ -19,8 +19,8 @@ use Rattle.tm_envcheck.specs.Verdict.{CanCheck}
 use Rattle.tm_envcheck.proofs.Growing.{chain_kept, test_kept}
 use Rattle.tm_envcheck.proofs.LevelParts.{added, first_alone, forced_same, goal_is, in_first_alone, is_added, same_level, test_is}
 use Rattle.tm_envcheck.proofs.Trying.{part_fails, part_tried}
-use Rattle.tm_failures.specs.Levels.{IsAtPlace, IsDecided, IsForced, IsFound, lower_at}
-use Rattle.tm_forcing.specs.Functions.{Assignment}
+use Rattle.tm_verdict.specs.Levels.{IsAtPlace, IsDecided, IsForced, IsFound, lower_at}
+use Rattle.tm_game_bits.specs.Functions.{Assignment}
 use Rattle.tm_game.specs.Game.{AreFairs, GameData, Grows, IsStates}
 use Rattle.tm_game.specs.Least.{test_of}
 use Rattle.tm_game.proofs.SetTests.{set_tells}
@@ -29,12 +29,12 @@ use Rattle.tm_sem.specs.Fairness.{IsFair}
 use Rattle.tm_sem.specs.State.{StateData}
 use Rattle.tm_sem.specs.Step.{IsInitial, IsState}
 use Rattle.tm_syntax.specs.Design.{DesignTree}
-use Rattle.tm_verdicts.specs.declared.verdict.Verdict.{Verdict}
-use Rattle.tm_verdicts.specs.declared.verdict.Verdict.TheVariants.{Accepted, Refused}
-use Rattle.tm_verdicts.specs.Environment.{IsReported, Passes, chain_of, chain_parts, chains_of, grows, is_chain}
-use Rattle.tm_verdicts.specs.Environment.{is_in_chain, level_meaning, lies_in, set_parts, waits_or_falls}
-use Rattle.tm_verdicts.proofs.Trying.{refused_stop, tried_then}
-use Rattle.tm_verdicts.specs.Reported.{IsFirstOf}
+use Rattle.tm_verdict.specs.declared.verdict.Verdict.{Verdict}
+use Rattle.tm_verdict.specs.declared.verdict.Verdict.TheVariants.{Accepted, Refused}
+use Rattle.tm_verdict.specs.Environment.{IsReported, Passes, chain_of, chain_parts, chains_of, grows, is_chain}
+use Rattle.tm_verdict.specs.Environment.{is_in_chain, level_meaning, lies_in, set_parts, waits_or_falls}
+use Rattle.tm_verdict.proofs.Trying.{refused_stop, tried_then}
+use Rattle.tm_verdict.specs.Reported.{IsFirstOf}
 
 -- ---- the sets of chains
 pub any_told : (d : DesignTree) (g : GameData) (ids : List NodeId) (s : StateData) →

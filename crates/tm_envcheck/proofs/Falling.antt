@@ -14,8 +14,8 @@ use Rattle.tm_envcheck.specs.Inner.Told.{chain_told}
 use Rattle.tm_envcheck.proofs.Growing.{means_at, test_kept}
 use Rattle.tm_envcheck.proofs.ChainParts.{any_told, told_at}
 use Rattle.tm_envcheck.proofs.LevelParts.{decided_same, first_alone, forced_same, in_first_alone, test_is}
-use Rattle.tm_failures.specs.Levels.{IsAtPlace, IsForced}
-use Rattle.tm_forcing.specs.Functions.{Assignment}
+use Rattle.tm_verdict.specs.Levels.{IsAtPlace, IsForced}
+use Rattle.tm_game_bits.specs.Functions.{Assignment}
 use Rattle.tm_game.specs.Game.{GameData, Grows, IsSet}
 use Rattle.tm_game.specs.Least.{test_of}
 use Rattle.tm_sem.specs.Certificates.{either, set_before}

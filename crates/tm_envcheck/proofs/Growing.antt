@@ -1,14 +1,14 @@
 -- What is left of diagrams, and of what they tell, where a game has grown.
 use Rattle.std.proofs.Common.{◌≡◌, ℕ, suc, ◌<◌, ◌&&◌, not, List, [], ◌∷◌, Some, length, map, refl, sym, ap, ◌∙◌, subst}
 use Rattle.std.specs.Prelude.{slice_get}
-use Rattle.tm_assigned.specs.States.{assignment_of}
+use Rattle.tm_game_bits.specs.AssignedStates.{assignment_of}
 use Rattle.tm_dd.specs.declared.node.NodeId.{NodeId}
 use Rattle.tm_dd.specs.Table.{means}
 use Rattle.tm_envcheck.specs.declared.levels.LevelDiagrams.{LevelDiagrams}
 use Rattle.tm_envcheck.specs.Inner.Over.{AreLevelsOver, AreSets, IsLevelOver, IsReady, chains_in}
 use Rattle.tm_envcheck.specs.Inner.Told.{TellLevels, TellsLevel, TellsSet, chain_told, level_told}
 use Rattle.tm_envcheck.specs.Verdict.{CanCheck}
-use Rattle.tm_forcing.specs.Functions.{Assignment}
+use Rattle.tm_game_bits.specs.Functions.{Assignment}
 use Rattle.tm_game.specs.Game.{GameData, Grows, IsSet}
 use Rattle.tm_game.specs.Least.{test_of}
 use Rattle.tm_game.proofs.Growing.{means_kept, of_kept, order_kept, set_kept}

@@ -3,7 +3,7 @@ use Rattle.std.proofs.Common.{◌≡◌, ◌⊎◌, ℕ, Bool, true, false, ◌&
 use Rattle.std.specs.Prelude.{◌↔◌, slice_get}
 use Rattle.std.specs.Option.{option_map_or}
 use Rattle.std.proofs.lemmas.Bool.{and_from, and_parts, not-true, not_from_false}
-use Rattle.tm_assigned.specs.States.{assignment_of}
+use Rattle.tm_game_bits.specs.AssignedStates.{assignment_of}
 use Rattle.tm_dd.specs.declared.node.NodeId.{NodeId}
 use Rattle.tm_dd.specs.Table.{means}
 use Rattle.tm_envcheck.specs.declared.levels.LevelDiagrams.{LevelDiagrams}
@@ -14,8 +14,8 @@ use Rattle.tm_envcheck.specs.Tried.{AreTried}
 use Rattle.tm_envcheck.specs.Verdict.{CanCheck}
 use Rattle.tm_envcheck.proofs.Growing.{test_kept}
 use Rattle.tm_envcheck.proofs.Trying.{part_tried, part_wanted}
-use Rattle.tm_failures.specs.Levels.{IsDecided, IsForced, IsFound}
-use Rattle.tm_forcing.specs.Functions.{Assignment}
+use Rattle.tm_verdict.specs.Levels.{IsDecided, IsForced, IsFound}
+use Rattle.tm_game_bits.specs.Functions.{Assignment}
 use Rattle.tm_game.specs.Game.{GameData, Grows, IsStates}
 use Rattle.tm_game.specs.Least.{test_of}
 use Rattle.tm_game.proofs.SetTests.{set_tells}
@@ -24,9 +24,9 @@ use Rattle.tm_sem.specs.Play.{goal_holds}
 use Rattle.tm_sem.specs.State.{StateData}
 use Rattle.tm_sem.specs.Step.{IsInitial, IsState}
 use Rattle.tm_syntax.specs.Design.{DesignTree}
-use Rattle.tm_verdicts.specs.declared.verdict.Verdict.{Verdict}
-use Rattle.tm_verdicts.specs.Environment.{IsReported, Passes, goal_of, has_new, holds_before, is_forced_on, is_forced_within}
-use Rattle.tm_verdicts.specs.Reported.{IsFirstOf}
+use Rattle.tm_verdict.specs.declared.verdict.Verdict.{Verdict}
+use Rattle.tm_verdict.specs.Environment.{IsReported, Passes, goal_of, has_new, holds_before, is_forced_on, is_forced_within}
+use Rattle.tm_verdict.specs.Reported.{IsFirstOf}
 
 -- ---- truths
 pub in_first_alone : (a b : Bool) → (a && not b) ≡ true → (a ≡ true) × (b ≡ false)

@@ -5,7 +5,7 @@ use Rattle.std.specs.Option.{option_map, option_map_or}
 use Rattle.std.proofs.lemmas.List.{length-map}
 use Rattle.std.proofs.lemmas.List.Elements.{All-get_or, All-head, All-tail}
 use Rattle.std.proofs.lemmas.Option.{slice_get-get_or, slice_get-map, slice_get_within}
-use Rattle.tm_assigned.specs.States.{assignment_of}
+use Rattle.tm_game_bits.specs.AssignedStates.{assignment_of}
 use Rattle.tm_cert.specs.Cert.{EnvData, LevelData}
 use Rattle.tm_cert.specs.declared.cert.Entry.{Entry}
 use Rattle.tm_dd.specs.declared.node.NodeId.{NodeId}
@@ -19,11 +19,11 @@ use Rattle.tm_game.specs.Game.{GameData, Grows}
 use Rattle.tm_game.specs.Least.{test_of}
 use Rattle.tm_game.proofs.Growing.{means_kept}
 use Rattle.tm_game.proofs.MadeSets.{false_test}
-use Rattle.tm_loading.specs.Loaded.{AreLoaded}
+use Rattle.tm_verdict.specs.Loaded.{AreLoaded}
 use Rattle.tm_sem.specs.Certificates.{Level, level_before, nowhere}
-use Rattle.tm_sets.specs.Fitting.{AreNodes, FitsLevel}
-use Rattle.tm_sets.specs.Sets.{level_sets, levels_of, set_of}
-use Rattle.tm_sets.proofs.Values.{reads_levels}
+use Rattle.tm_verdict.specs.Fitting.{AreNodes, FitsLevel}
+use Rattle.tm_verdict.specs.Sets.{level_sets, levels_of, set_of}
+use Rattle.tm_verdict.proofs.Values.{reads_levels}
 use Rattle.tm_syntax.specs.Design.{DesignTree}
 
 -- each loaded id is a set of states

@@ -12,9 +12,9 @@ use Rattle.tm_dd.specs.Table.{means}
 use Rattle.tm_envcheck.specs.declared.levels.LevelDiagrams.{LevelDiagrams}
 use Rattle.tm_envcheck.specs.Inner.Loaded.{IsLoadedLevel, chain_at, id_at}
 use Rattle.tm_envcheck.specs.Inner.Over.{AreSets, IsLevelOver, chains_in}
-use Rattle.tm_forcing.specs.Functions.{Assignment}
+use Rattle.tm_game_bits.specs.Functions.{Assignment}
 use Rattle.tm_game.specs.Game.{GameData, Grows, IsSet}
-use Rattle.tm_sets.specs.Fitting.{AreNodes, FitsEnvironment, FitsLevel}
+use Rattle.tm_verdict.specs.Fitting.{AreNodes, FitsEnvironment, FitsLevel}
 
 -- chains in memory, as lists
 pub chains_seen : (ids : List NodeId) (chains : List (Vec ℕ Global)) →

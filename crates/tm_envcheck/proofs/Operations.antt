@@ -8,8 +8,8 @@ use Rattle.tm_ddops.specs.Manager.{IsFunction}
 use Rattle.tm_envcheck.specs.Inner.Over.{IsReady}
 use Rattle.tm_envcheck.proofs.Growing.{means_at, test_kept}
 use Rattle.tm_envcheck.proofs.LevelParts.{first_alone, in_first_alone, test_is}
-use Rattle.tm_failures.specs.Levels.{IsForced}
-use Rattle.tm_forcing.specs.Functions.{Assignment}
+use Rattle.tm_verdict.specs.Levels.{IsForced}
+use Rattle.tm_game_bits.specs.Functions.{Assignment}
 use Rattle.tm_game.specs.Game.{GameData, Grows, IsOf, IsSet, IsStates, in_set}
 use Rattle.tm_game.specs.Least.{test_of}
 use Rattle.tm_game.proofs.Growing.{of_kept, order_kept}

@@ -15,7 +15,7 @@ use Rattle.tm_envcheck.specs.Tried.{AreTried}
 use Rattle.tm_envcheck.specs.Verdict.{CanCheck}
 use Rattle.tm_envcheck.proofs.LevelParts.{test_is}
 use Rattle.tm_envcheck.proofs.Trying.{part_wanted}
-use Rattle.tm_forcing.specs.Functions.{Assignment}
+use Rattle.tm_game_bits.specs.Functions.{Assignment}
 use Rattle.tm_game.specs.Game.{GameData, Grows, IsSet, IsStates}
 use Rattle.tm_game.specs.Least.{HoldsNowhere, test_of}
 use Rattle.tm_game.proofs.MadeSets.{false_set, false_test}
@@ -25,10 +25,10 @@ use Rattle.tm_sem.specs.State.{StateData}
 use Rattle.tm_sem.specs.StateBits.{IsLeast}
 use Rattle.tm_sem.specs.Step.{IsInitial, IsState}
 use Rattle.tm_syntax.specs.Design.{DesignTree}
-use Rattle.tm_verdicts.specs.declared.verdict.Verdict.{Verdict}
-use Rattle.tm_verdicts.specs.declared.verdict.Verdict.TheVariants.{Accepted, Refused}
-use Rattle.tm_verdicts.specs.Environment.{IsReported, Passes, begins_lost}
-use Rattle.tm_verdicts.specs.Reported.{IsFirstOf}
+use Rattle.tm_verdict.specs.declared.verdict.Verdict.{Verdict}
+use Rattle.tm_verdict.specs.declared.verdict.Verdict.TheVariants.{Accepted, Refused}
+use Rattle.tm_verdict.specs.Environment.{IsReported, Passes, begins_lost}
+use Rattle.tm_verdict.specs.Reported.{IsFirstOf}
 
 -- ---- the least state
 pub least_some : (d : DesignTree) (set : StateData → Bool) (found : Option StateData) (s : StateData) →

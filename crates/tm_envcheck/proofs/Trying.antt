@@ -3,21 +3,21 @@ use Rattle.std.proofs.Common.{◌≡◌, ℕ, Bool, true, List, [], ◌∷◌, �
 use Rattle.std.specs.Prelude.{◌↔◌}
 use Rattle.tm_envcheck.specs.Inner.Reports.{IsFailure, IsInitialReport, IsWant}
 use Rattle.tm_envcheck.specs.Tried.{AreTried}
-use Rattle.tm_failures.specs.Levels.{IsDecided, IsFound, NamesStates, RestsOn}
-use Rattle.tm_failures.specs.Regular.{IsRegular}
-use Rattle.tm_failures.proofs.LevelFailures.{fails, found}
-use Rattle.tm_failures.proofs.LevelPasses.{passes}
+use Rattle.tm_verdict.specs.Levels.{IsDecided, IsFound, NamesStates, RestsOn}
+use Rattle.tm_verdict.specs.Regular.{IsRegular}
+use Rattle.tm_verdict.proofs.LevelFailures.{fails, found}
+use Rattle.tm_verdict.proofs.LevelPasses.{passes}
 use Rattle.tm_sem.specs.Certificates.{IsIn, Level}
 use Rattle.tm_sem.specs.State.{StateData}
 use Rattle.tm_sem.specs.Step.{IsInitial, IsState}
 use Rattle.tm_syntax.specs.Design.{DesignTree}
-use Rattle.tm_verdicts.specs.declared.verdict.Verdict.{Verdict}
-use Rattle.tm_verdicts.specs.declared.verdict.Verdict.TheVariants.{Accepted, Refused}
-use Rattle.tm_verdicts.specs.Environment.{FailsAt, IsReported, LevelPart, Passes, begins_lost, grows, has_new}
-use Rattle.tm_verdicts.specs.Environment.{holds_before, is_chain, is_forced_on, is_forced_within, is_in_chain}
-use Rattle.tm_verdicts.specs.Environment.{level_condition, level_goal, level_meaning, lies_in, waits_or_falls}
-use Rattle.tm_verdicts.specs.Reported.{IsFirstOf}
-use Rattle.tm_verdicts.proofs.Trying.{refused_alone}
+use Rattle.tm_verdict.specs.declared.verdict.Verdict.{Verdict}
+use Rattle.tm_verdict.specs.declared.verdict.Verdict.TheVariants.{Accepted, Refused}
+use Rattle.tm_verdict.specs.Environment.{FailsAt, IsReported, LevelPart, Passes, begins_lost, grows, has_new}
+use Rattle.tm_verdict.specs.Environment.{holds_before, is_chain, is_forced_on, is_forced_within, is_in_chain}
+use Rattle.tm_verdict.specs.Environment.{level_condition, level_goal, level_meaning, lies_in, waits_or_falls}
+use Rattle.tm_verdict.specs.Reported.{IsFirstOf}
+use Rattle.tm_verdict.proofs.Trying.{refused_alone}
 
 module _ (d : DesignTree) (levels : List Level) where
   first_reported : (part : LevelPart) (s : StateData) → NamesStates part → IsFirstOf d (FailsAt d levels part) s →

@@ -8,14 +8,14 @@ use Rattle.tm_sem.specs.Certificates.{Level, MeetsEnvironment}
 use Rattle.tm_sem.specs.Fairness.{conditions}
 use Rattle.tm_sem.specs.Loss.{Lost}
 use Rattle.tm_sem.proofs.Losing.{certified_is_lost}
-use Rattle.tm_sets.specs.Fitting.{FitsEnvironment}
-use Rattle.tm_sets.specs.Sets.{levels_of}
-use Rattle.tm_sets.proofs.Shapes.{levels_shape}
+use Rattle.tm_verdict.specs.Fitting.{FitsEnvironment}
+use Rattle.tm_verdict.specs.Sets.{levels_of}
+use Rattle.tm_verdict.proofs.Shapes.{levels_shape}
 use Rattle.tm_syntax.specs.Design.{DesignTree}
-use Rattle.tm_verdicts.specs.declared.verdict.Verdict.{Verdict}
-use Rattle.tm_verdicts.specs.declared.verdict.Verdict.TheVariants.{Accepted, Refused}
-use Rattle.tm_verdicts.specs.Environment.{HasShape, level_parts}
-use Rattle.tm_verdicts.proofs.LevelParts.{meets_of_parts}
+use Rattle.tm_verdict.specs.declared.verdict.Verdict.{Verdict}
+use Rattle.tm_verdict.specs.declared.verdict.Verdict.TheVariants.{Accepted, Refused}
+use Rattle.tm_verdict.specs.Environment.{HasShape, level_parts}
+use Rattle.tm_verdict.proofs.LevelParts.{meets_of_parts}
 
 verdict_is : (d : DesignTree) (levels : List Level) → HasShape d levels → (v : Verdict) →
     AreTried d levels (level_parts levels) v → IsEnvironmentVerdict d levels v

@@ -9,9 +9,9 @@ use Rattle.tm_envcheck.specs.declared.conditions.LevelCondition.TheVariants.{Sha
 use Rattle.tm_envcheck.specs.Inner.Parts.{parts_at, step_parts}
 use Rattle.tm_sem.specs.Certificates.{Level}
 use Rattle.tm_syntax.specs.Design.{DesignTree}
-use Rattle.tm_verdicts.specs.Environment.{Passes, begins_lost, chain_places, chains_of, is_forced_on}
-use Rattle.tm_verdicts.specs.Environment.{is_forced_within, is_in_chain, level_parts, level_places, waits_or_falls}
-use Rattle.tm_verdicts.proofs.Listed.{each_below, each_flat}
+use Rattle.tm_verdict.specs.Environment.{Passes, begins_lost, chain_places, chains_of, is_forced_on}
+use Rattle.tm_verdict.specs.Environment.{is_forced_within, is_in_chain, level_parts, level_places, waits_or_falls}
+use Rattle.tm_verdict.proofs.Listed.{each_below, each_flat}
 
 pub whole : (of : List Level) →
     flat_map (parts_at Shape of) (level_places of) ++ ((begins_lost ∷ []) ++ step_parts of) ≡ level_parts of

@@ -1,6 +1,6 @@
 -- The verdict on an environment's certificate.
 use Rattle.std.specs.Prelude.{ℕ, ◌+◌, ◌*◌, List, [], length}
-use Rattle.tm_failures.specs.Regular.{IsRegular}
+use Rattle.tm_verdict.specs.Regular.{IsRegular}
 use Rattle.tm_game.specs.Game.{GameData, IsOf}
 use Rattle.tm_sem.specs.Certificates.{Level, MeetsEnvironment, longest_chain}
 use Rattle.tm_sem.specs.Fairness.{conditions}
@@ -8,9 +8,9 @@ use Rattle.tm_sem.specs.Loss.{Beats}
 use Rattle.tm_sem.specs.State.{StateData}
 use Rattle.tm_sem.specs.Step.{IsInitial}
 use Rattle.tm_syntax.specs.Design.{DesignTree}
-use Rattle.tm_verdicts.specs.declared.verdict.Verdict.{Verdict}
-use Rattle.tm_verdicts.specs.declared.verdict.Verdict.TheVariants.{Accepted, Refused}
-use Rattle.tm_verdicts.specs.Environment.{IsRefused}
+use Rattle.tm_verdict.specs.declared.verdict.Verdict.{Verdict}
+use Rattle.tm_verdict.specs.declared.verdict.Verdict.TheVariants.{Accepted, Refused}
+use Rattle.tm_verdict.specs.Environment.{IsRefused}
 
 -- a design of a game whose steps keep to valid states, which are all that it begins in, and which begins somewhere
 pub record CanCheck (d : DesignTree) (g : GameData) : Type 0 where

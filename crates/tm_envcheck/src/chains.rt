@@ -9,7 +9,7 @@ ghost use Rattle.tm_envcheck.specs.Verdict.{CanCheck};
 ghost use Rattle.tm_game.specs.Game.{Grows, IsSet};
 ghost use Rattle.tm_sem.specs.Certificates.{Level};
 ghost use Rattle.tm_syntax.specs.Design.{DesignTree};
-ghost use Rattle.tm_verdicts.specs.Environment.{chain_parts, chain_places, is_in_chain, set_parts, waits_or_falls};
+ghost use Rattle.tm_verdict.specs.Environment.{chain_parts, chain_places, is_in_chain, set_parts, waits_or_falls};
 
 use crate::levels::LevelDiagrams;
 use crate::reports::{fails, fails_at};
@@ -18,7 +18,7 @@ use crate::stuck::{stuck, union};
 use std::alloc::AllocError;
 use tm_dd::{FALSE, NodeId};
 use tm_game::Game;
-use tm_verdicts::Verdict;
+use tm_verdict::Verdict;
 
 /// What is tried of each chain.
 #[derive(Clone, Copy)]

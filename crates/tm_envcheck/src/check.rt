@@ -9,10 +9,10 @@ ghost use Rattle.tm_envcheck.specs.Verdict.{CanCheck, IsEnvironmentVerdict, IsLo
 ghost use Rattle.tm_game.specs.Game.{Grows, IsOf};
 ghost use Rattle.tm_sem.specs.Certificates.{Level};
 ghost use Rattle.tm_sem.specs.Loss.{Lost};
-ghost use Rattle.tm_sets.specs.Fitting.{FitsEnvironment};
-ghost use Rattle.tm_sets.specs.Sets.{levels_of};
+ghost use Rattle.tm_verdict.specs.Fitting.{FitsEnvironment};
+ghost use Rattle.tm_verdict.specs.Sets.{levels_of};
 ghost use Rattle.tm_syntax.specs.Design.{DesignTree};
-ghost use Rattle.tm_verdicts.specs.Environment.{begins_lost, level_parts};
+ghost use Rattle.tm_verdict.specs.Environment.{begins_lost, level_parts};
 
 use crate::conditions::{LevelCondition, over_levels};
 use crate::levels::{LevelDiagrams, load};
@@ -22,7 +22,7 @@ use std::alloc::{AllocError, Global};
 use tm_cert::EnvCert;
 use tm_dd::{FALSE, NodeId};
 use tm_game::Game;
-use tm_verdicts::Verdict;
+use tm_verdict::Verdict;
 
 /// Whether the levels of a certificate that fits the game, and has its order, are a certificate of the environment.
 ///

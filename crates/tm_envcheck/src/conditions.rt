@@ -9,7 +9,7 @@ ghost use Rattle.tm_envcheck.specs.Verdict.{CanCheck};
 ghost use Rattle.tm_game.specs.Game.{Grows};
 ghost use Rattle.tm_sem.specs.Certificates.{Level};
 ghost use Rattle.tm_syntax.specs.Design.{DesignTree};
-ghost use Rattle.tm_verdicts.specs.Environment.{has_new, holds_before, is_forced_on, is_forced_within, level_places};
+ghost use Rattle.tm_verdict.specs.Environment.{has_new, holds_before, is_forced_on, is_forced_within, level_places};
 
 use crate::chains::{ChainCondition, over_chains};
 use crate::levels::LevelDiagrams;
@@ -17,7 +17,7 @@ use crate::reports::{fails_at, wants};
 use crate::sets::{both, unforced, without};
 use std::alloc::AllocError;
 use tm_game::Game;
-use tm_verdicts::Verdict;
+use tm_verdict::Verdict;
 
 /// What is tried of each level.
 #[derive(Clone, Copy)]

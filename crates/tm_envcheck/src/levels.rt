@@ -4,8 +4,8 @@ ghost use Rattle.tm_envcheck.specs.Inner.Over.{AreLevelsOver, AreSets, IsLevelOv
 ghost use Rattle.tm_envcheck.specs.Inner.Loaded.{AreLoadedLevels, IsLoadedLevel, chain_at};
 ghost use Rattle.tm_envcheck.specs.Inner.Told.{TellLevels};
 ghost use Rattle.tm_game.specs.Game.{Grows, IsSet};
-ghost use Rattle.tm_sets.specs.Fitting.{FitsEnvironment, FitsLevel};
-ghost use Rattle.tm_sets.specs.Sets.{levels_of};
+ghost use Rattle.tm_verdict.specs.Fitting.{FitsEnvironment, FitsLevel};
+ghost use Rattle.tm_verdict.specs.Sets.{levels_of};
 ghost use Rattle.tm_syntax.specs.Design.{DesignTree};
 
 use crate::sets::without;
@@ -13,7 +13,7 @@ use std::alloc::{AllocError, Global};
 use tm_cert::{CertLevel, EnvCert};
 use tm_dd::{FALSE, NodeId};
 use tm_game::Game;
-use tm_loading::load_nodes;
+use tm_verdict::load_nodes;
 
 /// A level: its goal, its states, those of the level before, those that it adds, and its chains.
 #[derive(Drop)]

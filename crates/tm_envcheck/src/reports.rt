@@ -10,7 +10,7 @@ ghost use Rattle.tm_syntax.specs.Design.{DesignTree};
 use std::alloc::AllocError;
 use tm_dd::NodeId;
 use tm_game::Game;
-use tm_verdicts::Verdict;
+use tm_verdict::Verdict;
 
 /// A condition that fails at these states: refused at the least of them, and accepted where there is none.
 pub(crate) fn fails_at(

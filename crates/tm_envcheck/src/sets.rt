@@ -2,8 +2,8 @@
 ghost use Rattle.std.specs.Prelude.{◌≡◌, ◌&&◌, ◌||◌, ◌↔◌, ◌⊎◌, true, IfOk, not};
 ghost use Rattle.tm_dd.specs.Table.{means};
 ghost use Rattle.tm_envcheck.specs.Inner.Over.{IsReady};
-ghost use Rattle.tm_failures.specs.Levels.{IsForced};
-ghost use Rattle.tm_forcing.specs.Functions.{Assignment};
+ghost use Rattle.tm_verdict.specs.Levels.{IsForced};
+ghost use Rattle.tm_game_bits.specs.Functions.{Assignment};
 ghost use Rattle.tm_game.specs.Game.{Grows, IsOf, IsSet};
 ghost use Rattle.tm_game.specs.Least.{test_of};
 ghost use Rattle.tm_sem.specs.State.{StateData};

@@ -5,8 +5,8 @@ use Rattle.std.specs.Option.{option_map_or, option_map, option_and_then}
 use Rattle.std.specs.List.{list_any}
 use Rattle.std.specs.Cmp.Lexicographic.{pointwise}
 use Rattle.tm_base.specs.declared.place.Place.{Place}
-use Rattle.tm_bits.specs.Arithmetic.{resize}
-use Rattle.tm_bits.specs.Shift as bits
+use Rattle.tm_base.specs.Arithmetic.{resize}
+use Rattle.tm_base.specs.Shift as bits
 use Rattle.tm_syntax.specs.declared.tree.Ident.{Ident}
 use Rattle.tm_syntax.specs.declared.tree.BinaryOperator.TheVariants.{AndAlso, OrElse}
 use Rattle.tm_syntax.specs.declared.design.Ty.{Ty}

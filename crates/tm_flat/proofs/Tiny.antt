@@ -2,7 +2,7 @@
 use Rattle.std.proofs.Common.{◌≡◌, ℕ, zero, suc, ◌<◌, ◌≤◌, ◌↔◌, ◌==◌, ◌||◌, inr, Bool, true, false, nat_lt, bit_and, ltb-true, lt-ltb, eqb-true, eq-eqb, Some, All, List, [], ◌∷◌, length, refl, sym, ap, ◌∙◌, subst, arith, slice_index}
 use Rattle.std.specs.List.{AllZip}
 use Rattle.std.proofs.lemmas.List.Elements.{All-nil}
-use Rattle.tm_bits.specs.Arithmetic.{bit}
+use Rattle.tm_base.specs.Arithmetic.{bit}
 use Rattle.tm_term.specs.Value.{AreInputs, value_of, value_within}
 use Rattle.tm_syntax.specs.Design.Locations.{rest, end_number, is_magic_at}
 use Rattle.tm_syntax.specs.declared.design.Var.{Var}

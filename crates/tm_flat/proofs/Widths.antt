@@ -5,7 +5,7 @@ use Rattle.std.specs.Prelude.{sum, sum_by}
 use Rattle.std.specs.List.{position_or_len, range_with_len}
 use Rattle.std.proofs.lemmas.List.FromFn.{length-range_with_len}
 use Rattle.std.proofs.lemmas.List.Sums.{prefix_len-le-length, sum-map, sum_by-append, sum_by-le}
-use Rattle.tm_bits.specs.Arithmetic.{IsWidth}
+use Rattle.tm_base.specs.Arithmetic.{IsWidth}
 use Rattle.tm_sem.specs.StateBits.{state_widths}
 use Rattle.tm_syntax.proofs.Limits as limits
 use Rattle.tm_syntax.specs.declared.design.Ty.{Ty}

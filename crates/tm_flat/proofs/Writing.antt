@@ -2,8 +2,8 @@
 use Rattle.std.proofs.Common.{◌≡◌, ℕ, zero, suc, ◌+◌, ◌^◌, ◌<◌, ◌≤◌, ◌≢◌, Bool, true, false, List, [], ◌∷◌, map, length, refl, sym, ap, ◌∙◌, arith, eq-eqb, ne_eqb, le_refl}
 use Rattle.std.specs.Prelude.{nat_eq, if◌then◌else◌}
 use Rattle.std.specs.List.{range_with_len}
-use Rattle.tm_bits.specs.Bits.{number_of, bits_of}
-use Rattle.tm_bits.proofs.NumberBits.{number_is_its_bits}
+use Rattle.tm_base.specs.Bits.{number_of, bits_of}
+use Rattle.tm_base.proofs.NumberBits.{number_is_its_bits}
 use Rattle.tm_flat.specs.BitRun.{number_at}
 
 -- some bits from a position on, and behind them the given ones

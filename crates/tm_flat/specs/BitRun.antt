@@ -4,7 +4,7 @@ use Rattle.std.specs.Prelude.{ℕ, zero, suc, ◌+◌, Bool, Option, None, Some,
 use Rattle.std.specs.Option.{option_map, option_map_or}
 use Rattle.std.specs.List.{list_any, range_with_len}
 use Rattle.tm_base.specs.declared.place.Place.{Place}
-use Rattle.tm_bits.specs.Bits.{number_of}
+use Rattle.tm_base.specs.Bits.{number_of}
 use Rattle.tm_syntax.specs.declared.tree.Ident.{Ident}
 use Rattle.tm_syntax.specs.Tree.{ExprTree, ValueTree, star, result, plain, StmtTree, assign, invoke, branch, repeat, forever, choose, assert, assume, pause, wait, magic, StmtRow, nothing, then as in_row, row_of, BlockRow, nowhere, or_else}
 use Rattle.tm_syntax.specs.Scopes.Pauses.{call_depth}

@@ -2,7 +2,7 @@
 use Rattle.std.specs.Prelude.{◌≡◌, ℕ, ◌+◌, ◌≤◌, ◌↔◌, All, Option, Some, List, map, length, slice_get}
 use Rattle.std.specs.Option.{option_and_then}
 use Rattle.std.specs.List.{AllZip, range_with_len}
-use Rattle.tm_bits.specs.Arithmetic.{bit}
+use Rattle.tm_base.specs.Arithmetic.{bit}
 use Rattle.tm_term.specs.declared.term.TermId.{TermId}
 use Rattle.tm_term.specs.Table.{Table}
 use Rattle.tm_term.specs.Value.{AreInputs, value_of}

@@ -2,15 +2,15 @@
 use Rattle.std.proofs.Common.{◌≡◌, ◌≢◌, ℕ, ◌+◌, ◌<◌, Bool, true, false, List, Some, length, get_or, refl, sym, ap, ◌∙◌, subst, eq-eqb, arith}
 use Rattle.std.specs.Prelude.{◌↔◌, slice_index}
 use Rattle.std.proofs.lemmas.List.{get_or_default}
-use Rattle.tm_assigned.specs.States.{coding_of, state_of}
-use Rattle.tm_coding.specs.GameOf.{IsMoveAt, outcome_in}
-use Rattle.tm_coding.proofs.Moves.{legal_some, some_legal}
+use Rattle.tm_game_bits.specs.AssignedStates.{coding_of, state_of}
+use Rattle.tm_game_bits.specs.GameOf.{IsMoveAt, outcome_in}
+use Rattle.tm_game_bits.proofs.Moves.{legal_some, some_legal}
 use Rattle.tm_flat.specs.Flat.{flat_terms}
 use Rattle.tm_dd.specs.declared.node.NodeId.{NodeId}
 use Rattle.tm_dd.specs.Table.{Table, assignment, means}
-use Rattle.tm_forcing.specs.Diagrams.{IsSetOf, game_of}
-use Rattle.tm_forcing.specs.Forcing as bits
-use Rattle.tm_forcing.specs.Functions.{Assignment, StepFunctions}
+use Rattle.tm_game_bits.specs.Diagrams.{IsSetOf, game_of}
+use Rattle.tm_game_bits.specs.Forcing as bits
+use Rattle.tm_game_bits.specs.Functions.{Assignment, StepFunctions}
 use Rattle.tm_game.specs.declared.game.Game.TheInside.{Inside}
 use Rattle.tm_game.specs.declared.moves.MoveShape.TheVariants as shapes
 use Rattle.tm_game.specs.Game.{IsOf}
@@ -23,7 +23,7 @@ use Rattle.tm_game.proofs.Calling.{call_given, callable}
 use Rattle.tm_game.proofs.Designs.{game_is}
 use Rattle.tm_game.proofs.DriverMoves.{call_drives, call_move, driver_idle, driver_leave, driver_task, idle_move, leave_move, stands_there}
 use Rattle.tm_game.proofs.ToldGames.{from_told, idle_told, task_told}
-use Rattle.tm_making.specs.Setting.{setting_of}
+use Rattle.tm_game_steps.specs.Setting.{setting_of}
 use Rattle.tm_sem.specs.declared.state.Move.{Move}
 use Rattle.tm_sem.specs.declared.state.Move.TheVariants as moves
 use Rattle.tm_sem.specs.declared.state.Outcome.TheVariants.{NoOutcome}
@@ -31,7 +31,7 @@ use Rattle.tm_sem.specs.State.{StateData}
 use Rattle.tm_sem.specs.Step.{IsAllowed, IsState, is_driver_move, is_driver_turn, task_of}
 use Rattle.tm_sem.proofs.Turns.{at_turn}
 use Rattle.tm_syntax.specs.Design.{DesignTree}
-use Rattle.tm_told.proofs.Tables.{leaves_from, magic_of, stands_within}
+use Rattle.tm_game_bits.proofs.Tables.{leaves_from, magic_of, stands_within}
 
 module _ (a : Inside) (is : IsGame a) (d : DesignTree) (of : IsOf d (game_data a)) (v : Assignment)
     (state : IsState d (state_of d a.order.items v)) where

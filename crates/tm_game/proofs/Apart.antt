@@ -7,11 +7,11 @@ use Rattle.std.proofs.lemmas.List.FromFn.{get_or-map-range_with_len, length-map-
 use Rattle.std.proofs.lemmas.Bool.{cases_lt, cond-false, cond-true, le-ltb, lt-ltb}
 use Rattle.std.proofs.lemmas.List.Folds.{sum_by-replicate}
 use Rattle.std.proofs.lemmas.List.Sums.{sum_by-append, sum_by-cons}
-use Rattle.tm_assigned.specs.Inputs.{bit_levels, choice_level, input_levels, number_levels}
-use Rattle.tm_changes.specs.Changes.{AreApart}
+use Rattle.tm_game_bits.specs.Inputs.{bit_levels, choice_level, input_levels, number_levels}
+use Rattle.tm_game_steps.specs.Changes.{AreApart}
 use Rattle.tm_flat.specs.Inputs.{room}
-use Rattle.tm_levels.specs.Order.{IsOrder, level_in}
-use Rattle.tm_levels.proofs.Orders.{length_order, level_of_place}
+use Rattle.tm_game_bits.specs.Order.{IsOrder, level_in}
+use Rattle.tm_game_bits.proofs.Orders.{length_order, level_of_place}
 
 map_agree : {X : Type 0} → (f g : ℕ → X) (a n : ℕ) → ((k : ℕ) → a ≤ k → k < a + n → f k ≡ g k) →
     map f (range_with_len a n) ≡ map g (range_with_len a n)

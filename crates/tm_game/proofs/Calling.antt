@@ -9,8 +9,8 @@ use Rattle.std.proofs.lemmas.Bool.{ltb-false}
 use Rattle.std.proofs.lemmas.List.FromFn.{length-range_with_len}
 use Rattle.std.proofs.lemmas.Option.{slice_get-get_or, slice_get-map, slice_get_past, slice_get_within}
 use Rattle.std.proofs.lemmas.Slice.Zip.{AllZip-long}
-use Rattle.tm_assigned.specs.Inputs.{arguments_at}
-use Rattle.tm_assigned.proofs.Numbers.{Fits}
+use Rattle.tm_game_bits.specs.Inputs.{arguments_at}
+use Rattle.tm_game_bits.proofs.Numbers.{Fits}
 use Rattle.tm_dd.specs.Table.{assignment}
 use Rattle.tm_flat.specs.BitStep.{HasRoom}
 use Rattle.tm_flat.specs.Fitting.{ArgumentsFit}
@@ -19,8 +19,8 @@ use Rattle.tm_flat.specs.Flat.{FlatTerms, flat_terms}
 use Rattle.tm_flat.specs.Inputs.{room, arguments_in, parameter_widths}
 use Rattle.tm_flat.specs.IsFlat.{AreWidths, IsFlat}
 use Rattle.tm_flat.specs.Steps.{IsTaskStep}
-use Rattle.tm_forcing.specs.Functions.{Assignment}
-use Rattle.tm_forcing.proofs.Sets.{both_true}
+use Rattle.tm_game_bits.specs.Functions.{Assignment}
+use Rattle.tm_game_bits.proofs.Sets.{both_true}
 use Rattle.tm_game.specs.declared.moves.MoveShape.TheVariants as shapes
 use Rattle.tm_game.specs.Inner.Called.{IsCallable}
 use Rattle.tm_game.specs.Moves.{move_at}
@@ -37,8 +37,8 @@ use Rattle.tm_syntax.specs.Design.Cells.{Called, Cell, task_called}
 use Rattle.tm_syntax.specs.Design.Scope.{site}
 use Rattle.tm_syntax.specs.Design.Sizes.{type_bits, type_size}
 use Rattle.tm_term.specs.Table.{Table}
-use Rattle.tm_told.proofs.Tables.{called_with}
-use Rattle.tm_told.proofs.Tasks.{has_tasks}
+use Rattle.tm_game_bits.proofs.Tables.{called_with}
+use Rattle.tm_game_bits.proofs.Tasks.{has_tasks}
 
 module _ (d : DesignTree) where
   -- arguments in range are numbers of the widths of their parameters

@@ -13,11 +13,11 @@ use Rattle.tm_dd.specs.Table.{Table, Knows, means}
 use Rattle.tm_ddops.specs.Copied.{MeanTheSame}
 use Rattle.tm_ddops.specs.Manager.{Diagrams, IsFunction}
 use Rattle.tm_flat.specs.Flat.{FlatTerms, flat_terms}
-use Rattle.tm_forcing.specs.declared.game.GameDiagrams.{GameDiagrams}
-use Rattle.tm_forcing.specs.declared.recent.Recent.{Recent}
-use Rattle.tm_forcing.specs.Diagrams.{IsSetOf, KnowsGame, game_of}
-use Rattle.tm_forcing.specs.Functions.{Assignment, Function, GameFunctions}
-use Rattle.tm_forcing.specs.Recent.{AreAnswers}
+use Rattle.tm_game_bits.specs.declared.game.GameDiagrams.{GameDiagrams}
+use Rattle.tm_game_bits.specs.declared.recent.Recent.{Recent}
+use Rattle.tm_game_bits.specs.Diagrams.{IsSetOf, KnowsGame, game_of}
+use Rattle.tm_game_bits.specs.Functions.{Assignment, Function, GameFunctions}
+use Rattle.tm_game_bits.specs.Recent.{AreAnswers}
 use Rattle.tm_game.specs.Copied.{IsCopied}
 use Rattle.tm_game.specs.declared.game.Game.TheInside.{Inside}
 use Rattle.tm_game.specs.declared.opening.Kept.{Kept}
@@ -27,9 +27,9 @@ use Rattle.tm_game.specs.Inner.Restored.{SameGame, SameKept, StandAt}
 use Rattle.tm_game.specs.Kept.{AreKept}
 use Rattle.tm_game.specs.Layout.{IsGame, game_data}
 use Rattle.tm_game.proofs.Restoring.{game_known, stands_left, stands_right, stands_whole}
-use Rattle.tm_making.specs.Sets.{AreSets, IsAlwaysOneIn, IsOneIn}
-use Rattle.tm_making.specs.Setting.{Setting, setting_of}
-use Rattle.tm_making.specs.Telling.{TellsGame}
+use Rattle.tm_game_steps.specs.Sets.{AreSets, IsAlwaysOneIn, IsOneIn}
+use Rattle.tm_game_steps.specs.Setting.{Setting, setting_of}
+use Rattle.tm_game_steps.specs.Telling.{TellsGame}
 use Rattle.tm_syntax.specs.Design.{DesignTree}
 use Rattle.tm_term.specs.declared.term.TermId.{TermId}
 

@@ -1,29 +1,29 @@
 -- The game of each design that has a game's guarded updates.
 use Rattle.std.proofs.Common.{length}
 use Rattle.std.specs.Prelude.{◌↔◌}
-use Rattle.tm_assigned.specs.States.{coding_of, state_of}
-use Rattle.tm_assigned.proofs.Coded.{is_coding}
-use Rattle.tm_coding.specs.Coding.{IsCoding}
-use Rattle.tm_coding.specs.GameOf.{IsGameOf}
-use Rattle.tm_coding.proofs.Predecessors.{calm_is, forced_is, stays_is}
+use Rattle.tm_game_bits.specs.AssignedStates.{coding_of, state_of}
+use Rattle.tm_game_bits.proofs.Coded.{is_coding}
+use Rattle.tm_game_bits.specs.Coding.{IsCoding}
+use Rattle.tm_game_bits.specs.GameOf.{IsGameOf}
+use Rattle.tm_game_bits.proofs.Predecessors.{calm_is, forced_is, stays_is}
 use Rattle.tm_dd.specs.declared.node.NodeId.{NodeId}
 use Rattle.tm_dd.specs.Table.{Table, means}
 use Rattle.tm_flat.specs.Flat.{flat_terms}
-use Rattle.tm_forcing.specs.Diagrams.{IsSetOf, game_of}
-use Rattle.tm_forcing.specs.Forcing as bits
-use Rattle.tm_forcing.specs.Functions.{Assignment}
-use Rattle.tm_forcing.specs.States.{ReadsState}
-use Rattle.tm_forcing.proofs.Sets.{IsSetOf-same}
+use Rattle.tm_game_bits.specs.Diagrams.{IsSetOf, game_of}
+use Rattle.tm_game_bits.specs.Forcing as bits
+use Rattle.tm_game_bits.specs.Functions.{Assignment}
+use Rattle.tm_game_bits.specs.States.{ReadsState}
+use Rattle.tm_game_bits.proofs.Sets.{IsSetOf-same}
 use Rattle.tm_game.specs.declared.game.Game.TheInside.{Inside}
 use Rattle.tm_game.specs.Game.{IsOf, IsStates, in_set}
 use Rattle.tm_game.specs.Layout.{IsGame, game_data}
 use Rattle.tm_game.proofs.Shapes.{order_is}
 use Rattle.tm_game.proofs.ToldGames.{game_told}
-use Rattle.tm_making.specs.Setting.{setting_of}
+use Rattle.tm_game_steps.specs.Setting.{setting_of}
 use Rattle.tm_sem.specs.Forcing.{Forced, IsCalm, Stays}
 use Rattle.tm_sem.specs.Step.{IsState}
 use Rattle.tm_syntax.specs.Design.{DesignTree}
-use Rattle.tm_told.proofs.Games.{is_game_of}
+use Rattle.tm_game_bits.proofs.Games.{is_game_of}
 
 module _ (a : Inside) (is : IsGame a) (d : DesignTree) (of : IsOf d (game_data a)) where
   pub coding_is : IsCoding d (coding_of d a.order.items)

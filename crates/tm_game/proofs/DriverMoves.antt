@@ -8,11 +8,11 @@ use Rattle.std.proofs.lemmas.Option.{slice_get_within}
 use Rattle.std.proofs.lemmas.Slice.Zip.{AllZip-long}
 use Rattle.std.proofs.lemmas.List.FromFn.{length-range_with_len}
 use Rattle.std.specs.List.{range_with_len}
-use Rattle.tm_assigned.specs.Inputs.{arguments_at}
-use Rattle.tm_assigned.specs.States.{coding_of, state_of}
-use Rattle.tm_assigned.proofs.InputLevels.{are_bits}
-use Rattle.tm_coding.specs.GameOf.{IsMoveAt, outcome_in}
-use Rattle.tm_coding.proofs.Predecessors.{legal_is}
+use Rattle.tm_game_bits.specs.Inputs.{arguments_at}
+use Rattle.tm_game_bits.specs.AssignedStates.{coding_of, state_of}
+use Rattle.tm_game_bits.proofs.InputLevels.{are_bits}
+use Rattle.tm_game_bits.specs.GameOf.{IsMoveAt, outcome_in}
+use Rattle.tm_game_bits.proofs.Predecessors.{legal_is}
 use Rattle.tm_dd.specs.declared.node.NodeId.{NodeId}
 use Rattle.tm_dd.specs.Table.{Table, means}
 use Rattle.tm_ddops.specs.Quantified.{AgreeElsewhere}
@@ -21,11 +21,11 @@ use Rattle.tm_flat.specs.Inputs.{arguments_in}
 use Rattle.tm_flat.specs.IsFlat.{step_from}
 use Rattle.tm_flat.specs.Steps.{IsTaskStep, Tells, move_from}
 use Rattle.tm_flat.proofs.Telling.{process_steps_tell, task_steps_tell}
-use Rattle.tm_forcing.specs.Diagrams.{IsSetOf, game_of, step_of}
-use Rattle.tm_forcing.specs.Forcing as bits
-use Rattle.tm_forcing.specs.Functions.{Assignment, StepFunctions, after}
-use Rattle.tm_forcing.specs.States.{ReadsState}
-use Rattle.tm_forcing.proofs.Sets.{IsSetOf-same}
+use Rattle.tm_game_bits.specs.Diagrams.{IsSetOf, game_of, step_of}
+use Rattle.tm_game_bits.specs.Forcing as bits
+use Rattle.tm_game_bits.specs.Functions.{Assignment, StepFunctions, after}
+use Rattle.tm_game_bits.specs.States.{ReadsState}
+use Rattle.tm_game_bits.proofs.Sets.{IsSetOf-same}
 use Rattle.tm_game.specs.declared.game.Game.TheInside.{Inside}
 use Rattle.tm_game.specs.declared.moves.MoveShape.TheVariants as shapes
 use Rattle.tm_game.specs.Game.{IsOf, in_set}
@@ -35,7 +35,7 @@ use Rattle.tm_game.specs.Moves.{AreMoves, IsGoodMove, move_at}
 use Rattle.tm_game.proofs.Designs.{coding_is, game_is}
 use Rattle.tm_game.proofs.Shapes.{order_is}
 use Rattle.tm_game.proofs.ToldGames.{from_told, idle_told, task_told}
-use Rattle.tm_making.specs.Setting.{setting_of}
+use Rattle.tm_game_steps.specs.Setting.{setting_of}
 use Rattle.tm_sem.specs.declared.state.Move.{Move}
 use Rattle.tm_sem.specs.declared.state.Move.TheVariants as moves
 use Rattle.tm_sem.specs.declared.state.Outcome.TheVariants.{Next, Error, NoOutcome}
@@ -45,10 +45,10 @@ use Rattle.tm_sem.proofs.Turns.{at_turn}
 use Rattle.tm_syntax.specs.Design.{DesignTree}
 use Rattle.tm_syntax.specs.Design.Cells.{Called}
 use Rattle.tm_syntax.specs.Design.Locations.{is_magic_at}
-use Rattle.tm_told.specs.Told.{IsFrom, IsIdle, IsOfTask, argument_levels, stands_at}
-use Rattle.tm_told.proofs.Steps.{is_move, state_chosen}
-use Rattle.tm_told.proofs.Tables.{can_idle, idles_to, leaves_from, magic_is, magic_of, stands_within}
-use Rattle.tm_told.proofs.Tasks.{has_tasks}
+use Rattle.tm_game_bits.specs.Told.{IsFrom, IsIdle, IsOfTask, argument_levels, stands_at}
+use Rattle.tm_game_bits.proofs.Steps.{is_move, state_chosen}
+use Rattle.tm_game_bits.proofs.Tables.{can_idle, idles_to, leaves_from, magic_is, magic_of, stands_within}
+use Rattle.tm_game_bits.proofs.Tasks.{has_tasks}
 
 moves_at : (p : ℕ) (b magic : Bool) → b ≡ magic →
     cond b (moves.Leave p) (moves.Process p) ≡ cond magic (moves.Leave p) (moves.Process p)

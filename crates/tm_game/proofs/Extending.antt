@@ -5,21 +5,21 @@ use Rattle.tm_dd.specs.Reduced.{Extends}
 use Rattle.tm_dd.specs.Table.{Table, Knows, means}
 use Rattle.tm_ddops.specs.Manager.{Diagrams}
 use Rattle.tm_flat.specs.Flat.{FlatTerms, flat_terms}
-use Rattle.tm_forcing.specs.declared.recent.Recent.{Recent}
-use Rattle.tm_forcing.specs.Diagrams.{IsSetOf, game_of}
-use Rattle.tm_forcing.specs.Functions.{Assignment, Function, GameFunctions}
-use Rattle.tm_forcing.specs.Recent.{AreAnswers}
-use Rattle.tm_forcing.proofs.Extended.{AreAnswers-Extends, IsSetOf-Extends, KnowsGame-Extends, game_of-Extends, means-Extends}
+use Rattle.tm_game_bits.specs.declared.recent.Recent.{Recent}
+use Rattle.tm_game_bits.specs.Diagrams.{IsSetOf, game_of}
+use Rattle.tm_game_bits.specs.Functions.{Assignment, Function, GameFunctions}
+use Rattle.tm_game_bits.specs.Recent.{AreAnswers}
+use Rattle.tm_game_bits.proofs.Extended.{AreAnswers-Extends, IsSetOf-Extends, KnowsGame-Extends, game_of-Extends, means-Extends}
 use Rattle.tm_game.specs.declared.game.Game.TheInside.{Inside}
 use Rattle.tm_game.specs.Game.{GameData, Grows}
 use Rattle.tm_game.specs.Kept.{AreKept}
 use Rattle.tm_game.specs.Layout.{IsGame, game_data}
-use Rattle.tm_making.specs.declared.making.MadeGame.{MadeGame}
-use Rattle.tm_making.specs.Made.{IsMadeGame}
-use Rattle.tm_making.specs.Sets.{AreSets, IsAlwaysOneIn, IsOneIn}
-use Rattle.tm_making.specs.Setting.{Setting, setting_of}
-use Rattle.tm_making.specs.Telling.{TellsGame}
-use Rattle.tm_making.proofs.Ready.{ready_kept}
+use Rattle.tm_game_steps.specs.declared.making.MadeGame.{MadeGame}
+use Rattle.tm_game_steps.specs.Made.{IsMadeGame}
+use Rattle.tm_game_steps.specs.Sets.{AreSets, IsAlwaysOneIn, IsOneIn}
+use Rattle.tm_game_steps.specs.Setting.{Setting, setting_of}
+use Rattle.tm_game_steps.specs.Telling.{TellsGame}
+use Rattle.tm_game_steps.proofs.Ready.{ready_kept}
 use Rattle.tm_term.specs.declared.term.TermId.{TermId}
 use Rattle.tm_term.specs.Value as terms
 

@@ -7,7 +7,7 @@ use Rattle.std.proofs.lemmas.List.{get_or_append_left, get_or-append-add, get_or
 use Rattle.std.proofs.lemmas.List.FromFn.{get_or-map-range_with_len, get_or-range_with_len, length-map-range_with_len, length-range_with_len}
 use Rattle.std.proofs.lemmas.Option.{get_or_from_slice_get, slice_get_within}
 use Rattle.std.proofs.lemmas.Slice.Zip.{AllZip-long}
-use Rattle.tm_changes.specs.Changes.{AreNext}
+use Rattle.tm_game_steps.specs.Changes.{AreNext}
 use Rattle.tm_flat.specs.Flat.{FlatTerms, StepTerms}
 use Rattle.tm_flat.specs.Inputs.{room, AreSmall, input_widths}
 use Rattle.tm_flat.specs.IsFlat.{IsFairTerm, IsFlat, IsGoalTerm, location_numbers, process_numbers}
@@ -15,9 +15,9 @@ use Rattle.tm_flat.specs.Steps.{AreTerms, IsProcessStep, IsTaskStep, IsTerm}
 use Rattle.tm_flat.proofs.Indices.{zipped_at}
 use Rattle.tm_flat.proofs.Widths.{number_has_bits}
 use Rattle.tm_game.proofs.Shapes.{length-state_widths}
-use Rattle.tm_making.specs.Places.{flag_at}
-use Rattle.tm_making.specs.Setting.{AreNumbers, Setting}
-use Rattle.tm_making.specs.Telling.{AreStepTerms, HasStep, HasTerms}
+use Rattle.tm_game_steps.specs.Places.{flag_at}
+use Rattle.tm_game_steps.specs.Setting.{AreNumbers, Setting}
+use Rattle.tm_game_steps.specs.Telling.{AreStepTerms, HasStep, HasTerms}
 use Rattle.tm_sem.specs.Fairness.{conditions}
 use Rattle.tm_sem.specs.StateBits.{state_widths}
 use Rattle.tm_syntax.specs.declared.design.Var.{Var}
@@ -26,7 +26,7 @@ use Rattle.tm_syntax.specs.Design.Locations.{end_number}
 use Rattle.tm_syntax.specs.Design.Sizes.{bits_of_number, type_bits}
 use Rattle.tm_term.specs.declared.term.TermId.{TermId}
 use Rattle.tm_term.specs.Table.{IsKnown, width_of}
-use Rattle.tm_told.proofs.Tables.{magic_is}
+use Rattle.tm_game_bits.proofs.Tables.{magic_is}
 
 -- what holds of each of two lists that go along holds of the second
 all_second : {X Y : Type 0} → (R : X → Y → Type 0) (P : Y → Type 0) (xs : List X) (ys : List Y) → AllZip R xs ys →

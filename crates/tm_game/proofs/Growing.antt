@@ -1,18 +1,18 @@
 -- What is left of a game as it was where it has grown.
 use Rattle.std.proofs.Common.{◌≡◌, ℕ, List, length, refl, sym, ◌∙◌, subst}
-use Rattle.tm_assigned.specs.States.{state_of}
+use Rattle.tm_game_bits.specs.AssignedStates.{state_of}
 use Rattle.tm_dd.specs.declared.node.NodeId.{NodeId}
 use Rattle.tm_dd.specs.Table.{Knows, means}
 use Rattle.tm_dd.proofs.CallerLaws.{Extends-refl, Extends-trans}
 use Rattle.tm_flat.specs.Flat.{FlatTerms}
 use Rattle.tm_flat.specs.IsFlat.{IsFlat}
 use Rattle.tm_flat.proofs.Growth.{flat_kept}
-use Rattle.tm_forcing.proofs.Extended.{IsSetOf-Extends, Knows-Extends, means-Extends}
-use Rattle.tm_forcing.specs.States.{ReadsState}
+use Rattle.tm_game_bits.proofs.Extended.{IsSetOf-Extends, Knows-Extends, means-Extends}
+use Rattle.tm_game_bits.specs.States.{ReadsState}
 use Rattle.tm_game.specs.Game.{GameData, Grows, IsOf, IsSet, IsStates}
 use Rattle.tm_game.specs.Start.{state_bits_in}
 use Rattle.tm_game.proofs.Extending.{terms-same}
-use Rattle.tm_levels.specs.Order.{IsOrder}
+use Rattle.tm_game_bits.specs.Order.{IsOrder}
 use Rattle.tm_sem.specs.State.{StateData}
 use Rattle.tm_sem.specs.Step.{IsState}
 use Rattle.tm_syntax.specs.Design.{DesignTree}

@@ -6,14 +6,14 @@ use Rattle.tm_dd.specs.Table.{Table, Knows, means}
 use Rattle.tm_dd.proofs.CallerLaws.{Extends-trans}
 use Rattle.tm_ddops.specs.Manager.{IsFunction}
 use Rattle.tm_flat.specs.Flat.{FlatTerms}
-use Rattle.tm_forcing.specs.Diagrams.{IsSetOf}
-use Rattle.tm_forcing.specs.Functions.{Assignment, Function}
-use Rattle.tm_forcing.proofs.Extended.{Knows-Extends, means-Extends}
-use Rattle.tm_forcing.proofs.Sets.{both_true}
+use Rattle.tm_game_bits.specs.Diagrams.{IsSetOf}
+use Rattle.tm_game_bits.specs.Functions.{Assignment, Function}
+use Rattle.tm_game_bits.proofs.Extended.{Knows-Extends, means-Extends}
+use Rattle.tm_game_bits.proofs.Sets.{both_true}
 use Rattle.tm_game.specs.Kept.{AreKept}
 use Rattle.tm_game.proofs.Extending.{sets_kept}
-use Rattle.tm_making.specs.Sets.{AreSets, IsAlwaysOneIn, IsOneIn}
-use Rattle.tm_making.specs.Setting.{Setting}
+use Rattle.tm_game_steps.specs.Sets.{AreSets, IsAlwaysOneIn, IsOneIn}
+use Rattle.tm_game_steps.specs.Setting.{Setting}
 use Rattle.tm_term.specs.declared.term.TermId.{TermId}
 
 -- sets of valid states that were made earlier

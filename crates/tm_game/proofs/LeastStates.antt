@@ -7,9 +7,9 @@ use Rattle.std.proofs.lemmas.Bool.{true≢false}
 use Rattle.std.proofs.lemmas.List.{length-map, length-take-le}
 use Rattle.std.proofs.lemmas.List.Elements.{All-map}
 use Rattle.std.proofs.lemmas.List.FromFn.{get_or-map-range_with_len, get_or-range_with_len, length-range_with_len}
-use Rattle.tm_assigned.specs.States.{assignment_of, bits_by_place, numbers_from, state_of}
-use Rattle.tm_assigned.proofs.Coded.{numbers_told}
-use Rattle.tm_assigned.proofs.Numbers.{bits_of-numbers_from, numbers_agree}
+use Rattle.tm_game_bits.specs.AssignedStates.{assignment_of, bits_by_place, numbers_from, state_of}
+use Rattle.tm_game_bits.proofs.Coded.{numbers_told}
+use Rattle.tm_game_bits.proofs.Numbers.{bits_of-numbers_from, numbers_agree}
 use Rattle.tm_dd.specs.declared.node.NodeId.{NodeId}
 use Rattle.tm_dd.specs.declared.node.TheConstants.{FALSE}
 use Rattle.tm_dd.specs.Reduced.{Extends}
@@ -18,9 +18,9 @@ use Rattle.tm_dd.proofs.CallerLaws.{means-FALSE}
 use Rattle.tm_ddops.specs.Manager.{IsFunction}
 use Rattle.tm_flat.specs.Flat.{FlatTerms, flat_terms}
 use Rattle.tm_flat.specs.Inputs.{state_from}
-use Rattle.tm_forcing.specs.Functions.{Assignment}
-use Rattle.tm_forcing.specs.States.{AreOneState, ReadsState}
-use Rattle.tm_forcing.proofs.Sets.{both_true}
+use Rattle.tm_game_bits.specs.Functions.{Assignment}
+use Rattle.tm_game_bits.specs.States.{AreOneState, ReadsState}
+use Rattle.tm_game_bits.proofs.Sets.{both_true}
 use Rattle.tm_game.specs.declared.game.Game.TheInside.{Inside}
 use Rattle.tm_game.specs.Game.{IsOf}
 use Rattle.tm_game.specs.Inner.LeastBits.{AreBothTrue, AreLeastBits, IsNowhere, place_bits}
@@ -29,10 +29,10 @@ use Rattle.tm_game.specs.Least.{HoldsNowhere, test_of}
 use Rattle.tm_game.specs.Shape.{IsShape, state_widths_in}
 use Rattle.tm_game.proofs.Designs.{coding_is, game_is}
 use Rattle.tm_game.proofs.Shapes.{first_is, length-state_widths, order_is, state_of_numbers, widths_are}
-use Rattle.tm_levels.specs.Least.{IsLeastAlong}
-use Rattle.tm_levels.specs.Order.{IsOrder, level_in}
-use Rattle.tm_levels.proofs.Orders.{length_order, level_of_place}
-use Rattle.tm_making.specs.Setting.{Setting, setting_of}
+use Rattle.tm_game_bits.specs.Least.{IsLeastAlong}
+use Rattle.tm_game_bits.specs.Order.{IsOrder, level_in}
+use Rattle.tm_game_bits.proofs.Orders.{length_order, level_of_place}
+use Rattle.tm_game_steps.specs.Setting.{Setting, setting_of}
 use Rattle.tm_sem.specs.Certificates.{IsIn}
 use Rattle.tm_sem.specs.State.{StateData}
 use Rattle.tm_sem.specs.StateBits.{IsLeast, bits_of_numbers, comes_before, state_bits, state_numbers, state_widths}

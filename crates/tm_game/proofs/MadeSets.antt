@@ -1,13 +1,13 @@
 -- Ids that read the levels of a state alone: the constants, and what operations make of two of them.
 use Rattle.std.proofs.Common.{◌≡◌, Bool, false, length, sym, ap, ◌∙◌, arith}
-use Rattle.tm_assigned.specs.States.{assignment_of}
+use Rattle.tm_game_bits.specs.AssignedStates.{assignment_of}
 use Rattle.tm_dd.specs.declared.node.NodeId.{NodeId}
 use Rattle.tm_dd.specs.declared.node.TheConstants.{FALSE, TRUE}
 use Rattle.tm_dd.specs.Table.{means}
 use Rattle.tm_dd.proofs.CallerLaws.{means-FALSE, means-TRUE}
 use Rattle.tm_ddops.specs.Manager.{IsFunction}
-use Rattle.tm_forcing.specs.Functions.{Assignment}
-use Rattle.tm_forcing.specs.States.{ReadsState}
+use Rattle.tm_game_bits.specs.Functions.{Assignment}
+use Rattle.tm_game_bits.specs.States.{ReadsState}
 use Rattle.tm_game.specs.Game.{GameData, Grows, IsSet}
 use Rattle.tm_game.specs.Least.{test_of}
 use Rattle.tm_game.proofs.Growing.{set_kept}

@@ -10,7 +10,7 @@ use Rattle.tm_flat.specs.Inputs.{room}
 use Rattle.tm_flat.specs.IsFlat.{IsFlat, location_numbers, process_numbers}
 use Rattle.tm_flat.specs.Steps.{IsProcessStep}
 use Rattle.tm_game.specs.Start.{state_bits_in}
-use Rattle.tm_levels.specs.Order.{IsOrder}
+use Rattle.tm_game_bits.specs.Order.{IsOrder}
 use Rattle.tm_sem.specs.StateBits.{state_widths}
 use Rattle.tm_syntax.specs.Design.{DesignTree}
 use Rattle.tm_term.specs.Table.{Table}

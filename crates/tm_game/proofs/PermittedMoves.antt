@@ -9,14 +9,14 @@ use Rattle.tm_dd.specs.Table.{Table, Knows, means}
 use Rattle.tm_dd.proofs.CallerLaws.{means-FALSE}
 use Rattle.tm_ddops.specs.Manager.{IsFunction}
 use Rattle.tm_ddops.specs.Quantified.{IsExists}
-use Rattle.tm_forcing.specs.declared.game.GameDiagrams.{GameDiagrams}
-use Rattle.tm_forcing.specs.declared.step.StepDiagrams.{StepDiagrams}
-use Rattle.tm_forcing.specs.Diagrams.{IsSetOf, KnowsStep, game_of, step_of}
-use Rattle.tm_forcing.specs.Forcing.{IsAllowed}
-use Rattle.tm_forcing.specs.Functions.{Assignment, GameFunctions, StepFunctions}
-use Rattle.tm_forcing.proofs.Extended.{Knows-Extends}
-use Rattle.tm_forcing.proofs.Sets.{IsSetOf-same, some_true, true_first, true_second}
-use Rattle.tm_forcing.proofs.StepSets.{allowed_is}
+use Rattle.tm_game_bits.specs.declared.game.GameDiagrams.{GameDiagrams}
+use Rattle.tm_game_bits.specs.declared.step.StepDiagrams.{StepDiagrams}
+use Rattle.tm_game_bits.specs.Diagrams.{IsSetOf, KnowsStep, game_of, step_of}
+use Rattle.tm_game_bits.specs.Forcing.{IsAllowed}
+use Rattle.tm_game_bits.specs.Functions.{Assignment, GameFunctions, StepFunctions}
+use Rattle.tm_game_bits.proofs.Extended.{Knows-Extends}
+use Rattle.tm_game_bits.proofs.Sets.{IsSetOf-same, some_true, true_first, true_second}
+use Rattle.tm_game_bits.proofs.StepSets.{allowed_is}
 use Rattle.tm_game.specs.Inner.Permitted.{HasPermittedLeaveBelow, IsPermitted, IsPermittedLeave}
 
 -- the step of a number

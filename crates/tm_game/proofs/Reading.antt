@@ -6,11 +6,11 @@ use Rattle.std.proofs.Math.Nat.{pow-le-pow_right}
 use Rattle.std.proofs.lemmas.List.{append-nil, drop_all, drop_more, drop-drop, get_or-drop, get_or-take, get_or_default, length-drop, length-take-le, take-append-drop, take_more}
 use Rattle.std.proofs.lemmas.List.FromFn.{length-map-range_with_len}
 use Rattle.std.proofs.lemmas.List.Sums.{sum_by-drop_more}
-use Rattle.tm_assigned.specs.States.{numbers_from}
-use Rattle.tm_assigned.proofs.Numbers.{length-numbers_from, number_below}
-use Rattle.tm_bits.specs.Arithmetic.{bit}
-use Rattle.tm_bits.specs.Bits.{number_of}
-use Rattle.tm_bits.proofs.BitLists.{number_of-append}
+use Rattle.tm_game_bits.specs.AssignedStates.{numbers_from}
+use Rattle.tm_game_bits.proofs.Numbers.{length-numbers_from, number_below}
+use Rattle.tm_base.specs.Arithmetic.{bit}
+use Rattle.tm_base.specs.Bits.{number_of}
+use Rattle.tm_base.proofs.BitLists.{number_of-append}
 use Rattle.tm_dd.specs.Table.{assignment}
 use Rattle.tm_sem.specs.State.{StateData}
 use Rattle.tm_sem.specs.StateBits.{state_numbers}

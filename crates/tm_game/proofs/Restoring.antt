@@ -12,10 +12,10 @@ use Rattle.tm_dd.specs.declared.node.NodeId.{NodeId}
 use Rattle.tm_dd.specs.Table.{Table, Knows, means}
 use Rattle.tm_ddops.specs.Copied.{MeanTheSame}
 use Rattle.tm_ddops.specs.Manager.{IsFunction}
-use Rattle.tm_forcing.specs.declared.game.GameDiagrams.{GameDiagrams}
-use Rattle.tm_forcing.specs.declared.step.StepDiagrams.{StepDiagrams}
-use Rattle.tm_forcing.specs.Diagrams.{KnowsChanges, KnowsGame, KnowsStep, changes_of, step_of}
-use Rattle.tm_forcing.proofs.Extended.{known_changes}
+use Rattle.tm_game_bits.specs.declared.game.GameDiagrams.{GameDiagrams}
+use Rattle.tm_game_bits.specs.declared.step.StepDiagrams.{StepDiagrams}
+use Rattle.tm_game_bits.specs.Diagrams.{KnowsChanges, KnowsGame, KnowsStep, changes_of, step_of}
+use Rattle.tm_game_bits.proofs.Extended.{known_changes}
 use Rattle.tm_game.specs.declared.opening.Kept.{Kept}
 use Rattle.tm_game.specs.Inner.Listed.{change_ids, game_ids, kept_ids, step_ids, steps_ids}
 use Rattle.tm_game.specs.Inner.Restored.{SameChanges, SameGame, SameKept, SameStep, SameSteps, StandAt}

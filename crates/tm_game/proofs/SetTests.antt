@@ -2,16 +2,16 @@
 use Rattle.std.proofs.Common.{◌≡◌, true, sym, subst}
 use Rattle.std.specs.Prelude.{◌↔◌}
 use Rattle.std.proofs.lemmas.Bool.Decides.{same_from_decides}
-use Rattle.tm_assigned.specs.States.{assignment_of, coding_of}
-use Rattle.tm_assigned.proofs.Coded.{is_coding}
-use Rattle.tm_coding.specs.Coding.{IsCoding}
+use Rattle.tm_game_bits.specs.AssignedStates.{assignment_of, coding_of}
+use Rattle.tm_game_bits.proofs.Coded.{is_coding}
+use Rattle.tm_game_bits.specs.Coding.{IsCoding}
 use Rattle.tm_dd.specs.declared.node.NodeId.{NodeId}
 use Rattle.tm_dd.specs.Table.{means}
 use Rattle.tm_game.specs.Game.{GameData, IsOf, IsSet, IsStates}
 use Rattle.tm_game.specs.Least.{test_of}
 use Rattle.tm_game.specs.Start.{state_bits_in}
 use Rattle.tm_game.proofs.Ordered.{order_is}
-use Rattle.tm_levels.specs.Order.{IsOrder}
+use Rattle.tm_game_bits.specs.Order.{IsOrder}
 use Rattle.tm_sem.specs.State.{StateData}
 use Rattle.tm_sem.specs.Step.{IsState}
 use Rattle.tm_syntax.specs.Design.{DesignTree}

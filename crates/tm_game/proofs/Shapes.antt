@@ -5,28 +5,28 @@ use Rattle.std.specs.List.{AllZip, range_with_len}
 use Rattle.std.proofs.lemmas.List.{drop_at, get_or_append_left, get_or_at, length-append, length-drop, length-map, length-replicate, length-take-le, take-append-le, take-map, take_all, take_at}
 use Rattle.std.proofs.lemmas.List.FromFn.{length-range_with_len}
 use Rattle.std.proofs.lemmas.Slice.Zip.{AllZip-long}
-use Rattle.tm_assigned.specs.Inputs.{arguments_at, choices_at, input_levels}
-use Rattle.tm_assigned.specs.States.{bits_by_place, numbers_from, state_of}
-use Rattle.tm_assigned.proofs.Coded.{numbers_tell, numbers_told}
-use Rattle.tm_assigned.proofs.InputLevels.{values_told}
-use Rattle.tm_assigned.proofs.Numbers.{length-numbers_from}
-use Rattle.tm_bits.specs.Bits.{number_of}
+use Rattle.tm_game_bits.specs.Inputs.{arguments_at, choices_at, input_levels}
+use Rattle.tm_game_bits.specs.AssignedStates.{bits_by_place, numbers_from, state_of}
+use Rattle.tm_game_bits.proofs.Coded.{numbers_tell, numbers_told}
+use Rattle.tm_game_bits.proofs.InputLevels.{values_told}
+use Rattle.tm_game_bits.proofs.Numbers.{length-numbers_from}
+use Rattle.tm_base.specs.Bits.{number_of}
 use Rattle.tm_blast.specs.Bits as blasted
 use Rattle.tm_flat.specs.Flat.{FlatTerms}
 use Rattle.tm_flat.specs.Inputs.{room, state_from}
 use Rattle.tm_flat.specs.IsFlat.{IsFlat, location_numbers, process_numbers}
 use Rattle.tm_flat.specs.Steps.{IsProcessStep}
-use Rattle.tm_forcing.specs.Functions.{Assignment}
+use Rattle.tm_game_bits.specs.Functions.{Assignment}
 use Rattle.tm_game.specs.Shape.{IsShape, state_widths_in}
-use Rattle.tm_levels.specs.Order.{IsOrder}
-use Rattle.tm_making.specs.Setting.{Setting, choices_of, arguments_of, has_value, values_at}
+use Rattle.tm_game_bits.specs.Order.{IsOrder}
+use Rattle.tm_game_steps.specs.Setting.{Setting, choices_of, arguments_of, has_value, values_at}
 use Rattle.tm_sem.specs.State.{StateData}
 use Rattle.tm_sem.specs.StateBits.{state_numbers, state_widths}
 use Rattle.tm_syntax.specs.declared.design.Var.{Var}
 use Rattle.tm_syntax.specs.Design.{DesignTree}
 use Rattle.tm_syntax.specs.Design.Locations.{end_number}
 use Rattle.tm_syntax.specs.Design.Sizes.{bits_of_number, type_bits}
-use Rattle.tm_told.specs.Told.{argument_levels, choice_levels, inputs_at, stands_at}
+use Rattle.tm_game_bits.specs.Told.{argument_levels, choice_levels, inputs_at, stands_at}
 
 -- ---- states
 pub length-state_widths : (d : DesignTree) → length (state_widths d) ≡ length d.vars + (length d.processes + 1)

@@ -5,8 +5,8 @@ use Rattle.std.proofs.lemmas.List.{length-append, length-replicate, take-append-
 use Rattle.std.proofs.lemmas.List.Elements.{All-take, All-weaker}
 use Rattle.std.proofs.lemmas.List.FromFn.{length-map-range_with_len, length-range_with_len}
 use Rattle.std.proofs.lemmas.Slice.Zip.{AllZip-long}
-use Rattle.tm_assigned.specs.Inputs.{input_levels}
-use Rattle.tm_assigned.proofs.InputLevels.{levels_fit}
+use Rattle.tm_game_bits.specs.Inputs.{input_levels}
+use Rattle.tm_game_bits.proofs.InputLevels.{levels_fit}
 use Rattle.tm_blast.specs.Numbers.{level_lists}
 use Rattle.tm_blast.proofs.CallerLaws.{none_made}
 use Rattle.tm_dd.specs.Table.{Table}
@@ -22,21 +22,21 @@ use Rattle.tm_game.proofs.Flats.{has_terms, last_fits, place_fits}
 use Rattle.tm_flat.proofs.Growth.{flat_kept}
 use Rattle.tm_game.proofs.Short.{short_widths}
 use Rattle.tm_game.proofs.Shapes.{count_widths, length-state_widths, levels_are, order_is}
-use Rattle.tm_levels.specs.Order.{IsOrder}
-use Rattle.tm_levels.proofs.Orders.{length_order}
-use Rattle.tm_making.specs.declared.places.Place.{Place}
-use Rattle.tm_making.specs.Passing.{ArePassing}
-use Rattle.tm_making.specs.Places.{ArePlaces, IsPlace, flag_at}
-use Rattle.tm_making.specs.Setting.{IsReady, Setting, setting_of}
-use Rattle.tm_making.proofs.Passing.{next_kept, values_same}
-use Rattle.tm_making.proofs.PlaceTerms.{IsTest-Extends}
+use Rattle.tm_game_bits.specs.Order.{IsOrder}
+use Rattle.tm_game_bits.proofs.Orders.{length_order}
+use Rattle.tm_game_steps.specs.declared.places.Place.{Place}
+use Rattle.tm_game_steps.specs.Passing.{ArePassing}
+use Rattle.tm_game_steps.specs.Places.{ArePlaces, IsPlace, flag_at}
+use Rattle.tm_game_steps.specs.Setting.{IsReady, Setting, setting_of}
+use Rattle.tm_game_steps.proofs.Passing.{next_kept, values_same}
+use Rattle.tm_game_steps.proofs.PlaceTerms.{IsTest-Extends}
 use Rattle.tm_sem.specs.StateBits.{state_widths}
 use Rattle.tm_syntax.specs.Design.{DesignTree}
 use Rattle.tm_syntax.specs.Design.Locations.{is_magic_at}
 use Rattle.tm_term.specs.declared.term.TermId.{TermId}
 use Rattle.tm_term.specs.Table.{Table as Terms}
 use Rattle.tm_term.specs.Value.{Extends}
-use Rattle.tm_told.proofs.Tables.{magic_is}
+use Rattle.tm_game_bits.proofs.Tables.{magic_is}
 
 -- ---- counts
 module _ (d : DesignTree) (t : Terms) (f : FlatTerms) (can : CanStart d t f) where
@@ -111,7 +111,7 @@ ready_first x f order d flat shape few words s enough =
     (omega (arith, enough, shape.count)) in
     record {
       levels = subst (Rattle.tm_blast.specs.Bits.AreLevels x.terms s.levels) (sym levels) fit;
-      apart = subst Rattle.tm_changes.specs.Changes.AreApart (sym levels)
+      apart = subst Rattle.tm_game_steps.specs.Changes.AreApart (sym levels)
           (levels_apart order (state_widths d) (order_is x f order shape d flat));
       few = omega (arith, few, fit.inputs, ap length levels);
       words = words;

@@ -5,11 +5,11 @@ use Rattle.std.specs.List.{range_with_len}
 use Rattle.std.proofs.lemmas.List.FromFn.{length-range_with_len}
 use Rattle.std.proofs.lemmas.Option.{get_or_from_slice_get}
 use Rattle.std.proofs.lemmas.Slice.Zip.{AllZip-long}
-use Rattle.tm_assigned.specs.Inputs.{arguments_at, choice_level, choices_at}
-use Rattle.tm_assigned.specs.States.{state_of}
-use Rattle.tm_assigned.proofs.InputLevels.{are_bits, values_fit}
-use Rattle.tm_assigned.proofs.Coded.{state_told}
-use Rattle.tm_bits.specs.Arithmetic.{bit}
+use Rattle.tm_game_bits.specs.Inputs.{arguments_at, choice_level, choices_at}
+use Rattle.tm_game_bits.specs.AssignedStates.{state_of}
+use Rattle.tm_game_bits.proofs.InputLevels.{are_bits, values_fit}
+use Rattle.tm_game_bits.proofs.Coded.{state_told}
+use Rattle.tm_base.specs.Arithmetic.{bit}
 use Rattle.tm_dd.specs.declared.node.NodeId.{NodeId}
 use Rattle.tm_dd.specs.Table.{means}
 use Rattle.tm_ddops.specs.Quantified.{AgreeElsewhere}
@@ -17,17 +17,17 @@ use Rattle.tm_flat.specs.Flat.{flat_terms}
 use Rattle.tm_flat.specs.Inputs.{AreBits, input_values, state_from}
 use Rattle.tm_flat.specs.IsFlat.{IsFairTerm, IsGoalTerm, IsStateTerm}
 use Rattle.tm_flat.proofs.Indices.{zipped_at}
-use Rattle.tm_forcing.specs.Diagrams.{IsSetOf}
-use Rattle.tm_forcing.specs.Functions.{Assignment}
-use Rattle.tm_forcing.proofs.Sets.{IsSetOf-same}
+use Rattle.tm_game_bits.specs.Diagrams.{IsSetOf}
+use Rattle.tm_game_bits.specs.Functions.{Assignment}
+use Rattle.tm_game_bits.proofs.Sets.{IsSetOf-same}
 use Rattle.tm_game.specs.declared.game.Game.TheInside.{Inside}
 use Rattle.tm_game.specs.Game.{IsOf, IsStates}
 use Rattle.tm_game.specs.Layout.{IsGame, game_data}
 use Rattle.tm_game.proofs.Designs.{game_is}
 use Rattle.tm_game.proofs.Flats.{number_at}
 use Rattle.tm_game.proofs.Shapes.{choices_are, order_is, values_are}
-use Rattle.tm_making.specs.Setting.{choices_of, setting_of, values_at}
-use Rattle.tm_making.specs.Sets.{IsAlwaysOneIn, IsOneIn}
+use Rattle.tm_game_steps.specs.Setting.{choices_of, setting_of, values_at}
+use Rattle.tm_game_steps.specs.Sets.{IsAlwaysOneIn, IsOneIn}
 use Rattle.tm_sem.specs.Fairness.{IsFair, conditions}
 use Rattle.tm_sem.specs.Play.{goal_holds}
 use Rattle.tm_sem.specs.State.{StateData}
@@ -35,9 +35,9 @@ use Rattle.tm_sem.specs.Step.{IsInitial, IsState, is_driver_turn}
 use Rattle.tm_syntax.specs.Design.{DesignTree}
 use Rattle.tm_term.specs.declared.term.TermId.{TermId}
 use Rattle.tm_term.specs.Value.{value_of}
-use Rattle.tm_told.specs.Told.{choice_levels, inputs_at}
-use Rattle.tm_told.proofs.Bits.{bits_agree, range_within, with_bits, with_bits-are, with_bits-elsewhere}
-use Rattle.tm_told.proofs.Steps.{state_chosen}
+use Rattle.tm_game_bits.specs.Told.{choice_levels, inputs_at}
+use Rattle.tm_game_bits.proofs.Bits.{bits_agree, range_within, with_bits, with_bits-are, with_bits-elsewhere}
+use Rattle.tm_game_bits.proofs.Steps.{state_chosen}
 
 bit_one : (b : Bool) → bit b ≡ 1 → b ≡ true
 bit_one true is = refl

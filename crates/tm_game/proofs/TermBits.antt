@@ -1,7 +1,7 @@
 -- The bits of terms over the levels of a game.
 use Rattle.std.proofs.Common.{◌≡◌, ℕ, List, Vec, ap, ◌∙◌, subst, arith}
 use Rattle.std.specs.declared.alloc.Global.{Global}
-use Rattle.tm_assigned.specs.Inputs.{input_levels}
+use Rattle.tm_game_bits.specs.Inputs.{input_levels}
 use Rattle.tm_blast.specs.Bits.{AreBits}
 use Rattle.tm_blast.specs.Memory.{Made, AreMade}
 use Rattle.tm_blast.specs.Numbers.{level_lists}
@@ -10,14 +10,14 @@ use Rattle.tm_dd.specs.Reduced.{Extends}
 use Rattle.tm_dd.specs.Table.{Table}
 use Rattle.tm_ddops.specs.Manager.{Diagrams}
 use Rattle.tm_flat.specs.Flat.{flat_terms}
-use Rattle.tm_forcing.proofs.Extended.{AreAnswers-Extends}
+use Rattle.tm_game_bits.proofs.Extended.{AreAnswers-Extends}
 use Rattle.tm_game.specs.declared.game.Game.TheInside.{Inside}
 use Rattle.tm_game.specs.Game.{IsOf}
 use Rattle.tm_game.specs.Layout.{IsGame, game_data}
 use Rattle.tm_game.proofs.Extending.{kept_kept, made_kept}
 use Rattle.tm_game.proofs.Shapes.{levels_are}
-use Rattle.tm_making.specs.Setting.{setting_of}
-use Rattle.tm_making.proofs.Ready.{ready_then}
+use Rattle.tm_game_steps.specs.Setting.{setting_of}
+use Rattle.tm_game_steps.proofs.Ready.{ready_then}
 use Rattle.tm_sem.specs.StateBits.{state_widths}
 use Rattle.tm_syntax.specs.Design.{DesignTree}
 use Rattle.tm_term.specs.declared.term.TermId.{TermId}

@@ -9,18 +9,18 @@ use Rattle.tm_dd.specs.Table.{Table, means}
 use Rattle.tm_dd.proofs.CallerLaws.{Extends-refl}
 use Rattle.tm_flat.specs.Flat.{FlatTerms, StepTerms, flat_terms}
 use Rattle.tm_flat.specs.Steps.{IsTerm}
-use Rattle.tm_forcing.specs.Diagrams.{IsSetOf, game_of}
-use Rattle.tm_forcing.specs.Functions.{Function, GameFunctions, StepFunctions}
-use Rattle.tm_forcing.proofs.Sets.{IsSetOf-same}
+use Rattle.tm_game_bits.specs.Diagrams.{IsSetOf, game_of}
+use Rattle.tm_game_bits.specs.Functions.{Function, GameFunctions, StepFunctions}
+use Rattle.tm_game_bits.proofs.Sets.{IsSetOf-same}
 use Rattle.tm_game.specs.declared.game.Game.TheInside.{Inside}
 use Rattle.tm_game.specs.Game.{GameData, Grows, IsOf}
 use Rattle.tm_game.specs.Kept.{AreKept}
 use Rattle.tm_game.specs.Layout.{IsGame, game_data}
 use Rattle.tm_flat.proofs.Growth.{flat_kept}
-use Rattle.tm_making.specs.Setting.{AreNumbers, IsReady, Setting, has_value, setting_of, values_at}
-use Rattle.tm_making.specs.Sets.{IsAlwaysOneIn, IsOneIn}
-use Rattle.tm_making.specs.Telling.{AreFrom, AreStepTerms, AreTasks, HasTerms, IsFrom, IsOfTask, TellsGame, TellsStep}
-use Rattle.tm_making.proofs.Passing.{next_kept, values_same}
+use Rattle.tm_game_steps.specs.Setting.{AreNumbers, IsReady, Setting, has_value, setting_of, values_at}
+use Rattle.tm_game_steps.specs.Sets.{IsAlwaysOneIn, IsOneIn}
+use Rattle.tm_game_steps.specs.Telling.{AreFrom, AreStepTerms, AreTasks, HasTerms, IsFrom, IsOfTask, TellsGame, TellsStep}
+use Rattle.tm_game_steps.proofs.Passing.{next_kept, values_same}
 use Rattle.tm_syntax.specs.Design.{DesignTree}
 use Rattle.tm_term.specs.declared.term.TermId.{TermId}
 use Rattle.tm_term.specs.Table.{Table as Terms, IsKnown}

@@ -6,19 +6,19 @@ use Rattle.std.proofs.lemmas.Option.{slice_get_within}
 use Rattle.tm_blast.specs.Bits as blasted
 use Rattle.tm_flat.specs.Flat.{FlatTerms, StepTerms}
 use Rattle.tm_flat.specs.IsFlat.{IsFlat}
-use Rattle.tm_forcing.specs.Functions.{Assignment, Function, GameFunctions, StepFunctions, after}
+use Rattle.tm_game_bits.specs.Functions.{Assignment, Function, GameFunctions, StepFunctions, after}
 use Rattle.tm_game.specs.Shape.{IsShape}
 use Rattle.tm_game.proofs.Shapes.{arguments_are, choices_are, passes_told, stands_is, state_values, values_are}
-use Rattle.tm_making.specs.Places.{flag_at}
-use Rattle.tm_making.specs.Setting.{Setting, arguments_of, has_value, values_at}
-use Rattle.tm_making.specs.Telling as made
-use Rattle.tm_making.specs.Telling.{HasTerms, IsIdling, PassesTo, TellsGame, TellsStep}
+use Rattle.tm_game_steps.specs.Places.{flag_at}
+use Rattle.tm_game_steps.specs.Setting.{Setting, arguments_of, has_value, values_at}
+use Rattle.tm_game_steps.specs.Telling as made
+use Rattle.tm_game_steps.specs.Telling.{HasTerms, IsIdling, PassesTo, TellsGame, TellsStep}
 use Rattle.tm_syntax.specs.Design.{DesignTree}
 use Rattle.tm_term.specs.declared.term.TermId.{TermId}
 use Rattle.tm_term.specs.Value.{value_of}
-use Rattle.tm_told.specs.Told as told
-use Rattle.tm_told.specs.Told.{IsIdle, IsOfDriver, IsStepOf, IsTold, Passes, argument_levels, idles, inputs_at, leaves, calls, stands_at}
-use Rattle.tm_told.proofs.Tables.{magic_is}
+use Rattle.tm_game_bits.specs.Told as told
+use Rattle.tm_game_bits.specs.Told.{IsIdle, IsOfDriver, IsStepOf, IsTold, Passes, argument_levels, idles, inputs_at, leaves, calls, stands_at}
+use Rattle.tm_game_bits.proofs.Tables.{magic_is}
 
 -- ---- lists
 some_behind : {X : Type 0} (P : X → Type 0) (xs ys : List X) → Any P ys → Any P (xs ++ ys)

@@ -5,16 +5,16 @@ use Rattle.std.specs.List.{AllZip, range_with_len}
 use Rattle.std.proofs.lemmas.List.{get_or_append_left, get_or-append-add, get_or-map, length-append, length-map}
 use Rattle.std.proofs.lemmas.List.FromFn.{get_or-map-range_with_len, length-map-range_with_len}
 use Rattle.std.proofs.lemmas.List.Sums.{sum_by-cons}
-use Rattle.tm_assigned.specs.Inputs.{arguments_at}
-use Rattle.tm_assigned.specs.States.{assignment_of, numbers_from, state_of}
-use Rattle.tm_assigned.proofs.Numbers.{Fits, numbers_agree, numbers_back}
-use Rattle.tm_bits.specs.Arithmetic.{bit}
+use Rattle.tm_game_bits.specs.Inputs.{arguments_at}
+use Rattle.tm_game_bits.specs.AssignedStates.{assignment_of, numbers_from, state_of}
+use Rattle.tm_game_bits.proofs.Numbers.{Fits, numbers_agree, numbers_back}
+use Rattle.tm_base.specs.Arithmetic.{bit}
 use Rattle.tm_dd.specs.Table.{assignment}
 use Rattle.tm_flat.specs.BitRun.{number_at}
 use Rattle.tm_flat.specs.Fitting.{ArgumentsFit}
 use Rattle.tm_flat.specs.Flat.{flat_terms}
 use Rattle.tm_flat.specs.Inputs.{room, arguments_from, arguments_in, bits_in, parameter_widths}
-use Rattle.tm_forcing.specs.Functions.{Assignment}
+use Rattle.tm_game_bits.specs.Functions.{Assignment}
 use Rattle.tm_game.specs.declared.game.Game.TheInside.{Inside}
 use Rattle.tm_game.specs.Game.{IsOf}
 use Rattle.tm_game.specs.Inner.Valued.{level_values}
@@ -23,7 +23,7 @@ use Rattle.tm_game.specs.Layout.{IsGame, game_data}
 use Rattle.tm_game.specs.Shape.{state_widths_in}
 use Rattle.tm_game.proofs.Designs.{coding_is}
 use Rattle.tm_game.proofs.Shapes.{widths_are}
-use Rattle.tm_making.specs.Setting.{setting_of}
+use Rattle.tm_game_steps.specs.Setting.{setting_of}
 use Rattle.tm_sem.specs.Run.{asked_by}
 use Rattle.tm_sem.specs.State.{StateData}
 use Rattle.tm_sem.specs.StateBits.{bits_of_numbers, state_numbers}

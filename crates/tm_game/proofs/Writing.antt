@@ -7,10 +7,10 @@ use Rattle.std.proofs.lemmas.Bool.{eq-eqb, eqb-true, lt-ltb, ltb-true, ltb-false
 use Rattle.std.proofs.lemmas.Bool.Decides.{nat_tests}
 use Rattle.std.proofs.lemmas.List.{append-nil}
 use Rattle.std.proofs.lemmas.Nat.{shr_below}
-use Rattle.tm_assigned.proofs.Numbers.{Fits}
-use Rattle.tm_bits.specs.Bits.{bits_of}
+use Rattle.tm_game_bits.proofs.Numbers.{Fits}
+use Rattle.tm_base.specs.Bits.{bits_of}
 use Rattle.tm_dd.specs.Table.{assignment}
-use Rattle.tm_forcing.proofs.Sets.{both_true}
+use Rattle.tm_game_bits.proofs.Sets.{both_true}
 use Rattle.tm_game.specs.Inner.Called.{have_widths}
 
 -- ---- a number

@@ -1,7 +1,7 @@
 -- The symbolic game of a design, as contracts see it.
 use Rattle.std.specs.Prelude.{◌≡◌, ℕ, ◌<◌, true, List, length, slice_index_or}
-use Rattle.tm_assigned.specs.States.{coding_of, state_of}
-use Rattle.tm_coding.specs.Coding.{IsIn}
+use Rattle.tm_game_bits.specs.AssignedStates.{coding_of, state_of}
+use Rattle.tm_game_bits.specs.Coding.{IsIn}
 use Rattle.tm_dd.specs.declared.node.NodeId.{NodeId}
 use Rattle.tm_dd.specs.Reduced.{Extends}
 use Rattle.tm_dd.specs.Table.{Table, Knows, means}
@@ -10,8 +10,8 @@ use Rattle.tm_flat.specs.BitStep.{HasRoom}
 use Rattle.tm_flat.specs.Flat.{FlatTerms}
 use Rattle.tm_flat.specs.Inputs.{AreSmall}
 use Rattle.tm_flat.specs.IsFlat.{IsFlat}
-use Rattle.tm_forcing.specs.Diagrams.{IsSetOf}
-use Rattle.tm_forcing.specs.States.{ReadsState}
+use Rattle.tm_game_bits.specs.Diagrams.{IsSetOf}
+use Rattle.tm_game_bits.specs.States.{ReadsState}
 use Rattle.tm_sem.specs.Fairness.{IsFair}
 use Rattle.tm_sem.specs.Play.{goal_holds}
 use Rattle.tm_sem.specs.State.{StateData}

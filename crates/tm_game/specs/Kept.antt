@@ -3,9 +3,9 @@ use Rattle.std.specs.Prelude.{◌≡◌, true, List}
 use Rattle.tm_dd.specs.declared.node.NodeId.{NodeId}
 use Rattle.tm_dd.specs.Table.{Table, means}
 use Rattle.tm_flat.specs.Flat.{FlatTerms}
-use Rattle.tm_forcing.specs.Diagrams.{IsSetOf}
-use Rattle.tm_making.specs.Sets.{AreSets, IsAlwaysOneIn, IsOneIn}
-use Rattle.tm_making.specs.Setting.{Setting}
+use Rattle.tm_game_bits.specs.Diagrams.{IsSetOf}
+use Rattle.tm_game_steps.specs.Sets.{AreSets, IsAlwaysOneIn, IsOneIn}
+use Rattle.tm_game_steps.specs.Setting.{Setting}
 
 -- ids are the sets of goals and fairness conditions, of initial states, and of valid states at which the driver can be
 -- picked

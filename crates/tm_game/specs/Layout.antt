@@ -1,15 +1,15 @@
 -- How a game keeps its data.
 use Rattle.std.specs.Prelude.{◌+◌, ◌≤◌, length}
 use Rattle.tm_flat.specs.Flat.{flat_terms}
-use Rattle.tm_forcing.specs.Diagrams.{game_of}
-use Rattle.tm_forcing.specs.Recent.{AreAnswers}
+use Rattle.tm_game_bits.specs.Diagrams.{game_of}
+use Rattle.tm_game_bits.specs.Recent.{AreAnswers}
 use Rattle.tm_game.specs.declared.game.Game.TheInside.{Inside}
 use Rattle.tm_game.specs.Game.{GameData}
 use Rattle.tm_game.specs.Kept.{AreKept}
 use Rattle.tm_game.specs.Shape.{IsShape}
-use Rattle.tm_making.specs.Made.{IsMadeGame}
-use Rattle.tm_making.specs.Setting.{IsReady, setting_of}
-use Rattle.tm_making.specs.Telling.{HasTerms}
+use Rattle.tm_game_steps.specs.Made.{IsMadeGame}
+use Rattle.tm_game_steps.specs.Setting.{IsReady, setting_of}
+use Rattle.tm_game_steps.specs.Telling.{HasTerms}
 
 -- what contracts see of a game
 abbrev pub game_data : Inside → GameData

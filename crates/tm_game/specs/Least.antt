@@ -1,6 +1,6 @@
 -- The states of a set as a test, and sets that hold at no valid state.
 use Rattle.std.specs.Prelude.{Bool}
-use Rattle.tm_assigned.specs.States.{assignment_of}
+use Rattle.tm_game_bits.specs.AssignedStates.{assignment_of}
 use Rattle.tm_dd.specs.declared.node.NodeId.{NodeId}
 use Rattle.tm_dd.specs.Table.{means}
 use Rattle.tm_game.specs.Game.{GameData}

@@ -1,14 +1,14 @@
 -- The moves of a shape at states, with arguments that levels give.
 use Rattle.std.specs.Prelude.{ℕ, ◌<◌, List, length}
 use Rattle.std.specs.Option.{option_map_or}
-use Rattle.tm_assigned.specs.Inputs.{arguments_at}
-use Rattle.tm_assigned.specs.States.{state_of}
+use Rattle.tm_game_bits.specs.Inputs.{arguments_at}
+use Rattle.tm_game_bits.specs.AssignedStates.{state_of}
 use Rattle.tm_dd.specs.declared.node.NodeId.{NodeId}
 use Rattle.tm_dd.specs.Table.{Table}
 use Rattle.tm_flat.specs.Flat.{FlatTerms}
 use Rattle.tm_flat.specs.Inputs.{arguments_in}
-use Rattle.tm_forcing.specs.Diagrams.{IsSetOf}
-use Rattle.tm_forcing.specs.Functions.{Assignment}
+use Rattle.tm_game_bits.specs.Diagrams.{IsSetOf}
+use Rattle.tm_game_bits.specs.Functions.{Assignment}
 use Rattle.tm_game.specs.declared.moves.MoveShape.{MoveShape}
 use Rattle.tm_game.specs.declared.moves.MoveShape.TheVariants.{Idle, Leave, Call}
 use Rattle.tm_sem.specs.declared.state.Move.{Move}

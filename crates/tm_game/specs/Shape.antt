@@ -1,10 +1,10 @@
 -- How guarded updates, an order of the levels of a state and an encoding fit together.
 use Rattle.std.specs.Prelude.{◌≡◌, ℕ, ◌+◌, ◌≤◌, List, All, drop, length, sum, take}
-use Rattle.tm_assigned.specs.Inputs.{input_levels}
+use Rattle.tm_game_bits.specs.Inputs.{input_levels}
 use Rattle.tm_flat.specs.Flat.{FlatTerms}
 use Rattle.tm_flat.specs.Inputs.{room}
-use Rattle.tm_levels.specs.Order.{IsOrder}
-use Rattle.tm_making.specs.Setting.{Setting}
+use Rattle.tm_game_bits.specs.Order.{IsOrder}
+use Rattle.tm_game_steps.specs.Setting.{Setting}
 
 -- the widths of the numbers of a state
 abbrev pub state_widths_in : Setting → FlatTerms → List ℕ

@@ -3,7 +3,7 @@ ghost use Rattle.std.specs.Prelude.{◌≡◌, Contains, OnErr, OnOk};
 ghost use Rattle.tm_dd.specs.Table.{Knows};
 ghost use Rattle.tm_dd.specs.declared.node.NodeId.{NodeId as Id};
 ghost use Rattle.tm_ddops.specs.Copied.{MeanTheSame};
-ghost use Rattle.tm_forcing.specs.Diagrams.{KnowsGame};
+ghost use Rattle.tm_game_bits.specs.Diagrams.{KnowsGame};
 ghost use Rattle.tm_game.specs.Copied.{IsCopied};
 ghost use Rattle.tm_game.specs.Game.{IsOf};
 ghost use Rattle.tm_game.specs.Inner.Listed.{kept_ids};
@@ -18,7 +18,7 @@ use std::alloc::{AllocError, Global};
 use tm_blast::TermBits;
 use tm_dd::NodeId;
 use tm_ddops::Manager;
-use tm_forcing::{GameDiagrams, Recent};
+use tm_game_bits::{GameDiagrams, Recent};
 
 impl Game {
     /// Copies the functions of the given ids and of those that the game keeps, and forgets all others.

@@ -2,15 +2,15 @@
 ghost use Rattle.std.specs.Prelude.{◌≡◌, ◌+◌, ◌≤◌, length};
 ghost use Rattle.tm_flat.specs.Flat.{flat_terms};
 ghost use Rattle.tm_game.specs.Start.{state_bits_in};
-ghost use Rattle.tm_levels.specs.Order.{IsOrder};
+ghost use Rattle.tm_game_bits.specs.Order.{IsOrder};
 
 use crate::opening::Kept;
 use std::marker::Model;
 use tm_blast::TermBits;
 use tm_ddops::Manager;
 use tm_flat::Flat;
-use tm_forcing::Recent;
-use tm_making::{Encoding, MadeGame};
+use tm_game_bits::Recent;
+use tm_game_steps::{Encoding, MadeGame};
 use tm_term::Terms;
 
 /// The symbolic game of a design, from its guarded updates: sets of states are diagrams over the levels of a state.

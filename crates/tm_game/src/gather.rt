@@ -5,7 +5,7 @@ ghost use Rattle.tm_game.specs.Inner.Listed.{change_ids, game_ids, kept_ids, ste
 use crate::opening::Kept;
 use std::alloc::{AllocError, Global};
 use tm_dd::NodeId;
-use tm_forcing::{GameDiagrams, StepDiagrams};
+use tm_game_bits::{GameDiagrams, StepDiagrams};
 
 /// Some ids, and behind them those of a game and those that it keeps beside.
 pub(crate) fn gathered(

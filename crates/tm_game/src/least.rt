@@ -1,12 +1,12 @@
 //! The least valid state of a set.
 ghost use Rattle.std.specs.Prelude.{◌≡◌, ◌+◌, ◌<◌, ◌≤◌, ◌^◌, All, IfOk, MatchOption, drop, length, sum};
-ghost use Rattle.tm_assigned.specs.States.{numbers_from};
+ghost use Rattle.tm_game_bits.specs.AssignedStates.{numbers_from};
 ghost use Rattle.tm_dd.specs.Reduced.{Extends};
 ghost use Rattle.tm_dd.specs.Table.{Knows, assignment};
 ghost use Rattle.tm_game.specs.Game.{Grows, IsOf, IsSet};
 ghost use Rattle.tm_game.specs.Inner.LeastBits.{AreLeastBits, IsNowhere};
 ghost use Rattle.tm_game.specs.Least.{HoldsNowhere, test_of};
-ghost use Rattle.tm_levels.specs.Order.{IsOrder};
+ghost use Rattle.tm_game_bits.specs.Order.{IsOrder};
 ghost use Rattle.tm_sem.specs.StateBits.{IsLeast, state_numbers};
 ghost use Rattle.tm_syntax.specs.Design.{DesignTree};
 
@@ -16,7 +16,7 @@ use std::alloc::{AllocError, Global};
 use tm_base::Steps;
 use tm_dd::NodeId;
 use tm_ddops::Manager;
-use tm_levels::levels_by_place;
+use tm_game_bits::levels_by_place;
 use tm_sem::state::State;
 
 impl Game {
@@ -61,7 +61,7 @@ fn least_bits(
 {
     let both = dd.and(valid, set, &mut Steps::new(()))?;
     let levels = levels_by_place(alloc, order)?;
-    let bits = tm_levels::least(alloc, dd, both, &levels)?;
+    let bits = tm_game_bits::least(alloc, dd, both, &levels)?;
     Ok(bits)
 }
 

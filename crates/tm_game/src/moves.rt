@@ -2,7 +2,7 @@
 ghost use Rattle.std.specs.Prelude.{◌≡◌, ◌+◌, ◌<◌, ◌⊎◌, true, IfOk, length};
 ghost use Rattle.tm_dd.specs.Reduced.{Extends};
 ghost use Rattle.tm_dd.specs.Table.{Knows, means};
-ghost use Rattle.tm_forcing.specs.Diagrams.{IsSetOf, KnowsGame, game_of};
+ghost use Rattle.tm_game_bits.specs.Diagrams.{IsSetOf, KnowsGame, game_of};
 ghost use Rattle.tm_game.specs.Game.{Grows, IsOf, IsSet, in_set};
 ghost use Rattle.tm_game.specs.Inner.Good.{HasGoodLeaveBelow, IsGoodLeave, IsGoodStep};
 ghost use Rattle.tm_game.specs.Moves.{AreMoves, HasTask};
@@ -13,7 +13,7 @@ use std::alloc::AllocError;
 use tm_base::Steps;
 use tm_dd::{FALSE, NodeId};
 use tm_ddops::Manager;
-use tm_making::MadeGame;
+use tm_game_steps::MadeGame;
 
 /// The shape of a move of the driver: to idle, to leave the magic block at which a process stands, or to call a task.
 #[derive(Clone, Copy, PartialEq, Eq, Debug)]

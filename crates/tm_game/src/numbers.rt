@@ -1,7 +1,7 @@
 //! Numbers as bits, the most significant first, and back.
 ghost use Rattle.std.specs.Prelude.{◌≡◌, ◌<◌, ◌≤◌, ◌^◌, ◌/◌, ◌%◌, ◌==◌, ◌++◌, All, IfOk, OnOk, length, nat_lt, sum};
-ghost use Rattle.tm_assigned.specs.States.{numbers_from};
-ghost use Rattle.tm_bits.specs.Bits as binary;
+ghost use Rattle.tm_game_bits.specs.AssignedStates.{numbers_from};
+ghost use Rattle.tm_base.specs.Bits as binary;
 ghost use Rattle.tm_dd.specs.Table.{assignment};
 ghost use Rattle.tm_game.specs.Inner.Called as called;
 ghost use Rattle.tm_sem.specs.StateBits.{bits_of_numbers};

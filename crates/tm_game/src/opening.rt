@@ -6,25 +6,23 @@ ghost use Rattle.tm_flat.specs.Flat.{flat_terms};
 ghost use Rattle.tm_game.specs.Game.{IsOf};
 ghost use Rattle.tm_game.specs.Inner.Starts.{AreSetsKept, IsStart};
 ghost use Rattle.tm_game.specs.Start.{CanStart, state_bits_in};
-ghost use Rattle.tm_levels.specs.Order.{IsOrder};
-ghost use Rattle.tm_making.specs.Made.{IsMadeGame};
-ghost use Rattle.tm_making.specs.Setting.{IsReady, setting_of};
-ghost use Rattle.tm_making.specs.Telling.{HasTerms};
+ghost use Rattle.tm_game_bits.specs.Order.{IsOrder};
+ghost use Rattle.tm_game_steps.specs.Made.{IsMadeGame};
+ghost use Rattle.tm_game_steps.specs.Setting.{IsReady, setting_of};
+ghost use Rattle.tm_game_steps.specs.Telling.{HasTerms};
 ghost use Rattle.tm_syntax.specs.Design.{DesignTree};
 ghost use Rattle.tm_term.specs.Value.{Extends};
 
 use crate::game::Game;
 use crate::start::{prepare, state_bits};
 use std::alloc::{AllocError, Global};
-use tm_assigned::ROOM;
 use tm_base::Steps;
 use tm_blast::TermBits;
 use tm_dd::NodeId;
 use tm_ddops::Manager;
 use tm_flat::Flat;
-use tm_forcing::Recent;
-use tm_levels::place_order;
-use tm_making::{Encoding, MadeGame};
+use tm_game_bits::{ROOM, Recent, place_order};
+use tm_game_steps::{Encoding, MadeGame};
 use tm_term::Terms;
 
 /// The ids that a game keeps beside those of its steps.

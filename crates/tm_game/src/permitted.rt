@@ -2,14 +2,14 @@
 ghost use Rattle.std.specs.Prelude.{◌≡◌, ◌+◌, ◌<◌, ◌⊎◌, true, IfOk, length};
 ghost use Rattle.tm_dd.specs.Reduced.{Extends};
 ghost use Rattle.tm_dd.specs.Table.{Knows, means};
-ghost use Rattle.tm_forcing.specs.Diagrams.{IsSetOf, KnowsGame, game_of};
+ghost use Rattle.tm_game_bits.specs.Diagrams.{IsSetOf, KnowsGame, game_of};
 ghost use Rattle.tm_game.specs.Inner.Permitted.{HasPermittedLeaveBelow, IsPermitted, IsPermittedLeave};
 
 use std::alloc::AllocError;
 use tm_base::Steps;
 use tm_dd::{FALSE, NodeId};
 use tm_ddops::Manager;
-use tm_making::MadeGame;
+use tm_game_steps::MadeGame;
 
 /// Where a step of the driver is allowed: the driver can be picked, and some choices have an outcome.
 pub(crate) fn permitted_step(

@@ -8,7 +8,7 @@ ghost use Rattle.tm_game.specs.Inner.Restored.{SameChanges, SameGame, SameKept, 
 
 use crate::opening::Kept;
 use tm_dd::NodeId;
-use tm_forcing::{GameDiagrams, StepDiagrams};
+use tm_game_bits::{GameDiagrams, StepDiagrams};
 
 /// Puts ids, from a place on, in the places of those of a game. It answers the place behind them.
 pub(crate) fn put_game(steps: &mut GameDiagrams, ids: &[NodeId], at: usize) -> usize

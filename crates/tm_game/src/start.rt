@@ -3,13 +3,13 @@ ghost use Rattle.std.specs.Prelude.{◌≡◌, ◌+◌, ◌-◌, ◌<◌, ◌≤
 ghost use Rattle.tm_flat.specs.Flat.{flat_terms};
 ghost use Rattle.tm_game.specs.Inner.Starts.{IsStart};
 ghost use Rattle.tm_game.specs.Start.{CanStart, state_bits_in};
-ghost use Rattle.tm_levels.specs.Order.{IsOrder};
+ghost use Rattle.tm_game_bits.specs.Order.{IsOrder};
 ghost use Rattle.tm_syntax.specs.Design.{DesignTree};
 
 use std::alloc::{AllocError, Global};
-use tm_assigned::input_levels;
 use tm_flat::Flat;
-use tm_making::{Encoding, Place, pass_terms, place_terms};
+use tm_game_bits::input_levels;
+use tm_game_steps::{Encoding, Place, pass_terms, place_terms};
 use tm_term::{TermId, Terms};
 
 /// How many inputs are bits of choices or of arguments.

@@ -1,6 +1,6 @@
 //! Terms of a game, and their bits.
 ghost use Rattle.std.specs.Prelude.{◌≡◌, ℕ, IfOk, List, Some};
-ghost use Rattle.tm_assigned.specs.Inputs.{input_levels};
+ghost use Rattle.tm_game_bits.specs.Inputs.{input_levels};
 ghost use Rattle.tm_blast.specs.Bits.{AreBits};
 ghost use Rattle.tm_game.specs.Game.{Grows, IsOf};
 ghost use Rattle.tm_sem.specs.StateBits.{state_widths};

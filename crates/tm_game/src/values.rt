@@ -7,7 +7,7 @@ ghost use Rattle.tm_sem.specs.StateBits.{bits_of_numbers, state_numbers};
 
 use crate::numbers::push_numbers;
 use std::alloc::{AllocError, Global};
-use tm_assigned::ROOM;
+use tm_game_bits::ROOM;
 use tm_sem::state::State;
 
 /// The values of so many levels, where bits by place give those of a state, whose levels follow an order, and bits in

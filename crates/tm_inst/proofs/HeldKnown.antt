@@ -25,7 +25,7 @@ use Rattle.tm_typing.proofs.Listed.{In, no_thing, none_of, all_hold, in_get, som
 use Rattle.tm_typing.proofs.Declaring.{IsDeclared, declared_as}
 use Rattle.tm_typing.proofs.Neighbors.{Neighbor, a_port, an_instance, member_of, neighbor_of, template_is}
 use Rattle.tm_typing.proofs.Promises.{named}
-use Rattle.tm_items.specs.Instances.{HoldsKnown, IsHeld, names_neighbor}
+use Rattle.tm_inst.specs.Instances.{HoldsKnown, IsHeld, names_neighbor}
 
 or_true : (a b : Bool) → b ≡ true → a || b ≡ true
 or_true true b e = refl

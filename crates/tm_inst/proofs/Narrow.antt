@@ -18,7 +18,7 @@ use Rattle.tm_typing.specs.HasType.{IsSized}
 use Rattle.tm_typing.proofs.Listed.{In, in_map, all_hold}
 use Rattle.tm_typing.proofs.Slots.{AreSized, var_sized, process_local_sized, param_sized, task_local_sized}
 use Rattle.tm_typing.proofs.Promises.{types_sized}
-use Rattle.tm_items.specs.Sizes.{HasNarrowLocals, HasNarrowSlots, HasNarrowTypes, IsNarrow}
+use Rattle.tm_inst.specs.Sizes.{HasNarrowLocals, HasNarrowSlots, HasNarrowTypes, IsNarrow}
 
 -- what holds of each item holds of all
 each_holds : {A : Type 0} (P : A → Type 0) (xs : List A) → ((x : A) → In x xs → P x) → All P xs

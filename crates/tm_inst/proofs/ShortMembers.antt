@@ -8,7 +8,7 @@ use Rattle.tm_syntax.specs.declared.tree.Spec.{Spec}
 use Rattle.tm_syntax.specs.Limits.{specification_limit}
 use Rattle.tm_syntax.specs.Tree.View.{named_tree, process_tree, task_tree, template_tree, spec_tree}
 use Rattle.tm_typing.proofs.Listed.{in_map, all_hold, holds_in}
-use Rattle.tm_items.specs.Sizes.{HasShortLists}
+use Rattle.tm_inst.specs.Sizes.{HasShortLists}
 use Rattle.tm_inst.specs.ShortTexts.{IsOfShortText}
 use Rattle.tm_inst.proofs.ShortLists.{HasFew, short_lists}
 

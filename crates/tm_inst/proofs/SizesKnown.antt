@@ -10,16 +10,16 @@ use Rattle.tm_syntax.specs.Scopes.Names.{is_spelled, template_number}
 use Rattle.tm_syntax.specs.Counts.Instances.{count_instances, instance_templates}
 use Rattle.tm_scope.proofs.Positions.{position-below}
 use Rattle.tm_syntax.specs.declared.fault.Quantity.TheVariants as quantity
-use Rattle.tm_counts.specs.Shares.{combination_of}
-use Rattle.tm_counts.specs.Amount.{capped}
-use Rattle.tm_counts.specs.Orders.{targets}
-use Rattle.tm_counts.specs.Templates.{held_numbers}
-use Rattle.tm_counts.specs.TemplateOrders.{AreOrdered}
-use Rattle.tm_counts.specs.Totals.{over}
-use Rattle.tm_counts.proofs.TemplateGraphs.{length-mapped, targets_held}
-use Rattle.tm_counts.proofs.TemplateTotals.{whole_of_main}
-use Rattle.tm_counts.proofs.TotalSteps.{whole, whole_of}
-use Rattle.tm_items.specs.Instances.{AreSizes, held_size}
+use Rattle.tm_limits.specs.Shares.{combination_of}
+use Rattle.tm_limits.specs.Amount.{capped}
+use Rattle.tm_limits.specs.Orders.{targets}
+use Rattle.tm_limits.specs.Templates.{held_numbers}
+use Rattle.tm_limits.specs.TemplateOrders.{AreOrdered}
+use Rattle.tm_limits.specs.Totals.{over}
+use Rattle.tm_limits.proofs.TemplateGraphs.{length-mapped, targets_held}
+use Rattle.tm_limits.proofs.TemplateTotals.{whole_of_main}
+use Rattle.tm_limits.proofs.TotalSteps.{whole, whole_of}
+use Rattle.tm_inst.specs.Instances.{AreSizes, held_size}
 use Rattle.tm_inst.specs.Inner.Sizes.{HasSizes}
 
 -- a count that is told below its greatest number is the count

@@ -12,7 +12,7 @@ use crate::parts::Parts;
 use std::alloc::{AllocError, Global};
 use tm_atoms::{Conditions, list_atoms};
 use tm_base::Place;
-use tm_counts::above;
+use tm_limits::above;
 use tm_locations::joined_designs_lead_by_text;
 use tm_scope::{Cells, Scopes, TaskSet};
 use tm_syntax::fault::{FrontError, Quantity};

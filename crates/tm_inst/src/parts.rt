@@ -7,14 +7,14 @@ ghost use Rattle.tm_syntax.specs.Faults.{IsTyped};
 ghost use Rattle.tm_scope.specs.CallOrder.{CoversTasks, IsCallOrder};
 ghost use Rattle.tm_scope.specs.Cells.{ArePausing};
 ghost use Rattle.tm_scope.specs.Graph.{graph_of};
-ghost use Rattle.tm_counts.specs.TemplateOrders.{AreOrdered};
+ghost use Rattle.tm_limits.specs.TemplateOrders.{AreOrdered};
 ghost use Rattle.tm_inst.specs.Answer.{IsWithinCounts};
 ghost use Rattle.tm_inst.specs.Inner.Parts.{HasParts};
 ghost use Rattle.tm_inst.specs.ShortTexts.{IsOfShortText};
 
 use crate::sizes::template_sizes;
+use crate::{Items, list_instances, list_items, variables};
 use std::alloc::{AllocError, Global};
-use tm_items::{Items, list_instances, list_items, variables};
 use tm_scope::{Scopes, TaskSet, ordered_tasks_are_pausing, pausing_tasks};
 use tm_syntax::design::{Instance, Var};
 use tm_syntax::member::Member;
@@ -29,7 +29,7 @@ pub(crate) struct Parts {
 
 /// What the design of a specification lists that is within its limits. `AllocError` is want of memory.
 ///
-/// `graph` and `order` are what `template_order` of `tm_counts` answers, and `pausing` are the tasks that may pause.
+/// `graph` and `order` are what `template_order` of `tm_limits` answers, and `pausing` are the tasks that may pause.
 pub(crate) fn list_parts(
     alloc: Global,
     scopes: &Scopes,

@@ -1,11 +1,11 @@
 //! How many instances one of each template is.
 ghost use Rattle.std.specs.Prelude.{◌≡◌, ℕ, Contains, IfOk, get_or, map};
 ghost use Rattle.tm_scope.specs.Graph.{graph_of};
-ghost use Rattle.tm_counts.specs.Amount.{capped};
-ghost use Rattle.tm_counts.specs.Orders.{IsOrder};
-ghost use Rattle.tm_counts.specs.Totals.{combined, over};
+ghost use Rattle.tm_limits.specs.Amount.{capped};
+ghost use Rattle.tm_limits.specs.Orders.{IsOrder};
+ghost use Rattle.tm_limits.specs.Totals.{combined, over};
 ghost use Rattle.tm_syntax.specs.declared.fault.Quantity.TheVariants as quantity;
-ghost use Rattle.tm_counts.specs.Shares.{combination_of};
+ghost use Rattle.tm_limits.specs.Shares.{combination_of};
 ghost use Rattle.tm_inst.specs.Inner.Sizes.{HasSizes};
 
 use std::alloc::{AllocError, Global};

@@ -5,7 +5,7 @@ use Rattle.tm_syntax.specs.declared.token.Token.{Token}
 use Rattle.tm_syntax.specs.declared.token.TokenKind.TheVariants as token
 use Rattle.tm_syntax.specs.declared.token.Sign.TheVariants as sign
 use Rattle.tm_syntax.specs.declared.tree.BinaryOperator.{BinaryOperator}
-use Rattle.tm_bits.specs.declared.shift_operator.ShiftOperator.{ShiftOperator}
+use Rattle.tm_base.specs.declared.shift_operator.ShiftOperator.{ShiftOperator}
 use Rattle.tm_syntax.specs.declared.tree.Num.{Num}
 use Rattle.tm_syntax.specs.Tree.{ExprTree, binary, shift, conditional}
 use Rattle.tm_syntax.specs.Grammar.Parts.{IsMark, IsNumber}

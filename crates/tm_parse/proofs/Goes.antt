@@ -5,7 +5,7 @@ use Rattle.tm_syntax.specs.declared.token.TokenKind.TheVariants as token
 use Rattle.tm_syntax.specs.declared.token.Sign.{Sign}
 use Rattle.tm_syntax.specs.declared.token.Sign.TheVariants as sign
 use Rattle.tm_syntax.specs.declared.tree.BinaryOperator.TheVariants as operator
-use Rattle.tm_bits.specs.declared.shift_operator.ShiftOperator.TheVariants as shift_operator
+use Rattle.tm_base.specs.declared.shift_operator.ShiftOperator.TheVariants as shift_operator
 use Rattle.tm_parse.specs.declared.operators.Infix.{Infix}
 use Rattle.tm_parse.specs.declared.operators.Infix.TheVariants as joining
 use Rattle.tm_parse.specs.Operands.{infix_sign, infix_strength, GoesExpr, goes_dot, goes_bracket, goes_infix, goes_question}

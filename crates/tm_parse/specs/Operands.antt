@@ -10,7 +10,7 @@ use Rattle.tm_syntax.specs.declared.token.Sign.TheVariants as sign
 use Rattle.tm_syntax.specs.declared.tree.Ident.{Ident}
 use Rattle.tm_syntax.specs.declared.tree.Num.{Num}
 use Rattle.tm_syntax.specs.declared.tree.BinaryOperator.{BinaryOperator}
-use Rattle.tm_bits.specs.declared.shift_operator.ShiftOperator.{ShiftOperator}
+use Rattle.tm_base.specs.declared.shift_operator.ShiftOperator.{ShiftOperator}
 use Rattle.tm_syntax.specs.Tree.{ExprTree, path, binary, shift, conditional, element}
 use Rattle.tm_syntax.specs.Grammar.Parts.{Has, IsMark, IsNumber}
 use Rattle.tm_syntax.specs.Grammar.Expressions.{binary_sign, shift_sign, unary_sign, strength, height, IsExpr}

@@ -7,7 +7,7 @@ ghost use Rattle.tm_syntax.specs.Grammar.Expressions.{binary_sign, unary_sign, s
 ghost use Rattle.tm_parse.specs.declared.operators.Infix.{Infix};
 ghost use Rattle.tm_parse.specs.Operands.{infix_sign, infix_strength, IsPrefix, primary_at};
 
-use tm_bits::ShiftOperator;
+use tm_base::ShiftOperator;
 use tm_syntax::token::{Sign, Token, TokenKind, Word};
 use tm_syntax::tree::{BinaryOperator, UnaryOperator};
 

@@ -1,7 +1,7 @@
 -- The bits of a state by place, their weights, and the order of states: how certificates tell sets of states.
 use Rattle.std.specs.Prelude.{◌≡◌, ℕ, zero, suc, ◌+◌, ◌==◌, Bool, true, false, ◌||◌, ◌&&◌, List, [], ◌∷◌, ◌++◌, map, length, slice_index, if◌then◌else◌}
 use Rattle.std.specs.List.{filter, flat_map, zip, range_with_len}
-use Rattle.tm_bits.specs.Bits.{bits_of}
+use Rattle.tm_base.specs.Bits.{bits_of}
 use Rattle.tm_syntax.specs.declared.design.Var.{Var}
 use Rattle.tm_syntax.specs.Design.{DesignTree}
 use Rattle.tm_syntax.specs.Design.Sizes.{bits_of_number, type_bits}

@@ -2,8 +2,8 @@
 use Rattle.std.specs.Prelude.{ℕ, Bool, false, Option, None, Some, List, [], ◌∷◌, ◌==◌, ◌&&◌, ◌||◌, not, nat_le, bit_and, bit_or, bit_xor, find, slice_index, slice_get, slice_set, nat_eq, unwrap_or, if◌then◌else◌}
 use Rattle.std.specs.Option.{option_map_or, option_and_then}
 use Rattle.std.specs.Cmp.Lexicographic.{pointwise}
-use Rattle.tm_bits.specs.Arithmetic.{resize, complement, sum, difference, bit, equal, not_equal, less, less_equal}
-use Rattle.tm_bits.specs.Shift as bits
+use Rattle.tm_base.specs.Arithmetic.{resize, complement, sum, difference, bit, equal, not_equal, less, less_equal}
+use Rattle.tm_base.specs.Shift as bits
 use Rattle.tm_syntax.specs.declared.tree.Ident.{Ident}
 use Rattle.tm_syntax.specs.declared.tree.UnaryOperator.{UnaryOperator}
 use Rattle.tm_syntax.specs.declared.tree.UnaryOperator.TheVariants.{Complement, Not}

@@ -1,5 +1,13 @@
+pub mod Bodies
+pub mod Callees
 pub mod Choosing
+pub mod Found
+pub mod Memories
+pub mod Promised
+pub mod Running
+pub mod Standing
 pub mod StateLaws
+pub mod Stepping
 pub mod TableEnds
 pub mod Tests
 pub mod TypedValues

@@ -18,9 +18,9 @@ use Rattle.tm_sem.specs.Step.{IsInitial, IsState, memory_of}
 use Rattle.tm_sem.specs.Value.{read}
 use Rattle.tm_sem.proofs.ValidStates.{zip_of_places}
 use Rattle.tm_typing.proofs.Listed.{one_thing, no_thing}
-use Rattle.tm_settled.specs.Values.{VarFits}
-use Rattle.tm_settled.proofs.DeclaredValues.{vars_sized}
-use Rattle.tm_settled.proofs.SettledValues.{values}
+use Rattle.tm_design.specs.Values.{VarFits}
+use Rattle.tm_design.proofs.DeclaredValues.{vars_sized}
+use Rattle.tm_design.proofs.SettledValues.{values}
 use Rattle.tm_states.specs.States.{AreSized, HoldsValues}
 
 pub sized : (d : DesignTree) → IsFree d.spec kind.Literal → IsDesign d → AreSized d.vars

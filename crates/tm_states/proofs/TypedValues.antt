@@ -2,11 +2,11 @@
 use Rattle.std.proofs.Common.{◌≡◌, ℕ, ◌^◌, ◌<◌, ◌≤◌, ◌==◌, Bool, true, false, Option, None, Some, List, refl, sym, ap, ◌∙◌, subst, arith}
 use Rattle.std.specs.Prelude.{unwrap_or, if◌then◌else◌}
 use Rattle.std.specs.Option.{option_and_then, option_map_or}
-use Rattle.tm_bits.proofs.Bounds.{resize-below, complement-below, sum-below, difference-below, shift_left-below, shift_right-below, bit_and-below, bit_or-below, bit_xor-below, bit-below}
-use Rattle.tm_bits.specs.Arithmetic.{bit, resize}
-use Rattle.tm_bits.specs.Shift as bits
-use Rattle.tm_bits.specs.declared.shift_operator.ShiftOperator.{ShiftOperator}
-use Rattle.tm_bits.specs.declared.shift_operator.ShiftOperator.TheVariants.{Left, Right}
+use Rattle.tm_base.proofs.Bounds.{resize-below, complement-below, sum-below, difference-below, shift_left-below, shift_right-below, bit_and-below, bit_or-below, bit_xor-below, bit-below}
+use Rattle.tm_base.specs.Arithmetic.{bit, resize}
+use Rattle.tm_base.specs.Shift as bits
+use Rattle.tm_base.specs.declared.shift_operator.ShiftOperator.{ShiftOperator}
+use Rattle.tm_base.specs.declared.shift_operator.ShiftOperator.TheVariants.{Left, Right}
 use Rattle.tm_syntax.specs.declared.tree.Ident.{Ident}
 use Rattle.tm_syntax.specs.declared.tree.UnaryOperator.TheVariants.{Complement}
 use Rattle.tm_syntax.specs.declared.tree.BinaryOperator.{BinaryOperator}
@@ -27,12 +27,12 @@ use Rattle.tm_sem.specs.Value.{Memory, binary_value, path_value, read, unary_val
 use Rattle.tm_typing.specs.HasType.{IsOfSort, HasType, adds, subtracts, ands, ors, xors, and_also, or_else, equals, differs, is_less, is_at_most, is_greater, is_at_least}
 use Rattle.tm_typing.specs.HasType.{a_truth, a_number, a_path, a_group, a_negation, a_complement, arithmetic, logic, a_comparison, a_shift, a_conditional, a_cast, an_element_at, an_element}
 use Rattle.tm_typing.proofs.Valuing.{valued}
-use Rattle.tm_operands.proofs.Contexts.{joined_in}
-use Rattle.tm_settled.specs.Settled.{AreSettled, constant_at}
-use Rattle.tm_settled.specs.Values.{HasValues}
-use Rattle.tm_settled.proofs.ConstantValues.{value_below_bits}
-use Rattle.tm_settled.proofs.SettledDesigns.{checked_settled}
-use Rattle.tm_settled.proofs.SettledValues.{values}
+use Rattle.tm_design.proofs.Contexts.{joined_in}
+use Rattle.tm_design.specs.Settled.{AreSettled, constant_at}
+use Rattle.tm_design.specs.Values.{HasValues}
+use Rattle.tm_design.proofs.ConstantValues.{value_below_bits}
+use Rattle.tm_design.proofs.SettledDesigns.{checked_settled}
+use Rattle.tm_design.proofs.SettledValues.{values}
 use Rattle.tm_states.specs.States.{HoldsValues}
 
 truth_below : (b : Bool) → bit b < 2

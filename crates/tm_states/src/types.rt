@@ -4,7 +4,7 @@ ghost use Rattle.tm_syntax.specs.Tree.View.{spec_tree};
 ghost use Rattle.tm_syntax.specs.Design.Sizes.{type_size};
 ghost use Rattle.tm_typing.specs.HasType.{IsSized};
 
-use tm_operands::type_size;
+use tm_design::type_size;
 use tm_scope::{ExprType, Scopes};
 use tm_syntax::design::Ty;
 

@@ -11,7 +11,7 @@ use Rattle.tm_syntax.specs.declared.tree.Param.{Param}
 use Rattle.tm_syntax.specs.declared.tree.Port.{Port}
 use Rattle.tm_syntax.specs.declared.tree.UnaryOperator.{UnaryOperator}
 use Rattle.tm_syntax.specs.declared.tree.BinaryOperator.{BinaryOperator}
-use Rattle.tm_bits.specs.declared.shift_operator.ShiftOperator.{ShiftOperator}
+use Rattle.tm_base.specs.declared.shift_operator.ShiftOperator.{ShiftOperator}
 
 -- an expression
 pub data ExprTree : Type 0 where

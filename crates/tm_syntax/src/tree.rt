@@ -1,7 +1,6 @@
 //! The syntax tree of a specification. Every node that a fault may be reported at keeps its place.
 
-use tm_base::{Name, Place};
-use tm_bits::ShiftOperator;
+use tm_base::{Name, Place, ShiftOperator};
 
 /// A name as it stands in the text.
 #[derive(Drop)]

@@ -6,7 +6,7 @@ use Rattle.tm_term.specs.declared.term.Term.{Term}
 use Rattle.tm_term.specs.declared.term.Term.TheVariants.{Const, Input, Not, And, Or, Xor, Add, Sub, Shl, Shr, Eq, Less, Ite, Resize}
 use Rattle.tm_term.specs.declared.term.TermId.{TermId}
 use Rattle.tm_term.specs.Table.{Table, term_in, width_in, count_of, IsKnown, term_of, width_of, AreAlike, FitsBelow, Fits, term_width, IsEntry, IsSound}
-use Rattle.tm_bits.specs.Arithmetic.{IsWidth}
+use Rattle.tm_base.specs.Arithmetic.{IsWidth}
 
 -- ids are equal where their places are
 pub TermId-ext : (a b : TermId) → a.0 ≡ b.0 → a ≡ b

@@ -2,7 +2,7 @@
 use Rattle.std.proofs.Common.{◌≡◌, ◌≢◌, ⊎_elim, get_or-set_other, get_or-set_same, ℕ, zero, suc, ◌+◌, ◌^◌, ◌<◌, ◌≤◌, List, Some, length, refl, sym, ap, ◌∙◌, arith}
 use Rattle.std.specs.Prelude.{slice_index, slice_set}
 use Rattle.std.proofs.lemmas.Bool.{cases_lt}
-use Rattle.tm_bits.proofs.Bounds.{resize-below, complement-below, sum-below, difference-below, shift_left-below, shift_right-below, bit_and-below, bit_or-below, bit_xor-below, equal-below, less-below, choice-below}
+use Rattle.tm_base.proofs.Bounds.{resize-below, complement-below, sum-below, difference-below, shift_left-below, shift_right-below, bit_and-below, bit_or-below, bit_xor-below, equal-below, less-below, choice-below}
 use Rattle.tm_term.specs.declared.term.Term.{Term}
 use Rattle.tm_term.specs.declared.term.Term.TheVariants.{Const, Input, Not, And, Or, Xor, Add, Sub, Shl, Shr, Eq, Less, Ite, Resize}
 use Rattle.tm_term.specs.declared.term.TermId.{TermId}

@@ -1,7 +1,7 @@
 -- The table of terms: a term of bit-vectors for each id, in the order of the ids.
 -- Terms are shared by ids (hash-consing): a part of a term is the id of an earlier term.
 use Rattle.std.specs.Prelude.{◌≡◌, ℕ, ◌^◌, ◌<◌, List, Option, Some, None, length, slice_get, slice_index}
-use Rattle.tm_bits.specs.Arithmetic.{IsWidth}
+use Rattle.tm_base.specs.Arithmetic.{IsWidth}
 use Rattle.tm_term.specs.declared.term.Term.{Term}
 use Rattle.tm_term.specs.declared.term.Term.TheVariants.{Const, Input, Not, And, Or, Xor, Add, Sub, Shl, Shr, Eq, Less, Ite, Resize}
 use Rattle.tm_term.specs.declared.term.TermId.{TermId}

@@ -1,6 +1,6 @@
 -- The value of a term over the values of the inputs: unsigned numbers of its width, by the arithmetic of such numbers.
 use Rattle.std.specs.Prelude.{◌≡◌, ℕ, zero, suc, ◌^◌, ◌<◌, List, Option, Some, None, length, slice_index, bit_and, bit_or, bit_xor}
-use Rattle.tm_bits.specs.Arithmetic.{resize, complement, sum, difference, shift_left, shift_right, equal, less, choice}
+use Rattle.tm_base.specs.Arithmetic.{resize, complement, sum, difference, shift_left, shift_right, equal, less, choice}
 use Rattle.tm_term.specs.declared.term.Term.{Term}
 use Rattle.tm_term.specs.declared.term.Term.TheVariants.{Const, Input, Not, And, Or, Xor, Add, Sub, Shl, Shr, Eq, Less, Ite, Resize}
 use Rattle.tm_term.specs.declared.term.TermId.{TermId}

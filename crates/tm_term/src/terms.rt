@@ -1,6 +1,6 @@
 //! The table of terms: it makes them and values them.
 ghost use Rattle.std.specs.Prelude.{◌≡◌, ℕ, ◌+◌, ◌^◌, ◌<◌, ◌≤◌, ◌↔◌, length, slice_index, List, Some, Ok, IfOk, OnErr, IsTrue, All};
-ghost use Rattle.tm_bits.specs.Arithmetic.{IsWidth};
+ghost use Rattle.tm_base.specs.Arithmetic.{IsWidth};
 ghost use Rattle.tm_term.specs.Table.{Table, count_of, IsKnown, term_of, width_of, AreAlike, FitsBelow, Fits, term_width, IsSound};
 ghost use Rattle.tm_term.specs.Parts.{parts_of, AreBelow, AreOperands};
 ghost use Rattle.tm_term.specs.Value.{AreInputs, AreValues, term_value, value_of, Extends};
@@ -10,7 +10,7 @@ use indexmap::IndexMap;
 use std::alloc::{AllocError, Global};
 use std::cell::RefCell;
 use std::marker::Model;
-use tm_bits::{
+use tm_base::{
     choice, complement, difference, equal, greatest, is_width, less, resize, shift_left,
     shift_right, sum,
 };

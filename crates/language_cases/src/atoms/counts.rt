@@ -7,7 +7,7 @@ use crate::pausing::pausing;
 use crate::reading::tree_of;
 use std::alloc::{AllocError, Global};
 use tm_atoms::{Conditions, list_atoms};
-use tm_front::read_specification;
+use tm_inst::read_specification;
 use tm_lex::MAX_TEXT_LEN;
 use tm_scope::{Cells, Scopes, TaskSet};
 use tm_syntax::design::Design;

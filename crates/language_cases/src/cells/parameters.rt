@@ -2,10 +2,10 @@
 ghost use Rattle.std.specs.Prelude.{◌≡◌, IfSome, List};
 ghost use Rattle.std.specs.Option.{option_copied};
 ghost use Rattle.tm_syntax.specs.declared.design.Var as variable;
-ghost use Rattle.tm_operands.specs.Parameters.{task_at};
+ghost use Rattle.tm_design.specs.Parameters.{task_at};
 
 use std::alloc::{AllocError, Global};
-use tm_operands::parameter_cells;
+use tm_design::parameter_cells;
 use tm_scope::{BodyName, CellNumber, CellScope, Cells, SiteBody};
 use tm_syntax::design::Instance;
 use tm_syntax::tree::{Spec, TaskDef};

@@ -1,13 +1,13 @@
 //! The faults of templates and of limits.
 ghost use Rattle.tm_syntax.specs.Tree.View.{spec_tree};
 ghost use Rattle.tm_scope.specs.Graph.{graph_of};
-ghost use Rattle.tm_counts.specs.TemplateOrders.{AreOrdered};
+ghost use Rattle.tm_limits.specs.TemplateOrders.{AreOrdered};
 
 use crate::faults::{details, numbered, push_name};
 use crate::reading::tree_of;
 use std::alloc::{AllocError, Global};
-use tm_counts::{TemplateOrder, first_limit, template_order};
 use tm_lex::MAX_TEXT_LEN;
+use tm_limits::{TemplateOrder, first_limit, template_order};
 use tm_scope::{Scopes, call_order};
 use tm_syntax::tree::{Ident, Spec};
 

@@ -6,7 +6,7 @@ ghost use Rattle.tm_syntax.specs.Faults.{IsOfText, IsSound};
 use super::moves::{Turn, turn_of};
 use case_rows::numbers;
 use std::alloc::{AllocError, Global};
-use tm_machine::{first_state, holds, magic, step};
+use tm_plain::{first_state, holds, magic, step};
 use tm_sem::SemError;
 use tm_sem::state::{Outcome, State};
 use tm_syntax::design::Design;

@@ -4,7 +4,7 @@ use super::moves::{Turn, turn_of};
 use super::validity::validity;
 use case_rows::{numbers, split_word};
 use std::alloc::{AllocError, Global};
-use tm_machine::Machine;
+use tm_plain::Machine;
 use tm_sem::SemError;
 use tm_sem::state::{Outcome, State};
 

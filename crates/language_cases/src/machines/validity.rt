@@ -2,7 +2,7 @@
 
 use case_rows::{number, numbers};
 use std::alloc::{AllocError, Global};
-use tm_machine::Machine;
+use tm_plain::Machine;
 use tm_sem::state::State;
 
 /// The locations that words tell.

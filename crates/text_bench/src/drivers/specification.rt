@@ -1,7 +1,7 @@
 //! The specification over which drivers are read.
 
 use std::alloc::{AllocError, Global};
-use tm_front::read_specification;
+use tm_inst::read_specification;
 use tm_syntax::design::Design;
 use tm_syntax::fault::FrontError;
 

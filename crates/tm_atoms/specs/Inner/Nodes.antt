@@ -1,6 +1,6 @@
 -- The operators of nodes.
-use Rattle.tm_bits.specs.declared.shift_operator.ShiftOperator.{ShiftOperator}
-use Rattle.tm_bits.specs.declared.shift_operator.ShiftOperator.TheVariants as shifts
+use Rattle.tm_base.specs.declared.shift_operator.ShiftOperator.{ShiftOperator}
+use Rattle.tm_base.specs.declared.shift_operator.ShiftOperator.TheVariants as shifts
 use Rattle.tm_syntax.specs.declared.tree.UnaryOperator.{UnaryOperator}
 use Rattle.tm_syntax.specs.declared.tree.UnaryOperator.TheVariants as unary
 use Rattle.tm_syntax.specs.declared.tree.BinaryOperator.{BinaryOperator}

@@ -1,6 +1,6 @@
 -- The numbers of resolved expressions: each number stands for a node, whose parts are numbers.
 use Rattle.std.specs.Prelude.{◌≡◌, ℕ, Bool, Option, None, Some, List, slice_get}
-use Rattle.tm_bits.specs.declared.shift_operator.ShiftOperator.{ShiftOperator}
+use Rattle.tm_base.specs.declared.shift_operator.ShiftOperator.{ShiftOperator}
 use Rattle.tm_syntax.specs.declared.tree.UnaryOperator.{UnaryOperator}
 use Rattle.tm_syntax.specs.declared.tree.BinaryOperator.{BinaryOperator}
 use Rattle.tm_syntax.specs.Tree.{ExprTree, number}

@@ -1,7 +1,7 @@
 -- The tokens of the C text. A name of the design is told by its number.
 use Rattle.std.specs.Prelude.{ℕ}
 use Rattle.tm_cir.specs.declared.block.NumOperator.{NumOperator}
-use Rattle.tm_bits.specs.declared.shift_operator.ShiftOperator.{ShiftOperator}
+use Rattle.tm_base.specs.declared.shift_operator.ShiftOperator.{ShiftOperator}
 use Rattle.tm_cir.specs.declared.block.Comparison.{Comparison}
 use Rattle.tm_cir.specs.declared.block.Junction.{Junction}
 

@@ -6,12 +6,12 @@ use Rattle.tm_check.specs.Verdict.{IsDriverVerdict}
 use Rattle.tm_cir.specs.Answer.{Answers}
 use Rattle.tm_cir.specs.Tree.{BlockTree}
 use Rattle.tm_envcheck.specs.Verdict.{IsEnvironmentVerdict}
-use Rattle.tm_judging.specs.Judged.{CanJudgeDriver, CanJudgeEnvironment}
+use Rattle.tm_judge.specs.Judged.{CanJudgeDriver, CanJudgeEnvironment}
 use Rattle.tm_sem.specs.Certificates.{longest_chain}
 use Rattle.tm_sem.specs.Fairness.{conditions}
-use Rattle.tm_sets.specs.Sets.{driver_sets, levels_of}
+use Rattle.tm_verdict.specs.Sets.{driver_sets, levels_of}
 use Rattle.tm_syntax.specs.Design.{DesignTree}
-use Rattle.tm_verdicts.specs.declared.verdict.Verdict.{Verdict}
+use Rattle.tm_verdict.specs.declared.verdict.Verdict.{Verdict}
 use Rattle.tm_report.specs.declared.ending.Ending.{Ending}
 use Rattle.tm_commands.specs.Check.{TellsDriver, TellsEnvironment, driver_end, driver_text, environment_end}
 use Rattle.tm_commands.specs.Check.{environment_text}

@@ -4,13 +4,13 @@ use Rattle.tm_syntax.specs.declared.fault.FrontError.{FrontError}
 use Rattle.tm_syntax.specs.declared.fault.FrontError.TheVariants as front
 use Rattle.tm_syntax.specs.declared.token.Token.{Token}
 use Rattle.tm_syntax.specs.Design.{DesignTree}
-use Rattle.tm_front.specs.Specification.{IsDesignText}
+use Rattle.tm_inst.specs.Specification.{IsDesignText}
 use Rattle.tm_cert.specs.declared.cert.Cert.{Cert}
 use Rattle.tm_cert.specs.declared.refusal.ReadCertError.{ReadCertError}
 use Rattle.tm_cert.specs.declared.refusal.ReadCertError.TheVariants.{Bad, Memory}
 use Rattle.tm_cert.specs.declared.shape.CertShape.{CertShape}
 use Rattle.tm_cert.specs.declared.shape.Kind.TheVariants.{Either}
-use Rattle.tm_shape.specs.Shape.{shape_of}
+use Rattle.tm_judge.specs.Shape.{shape_of}
 use Rattle.tm_report.specs.declared.ending.Bad.TheVariants as bad_file
 use Rattle.tm_report.specs.declared.ending.Ending.{Ending}
 use Rattle.tm_report.specs.declared.ending.Ending.TheVariants as endings

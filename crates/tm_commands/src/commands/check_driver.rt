@@ -9,17 +9,17 @@ ghost use Rattle.tm_report.specs.Putting.{IsSinkFailure};
 ghost use Rattle.tm_commands.specs.Words.{check_driver as check_words};
 ghost use Rattle.tm_commands.specs.World.{files_data};
 ghost use Rattle.tm_report.specs.Output.{sink_data};
-ghost use Rattle.tm_judging.specs.Judged.{CanJudgeDriver};
+ghost use Rattle.tm_judge.specs.Judged.{CanJudgeDriver};
 ghost use Rattle.tm_syntax.specs.Design.View.{design_tree};
 
 use crate::input::driver::{DriverInputs, load_driver};
 use std::alloc::{AllocError, Global};
 use tm_base::{Files, Sink};
 use tm_cert::{DriverCert, Rank};
-use tm_judging::judge_driver;
+use tm_judge::judge_driver;
 use tm_report::{Ending, Failure, Ranks, put_accepted, put_refused};
 use tm_syntax::design::Design;
-use tm_verdicts::Verdict;
+use tm_verdict::Verdict;
 
 /// The numbers of ranked regions of goals.
 fn lengths(alloc: Global, goals: &[Vec<Rank>]) -> Result<Vec<u64>, AllocError>

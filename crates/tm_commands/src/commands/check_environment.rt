@@ -9,7 +9,7 @@ ghost use Rattle.tm_report.specs.Putting.{IsSinkFailure};
 ghost use Rattle.tm_commands.specs.Words.{check_environment as check_words};
 ghost use Rattle.tm_commands.specs.World.{files_data};
 ghost use Rattle.tm_report.specs.Output.{sink_data};
-ghost use Rattle.tm_judging.specs.Judged.{CanJudgeEnvironment};
+ghost use Rattle.tm_judge.specs.Judged.{CanJudgeEnvironment};
 ghost use Rattle.tm_sem.specs.Fairness.{conditions};
 ghost use Rattle.tm_syntax.specs.Design.View.{design_tree};
 
@@ -17,10 +17,10 @@ use crate::input::environment::{EnvironmentInputs, load_environment};
 use std::alloc::Global;
 use tm_base::{Files, Sink};
 use tm_cert::{CertLevel, EnvCert};
-use tm_judging::judge_environment;
+use tm_judge::judge_environment;
 use tm_report::{Ending, Failure, put_levels, put_refused};
 use tm_syntax::design::Design;
-use tm_verdicts::Verdict;
+use tm_verdict::Verdict;
 
 /// What is told of a certificate that is accepted: the numbers of its levels, of fairness conditions, and of sets in
 /// its longest chain.

@@ -19,7 +19,7 @@ ghost use Rattle.tm_report.specs.Putting.{IsSinkFailure};
 use crate::input::load::{Inputs, load};
 use std::alloc::{AllocError, Global};
 use tm_base::{Files, Sink, SinkError};
-use tm_design_game::is_allowed;
+use tm_judge::is_allowed;
 use tm_play::{PlayEnd, PlayError, PlayHalt, StopWhy, play_script};
 use tm_report::{Ending, Failure, failure_of};
 use tm_syntax::design::Design;

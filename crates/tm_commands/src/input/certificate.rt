@@ -3,7 +3,7 @@ ghost use Rattle.std.specs.Prelude.{◌≡◌, ℕ, List, IsTrue, IfOk, IfErr};
 ghost use Rattle.tm_syntax.specs.Design.{DesignTree};
 ghost use Rattle.tm_cert.specs.declared.shape.Kind.{Kind as Wanted};
 ghost use Rattle.tm_cert.specs.CertValue.{IsCertText};
-ghost use Rattle.tm_shape.specs.Shape.{shape_of};
+ghost use Rattle.tm_judge.specs.Shape.{shape_of};
 ghost use Rattle.tm_commands.specs.World.{files_data, OnlyReads};
 ghost use Rattle.tm_commands.specs.Inputs.{TellsCert, NoCert, RefusesCert};
 ghost use Rattle.tm_commands.specs.Inner.Reading.{IsBadCert};

@@ -5,7 +5,7 @@ ghost use Rattle.tm_cert.specs.declared.shape.Kind.TheVariants.{Driver};
 ghost use Rattle.tm_cir.specs.View.{trees_of};
 ghost use Rattle.tm_sem.specs.Fairness.{conditions};
 ghost use Rattle.tm_sem.specs.StateBits.{state_widths};
-ghost use Rattle.tm_sets.specs.Fitting.{FitsDriver};
+ghost use Rattle.tm_verdict.specs.Fitting.{FitsDriver};
 ghost use Rattle.tm_syntax.specs.Design.View.{design_tree};
 ghost use Rattle.tm_syntax.specs.Faults.{IsOfText, IsSound};
 ghost use Rattle.tm_commands.specs.Check.{CheckDriverMayEnd, NoDriver};
@@ -23,7 +23,7 @@ use std::alloc::Global;
 use tm_base::Files;
 use tm_cert::{Cert, DriverCert, Kind};
 use tm_cir::Blocks;
-use tm_shape::cert_shape;
+use tm_judge::cert_shape;
 use tm_syntax::design::Design;
 
 /// What `check` judges of a driver: a design, and blocks and a certificate that fit it.

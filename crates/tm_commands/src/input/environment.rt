@@ -4,7 +4,7 @@ ghost use Rattle.tm_cert.specs.declared.cert.Cert.TheVariants as certs;
 ghost use Rattle.tm_cert.specs.declared.shape.Kind.TheVariants.{Environment};
 ghost use Rattle.tm_sem.specs.Fairness.{conditions};
 ghost use Rattle.tm_sem.specs.StateBits.{state_widths};
-ghost use Rattle.tm_sets.specs.Fitting.{FitsEnvironment};
+ghost use Rattle.tm_verdict.specs.Fitting.{FitsEnvironment};
 ghost use Rattle.tm_syntax.specs.Design.View.{design_tree};
 ghost use Rattle.tm_syntax.specs.Faults.{IsOfText, IsSound};
 ghost use Rattle.tm_commands.specs.Check.{CheckEnvironmentMayEnd, NoEnvironment};
@@ -20,7 +20,7 @@ use crate::stop::Stop;
 use std::alloc::Global;
 use tm_base::Files;
 use tm_cert::{Cert, EnvCert, Kind};
-use tm_shape::cert_shape;
+use tm_judge::cert_shape;
 use tm_syntax::design::Design;
 
 /// What `check` judges of the environment: a design with the number of its fairness conditions, and a certificate that

@@ -12,7 +12,7 @@ use crate::stop::Stop;
 use std::alloc::Global;
 use tm_base::Files;
 use tm_cert::{Cert, CertShape, Kind};
-use tm_shape::cert_shape;
+use tm_judge::cert_shape;
 
 /// What `migrate` writes anew: a certificate, and the numbers of the design for which it was read.
 #[derive(Drop)]

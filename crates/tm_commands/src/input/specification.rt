@@ -11,7 +11,7 @@ use crate::input::file::read_file;
 use crate::stop::Stop;
 use std::alloc::Global;
 use tm_base::{Files, Place};
-use tm_front::read_specification;
+use tm_inst::read_specification;
 use tm_report::{Ending, Failure};
 use tm_syntax::design::Design;
 use tm_syntax::fault::{Detail, FaultKind, Faulty, FrontError, Quantity};

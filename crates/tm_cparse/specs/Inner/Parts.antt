@@ -1,7 +1,7 @@
 -- What of an expression was begun, and what follows it.
 use Rattle.std.specs.Prelude.{◌≡◌, ◌≢◌, ℕ, ◌<◌, Option, Some, None, List, [], ◌∷◌, ◌++◌, map}
 use Rattle.tm_cir.specs.declared.block.NumOperator.{NumOperator}
-use Rattle.tm_bits.specs.declared.shift_operator.ShiftOperator.{ShiftOperator}
+use Rattle.tm_base.specs.declared.shift_operator.ShiftOperator.{ShiftOperator}
 use Rattle.tm_cir.specs.declared.block.Comparison.{Comparison}
 use Rattle.tm_cir.specs.declared.block.Junction.{Junction}
 use Rattle.tm_cir.specs.Tree.{NumTree, TruthTree, num}

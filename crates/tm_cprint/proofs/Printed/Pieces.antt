@@ -12,7 +12,7 @@ use Rattle.tm_syntax.specs.declared.design.Var.{Var}
 use Rattle.tm_syntax.specs.declared.design.Item.{Item}
 use Rattle.tm_syntax.specs.Design.{DesignTree}
 use Rattle.tm_cir.specs.declared.block.NumOperator.TheVariants as numbers
-use Rattle.tm_bits.specs.declared.shift_operator.ShiftOperator.TheVariants.{Left, Right}
+use Rattle.tm_base.specs.declared.shift_operator.ShiftOperator.TheVariants.{Left, Right}
 use Rattle.tm_cir.specs.declared.block.Comparison.TheVariants.{Equal, NotEqual, Less, LessEqual, Greater, GreaterEqual}
 use Rattle.tm_cir.specs.declared.block.Junction.TheVariants as truths
 use Rattle.tm_cir.specs.Text.Token.{Word, Sign, open_parenthesis, close_parenthesis, open_brace, close_brace, colon, semicolon, comma, question, tilde, bang, arithmetic, shifting, comparing, joining, Token, word, label, variable, location, task, constant, sign}

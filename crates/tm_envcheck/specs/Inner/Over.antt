@@ -3,10 +3,10 @@ use Rattle.std.specs.Prelude.{◌≡◌, ℕ, ◌<◌, ◌&&◌, List, Some, len
 use Rattle.tm_dd.specs.declared.node.NodeId.{NodeId}
 use Rattle.tm_dd.specs.Table.{means}
 use Rattle.tm_envcheck.specs.declared.levels.LevelDiagrams.{LevelDiagrams}
-use Rattle.tm_forcing.specs.Functions.{Assignment}
+use Rattle.tm_game_bits.specs.Functions.{Assignment}
 use Rattle.tm_game.specs.Game.{GameData, IsOf, IsSet}
 use Rattle.tm_game.specs.Start.{state_bits_in}
-use Rattle.tm_levels.specs.Order.{IsOrder}
+use Rattle.tm_game_bits.specs.Order.{IsOrder}
 use Rattle.tm_syntax.specs.Design.{DesignTree}
 
 -- a game is that of some design, and its levels follow an order of the bits of a state

@@ -7,7 +7,7 @@ use Rattle.tm_envcheck.specs.declared.conditions.LevelCondition.{LevelCondition}
 use Rattle.tm_envcheck.specs.declared.conditions.LevelCondition.TheVariants.{Shape, ForcedOn, InChains, ForcedWithin, WaitsOrFalls}
 use Rattle.tm_sem.specs.Certificates.{Level}
 use Rattle.tm_syntax.specs.Design.{DesignTree}
-use Rattle.tm_verdicts.specs.Environment.{LevelPart, Passes, chain_parts, chain_places, is_forced_on, is_forced_within, is_in_chain, level_places, shape_parts, waits_or_falls}
+use Rattle.tm_verdict.specs.Environment.{LevelPart, Passes, chain_parts, chain_places, is_forced_on, is_forced_within, is_in_chain, level_places, shape_parts, waits_or_falls}
 
 -- the parts of a condition that speak of a chain
 abbrev pub chain_parts_at : ChainCondition → List Level → ℕ → ℕ → List LevelPart

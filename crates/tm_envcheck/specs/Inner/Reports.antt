@@ -6,9 +6,9 @@ use Rattle.tm_sem.specs.State.{StateData}
 use Rattle.tm_sem.specs.StateBits.{IsLeast}
 use Rattle.tm_sem.specs.Step.{IsInitial}
 use Rattle.tm_syntax.specs.Design.{DesignTree}
-use Rattle.tm_verdicts.specs.declared.verdict.Verdict.{Verdict}
-use Rattle.tm_verdicts.specs.declared.verdict.Verdict.TheVariants.{Accepted, Refused}
-use Rattle.tm_verdicts.specs.Reported.{IsFirstOf}
+use Rattle.tm_verdict.specs.declared.verdict.Verdict.{Verdict}
+use Rattle.tm_verdict.specs.declared.verdict.Verdict.TheVariants.{Accepted, Refused}
+use Rattle.tm_verdict.specs.Reported.{IsFirstOf}
 
 -- refused at the least valid state of a set, and accepted where there is none
 abbrev pub IsFailure : DesignTree → (StateData → Bool) → ℕ → ℕ → Verdict → Type 0

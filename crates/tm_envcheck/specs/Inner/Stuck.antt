@@ -1,6 +1,6 @@
 -- States that do not fall in a chain.
 use Rattle.std.specs.Prelude.{◌≡◌, ◌⊎◌, ℕ, ◌<◌, Bool, true, List}
-use Rattle.tm_failures.specs.Levels.{IsAtPlace, IsForced}
+use Rattle.tm_verdict.specs.Levels.{IsAtPlace, IsForced}
 use Rattle.tm_sem.specs.Certificates.{either, set_before}
 use Rattle.tm_sem.specs.State.{StateData}
 use Rattle.tm_syntax.specs.Design.{DesignTree}

@@ -1,7 +1,7 @@
 -- Steps of the driver that are good with their arguments at a state.
 use Rattle.std.specs.Prelude.{◌≡◌, ℕ, ◌+◌, ◌<◌, List, slice_index, slice_index_or}
-use Rattle.tm_forcing.specs.Forcing.{IsLegalMove}
-use Rattle.tm_forcing.specs.Functions.{Assignment, Function, GameFunctions, StepFunctions}
+use Rattle.tm_game_bits.specs.Forcing.{IsLegalMove}
+use Rattle.tm_game_bits.specs.Functions.{Assignment, Function, GameFunctions, StepFunctions}
 
 -- the step of this number is good
 abbrev pub IsGoodStep : GameFunctions → Function → ℕ → Assignment → Type 0

@@ -1,10 +1,10 @@
 -- The least bits by place at which two functions are true.
 use Rattle.std.specs.Prelude.{◌≡◌, ℕ, Bool, true, false, List, length, map}
 use Rattle.std.specs.List.{range_with_len}
-use Rattle.tm_assigned.specs.States.{bits_by_place}
+use Rattle.tm_game_bits.specs.AssignedStates.{bits_by_place}
 use Rattle.tm_dd.specs.declared.node.NodeId.{NodeId}
 use Rattle.tm_dd.specs.Table.{Table, means}
-use Rattle.tm_forcing.specs.Functions.{Assignment}
+use Rattle.tm_game_bits.specs.Functions.{Assignment}
 use Rattle.tm_sem.specs.StateBits.{comes_before}
 
 -- the bits by place that values of levels give

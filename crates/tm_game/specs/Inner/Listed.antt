@@ -2,8 +2,8 @@
 use Rattle.std.specs.Prelude.{ℕ, List, ◌∷◌, ◌++◌, map}
 use Rattle.std.specs.List.{flat_map}
 use Rattle.tm_dd.specs.declared.node.NodeId.{NodeId}
-use Rattle.tm_forcing.specs.declared.game.GameDiagrams.{GameDiagrams}
-use Rattle.tm_forcing.specs.declared.step.StepDiagrams.{StepDiagrams}
+use Rattle.tm_game_bits.specs.declared.game.GameDiagrams.{GameDiagrams}
+use Rattle.tm_game_bits.specs.declared.step.StepDiagrams.{StepDiagrams}
 use Rattle.tm_game.specs.declared.opening.Kept.{Kept}
 
 -- what levels become

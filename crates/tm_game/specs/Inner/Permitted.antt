@@ -1,7 +1,7 @@
 -- Steps of the driver that are allowed with their arguments.
 use Rattle.std.specs.Prelude.{◌≡◌, ℕ, ◌+◌, ◌<◌, List, slice_index, slice_index_or}
-use Rattle.tm_forcing.specs.Forcing.{IsAllowed}
-use Rattle.tm_forcing.specs.Functions.{Assignment, GameFunctions, StepFunctions}
+use Rattle.tm_game_bits.specs.Forcing.{IsAllowed}
+use Rattle.tm_game_bits.specs.Functions.{Assignment, GameFunctions, StepFunctions}
 
 -- the step of this number is allowed
 abbrev pub IsPermitted : GameFunctions → ℕ → Assignment → Type 0

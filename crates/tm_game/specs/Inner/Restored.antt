@@ -4,9 +4,9 @@ use Rattle.tm_dd.specs.declared.node.NodeId.{NodeId}
 use Rattle.tm_dd.specs.Table.{Table, means}
 use Rattle.tm_ddops.specs.Copied.{MeanTheSame}
 use Rattle.tm_ddops.specs.Manager.{IsFunction}
-use Rattle.tm_forcing.specs.declared.game.GameDiagrams.{GameDiagrams}
-use Rattle.tm_forcing.specs.declared.step.StepDiagrams.{StepDiagrams}
-use Rattle.tm_forcing.specs.Diagrams.{KnowsChanges, KnowsGame, KnowsStep, changes_of, game_of, step_of}
+use Rattle.tm_game_bits.specs.declared.game.GameDiagrams.{GameDiagrams}
+use Rattle.tm_game_bits.specs.declared.step.StepDiagrams.{StepDiagrams}
+use Rattle.tm_game_bits.specs.Diagrams.{KnowsChanges, KnowsGame, KnowsStep, changes_of, game_of, step_of}
 use Rattle.tm_game.specs.declared.opening.Kept.{Kept}
 
 -- ids stand in a list, from a place on

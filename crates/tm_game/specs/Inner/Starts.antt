@@ -6,11 +6,11 @@ use Rattle.tm_game.specs.declared.opening.Kept.{Kept}
 use Rattle.tm_game.specs.declared.start.Start.{Start}
 use Rattle.tm_game.specs.Kept.{AreKept}
 use Rattle.tm_game.specs.Shape.{IsShape}
-use Rattle.tm_making.specs.declared.making.MadeGame.{MadeGame}
-use Rattle.tm_making.specs.Passing.{ArePassing}
-use Rattle.tm_making.specs.Places.{ArePlaces}
-use Rattle.tm_making.specs.Setting.{IsReady, Setting, setting_of}
-use Rattle.tm_making.specs.Telling.{HasTerms}
+use Rattle.tm_game_steps.specs.declared.making.MadeGame.{MadeGame}
+use Rattle.tm_game_steps.specs.Passing.{ArePassing}
+use Rattle.tm_game_steps.specs.Places.{ArePlaces}
+use Rattle.tm_game_steps.specs.Setting.{IsReady, Setting, setting_of}
+use Rattle.tm_game_steps.specs.Telling.{HasTerms}
 use Rattle.tm_term.specs.Table.{Table as Terms}
 use Rattle.tm_term.specs.Value.{Extends}
 

@@ -1,6 +1,6 @@
 -- Values of levels at a state and at arguments, as contracts within the crate see them.
 use Rattle.std.specs.Prelude.{◌≡◌, ℕ, ◌+◌, ◌<◌, Bool, List, length}
-use Rattle.tm_assigned.specs.States.{state_of}
+use Rattle.tm_game_bits.specs.AssignedStates.{state_of}
 use Rattle.tm_dd.specs.Table.{assignment}
 use Rattle.tm_game.specs.Game.{GameData, IsOf}
 use Rattle.tm_sem.specs.State.{StateData}

@@ -1,9 +1,9 @@
 -- How many nodes each node of a graph is with all below it.
 use Rattle.std.specs.Prelude.{◌≡◌, ℕ, ◌<◌, Some, List, get_or, length, map, slice_get}
 use Rattle.tm_syntax.specs.declared.fault.Quantity.TheVariants as quantity
-use Rattle.tm_counts.specs.Amount.{capped}
-use Rattle.tm_counts.specs.Shares.{combination_of}
-use Rattle.tm_counts.specs.Totals.{nodes_below, over}
+use Rattle.tm_limits.specs.Amount.{capped}
+use Rattle.tm_limits.specs.Shares.{combination_of}
+use Rattle.tm_limits.specs.Totals.{nodes_below, over}
 
 -- each node of an order has its size in a table: by any count that is 1 for each node of the graph
 pub record HasSizes (graph : List (List ℕ)) (order sizes : List ℕ) : Type 0 where

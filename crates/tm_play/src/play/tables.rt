@@ -14,7 +14,7 @@ use crate::play::turns::play;
 use std::alloc::Global;
 use tm_base::Sink;
 use tm_cir::Blocks;
-use tm_machine::{Machine, Tables};
+use tm_plain::{Machine, Tables};
 use tm_syntax::design::Design;
 
 /// Plays choices against blocks by the tables of a design.

@@ -14,7 +14,7 @@ use crate::ending::StopWhy;
 use crate::input::script::{Actor, Turn};
 use std::alloc::{AllocError, Global};
 use tm_cir::{Blocks, answer};
-use tm_machine::Machine;
+use tm_plain::Machine;
 use tm_sem::state::{Move, Outcome, State};
 
 /// Where a play is: its last state, and the goal that is pending there.

@@ -18,7 +18,7 @@ use crate::report::put::put_line;
 use std::alloc::{AllocError, Global};
 use tm_base::Sink;
 use tm_cir::Blocks;
-use tm_machine::Machine;
+use tm_plain::Machine;
 use tm_sem::SemError;
 use tm_sem::state::Move;
 

@@ -8,7 +8,7 @@ use Rattle.tm_syntax.specs.declared.tree.Ident.{Ident}
 use Rattle.tm_syntax.specs.declared.tree.UnaryOperator.{UnaryOperator}
 use Rattle.tm_syntax.specs.declared.tree.BinaryOperator.{BinaryOperator}
 use Rattle.tm_syntax.specs.declared.tree.BinaryOperator.TheVariants as operator
-use Rattle.tm_bits.specs.declared.shift_operator.ShiftOperator.{ShiftOperator}
+use Rattle.tm_base.specs.declared.shift_operator.ShiftOperator.{ShiftOperator}
 use Rattle.tm_syntax.specs.declared.design.Item.{Item}
 use Rattle.tm_syntax.specs.declared.design.Ty.{Ty}
 use Rattle.tm_syntax.specs.declared.design.Ty.TheVariants as types

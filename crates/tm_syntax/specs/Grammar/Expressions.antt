@@ -13,8 +13,8 @@ use Rattle.tm_syntax.specs.declared.tree.UnaryOperator.{UnaryOperator}
 use Rattle.tm_syntax.specs.declared.tree.UnaryOperator.TheVariants as unary_operator
 use Rattle.tm_syntax.specs.declared.tree.BinaryOperator.{BinaryOperator}
 use Rattle.tm_syntax.specs.declared.tree.BinaryOperator.TheVariants as operator
-use Rattle.tm_bits.specs.declared.shift_operator.ShiftOperator.{ShiftOperator}
-use Rattle.tm_bits.specs.declared.shift_operator.ShiftOperator.TheVariants as shift_operator
+use Rattle.tm_base.specs.declared.shift_operator.ShiftOperator.{ShiftOperator}
+use Rattle.tm_base.specs.declared.shift_operator.ShiftOperator.TheVariants as shift_operator
 use Rattle.tm_syntax.specs.Tree.{ExprTree, truth, number, path, group, unary, binary, shift, conditional, cast, element}
 use Rattle.tm_syntax.specs.Grammar.Parts.{Has, IsMark, IsNumber, IsPath}
 

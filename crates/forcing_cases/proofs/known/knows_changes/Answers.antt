@@ -2,7 +2,7 @@ use Rattle.std.specs.Prelude.{ℕ, List, All, map}
 use Rattle.std.proofs.lemmas.List.Elements.{All-contains, All-map}
 use Rattle.tm_dd.specs.declared.node.NodeId.{NodeId}
 use Rattle.tm_dd.specs.Table.{Table, Knows}
-use Rattle.tm_forcing.specs.Diagrams.{KnowsChanges}
+use Rattle.tm_game_bits.specs.Diagrams.{KnowsChanges}
 use Rattle.forcing_cases.proofs.known.knows_changes.Goals as goal
 
 known_changes : (s : Table) (changes : List (ℕ × NodeId)) → All (λ p. Knows s p.1) changes → KnowsChanges s changes

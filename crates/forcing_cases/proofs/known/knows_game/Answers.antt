@@ -1,7 +1,7 @@
 use Rattle.std.proofs.Common.{ℕ, List, All, subst}
 use Rattle.tm_dd.specs.declared.node.NodeId.{NodeId}
-use Rattle.tm_forcing.specs.declared.step.StepDiagrams.{StepDiagrams}
-use Rattle.tm_forcing.specs.Diagrams.{KnowsChanges, KnowsStep}
+use Rattle.tm_game_bits.specs.declared.step.StepDiagrams.{StepDiagrams}
+use Rattle.tm_game_bits.specs.Diagrams.{KnowsChanges, KnowsStep}
 use Rattle.forcing_cases.proofs.known.knows_game.Goals as goal
 
 pub returns : goal.returns

@@ -1,6 +1,6 @@
 use Rattle.std.proofs.Common.{rules, ℕ, List, subst}
 use Rattle.tm_dd.specs.declared.node.NodeId.{NodeId}
-use Rattle.tm_forcing.specs.Diagrams.{KnowsChanges}
+use Rattle.tm_game_bits.specs.Diagrams.{KnowsChanges}
 use Rattle.forcing_cases.proofs.known.knows_step.Goals as goal
 
 pub returns-then-knows_both : goal.returns-then-knows_both

@@ -1,7 +1,7 @@
 use Rattle.std.proofs.Common.{sym, subst}
 use Rattle.std.specs.Prelude.{sum}
 use Rattle.std.proofs.lemmas.Result.{IfOk-weaker}
-use Rattle.tm_levels.specs.Order.{IsOrder}
+use Rattle.tm_game_bits.specs.Order.{IsOrder}
 use Rattle.tm_sem.specs.StateBits.{state_widths}
 use Rattle.tm_syntax.specs.Design.View.{design_tree}
 use Rattle.game_bench.proofs.games.weighted_game.Goals as goal

@@ -3,8 +3,8 @@ use Rattle.std.proofs.Math.Logic.{∥∥₁_elim}
 use Rattle.tm_game.specs.Game.{in_set}
 use Rattle.tm_sem.specs.Forcing.{IsCalm, Stays}
 use Rattle.tm_sem.specs.Play.{goal_holds}
-use Rattle.tm_exact.proofs.Growing.{states_set}
-use Rattle.tm_exact.proofs.Truncated.{of_grown, set_prop}
+use Rattle.tm_solve_exact.proofs.Growing.{states_set}
+use Rattle.tm_solve_exact.proofs.Truncated.{of_grown, set_prop}
 use Rattle.game_bench.proofs.GoalSets.{told_sets}
 use Rattle.game_bench.proofs.goals.goal_set.Goals as goal
 

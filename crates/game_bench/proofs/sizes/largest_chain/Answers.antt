@@ -1,6 +1,6 @@
 use Rattle.std.proofs.Common.{sym, subst, arith}
 use Rattle.game_bench.proofs.Known.{each_at}
-use Rattle.tm_exact.specs.Exact.{IsStateSet, exact_ids}
+use Rattle.tm_solve_exact.specs.Exact.{IsStateSet, exact_ids}
 use Rattle.tm_solve.specs.Iterates.{Each, KnowsChain}
 use Rattle.game_bench.proofs.sizes.largest_chain.Goals as goal
 

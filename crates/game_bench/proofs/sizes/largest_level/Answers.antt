@@ -1,6 +1,6 @@
 use Rattle.std.proofs.Common.{arith}
 use Rattle.game_bench.proofs.Known.{each_at}
-use Rattle.tm_exact.specs.Exact.{exact_ids}
+use Rattle.tm_solve_exact.specs.Exact.{exact_ids}
 use Rattle.tm_solve.specs.Iterates.{KnowsLevel}
 use Rattle.game_bench.proofs.sizes.largest_level.Goals as goal
 

@@ -1,4 +1,4 @@
-use Rattle.tm_exact.specs.Exact.{IsStateSet}
+use Rattle.tm_solve_exact.specs.Exact.{IsStateSet}
 use Rattle.tm_solve.specs.declared.iterates.RankSet.{RankSet}
 use Rattle.game_bench.proofs.Known.{each_get}
 use Rattle.game_bench.proofs.sizes.largest_rank.Goals as goal

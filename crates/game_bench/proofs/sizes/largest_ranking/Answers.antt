@@ -1,6 +1,6 @@
 use Rattle.std.proofs.Common.{sym, subst, arith}
 use Rattle.game_bench.proofs.Known.{each_at}
-use Rattle.tm_exact.specs.Exact.{exact_ids}
+use Rattle.tm_solve_exact.specs.Exact.{exact_ids}
 use Rattle.tm_solve.specs.Iterates.{KnowsRanks}
 use Rattle.tm_solve.specs.declared.iterates.Ranking.{Ranking}
 use Rattle.game_bench.proofs.sizes.largest_ranking.Goals as goal

@@ -1,4 +1,4 @@
-use Rattle.tm_exact.specs.Exact.{IsStateSet}
+use Rattle.tm_solve_exact.specs.Exact.{IsStateSet}
 use Rattle.game_bench.proofs.Known.{each_get}
 use Rattle.game_bench.proofs.sizes.largest_set.Goals as goal
 

@@ -1,5 +1,5 @@
 use Rattle.std.proofs.Common.{sym, subst}
-use Rattle.tm_exact.specs.Exact.{exact_ids}
+use Rattle.tm_solve_exact.specs.Exact.{exact_ids}
 use Rattle.tm_solve.specs.Iterates.{Each, KnowsChain}
 use Rattle.game_bench.proofs.sizes.level_size.Goals as goal
 

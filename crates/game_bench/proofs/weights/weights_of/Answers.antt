@@ -2,9 +2,9 @@ use Rattle.std.proofs.Common.{◌≡◌, ◌-◌, ◌≤◌, ℕ, List, IfOk, Ve
 use Rattle.std.specs.Prelude.{All, sum}
 use Rattle.std.specs.declared.alloc.Global.{Global}
 use Rattle.std.proofs.lemmas.List.Elements.{All-take, All-weaker}
-use Rattle.tm_bits.specs.Arithmetic.{IsWidth}
+use Rattle.tm_base.specs.Arithmetic.{IsWidth}
 use Rattle.tm_flat.proofs.Widths.{few_state_bits}
-use Rattle.tm_levels.specs.Order.{IsOrder}
+use Rattle.tm_game_bits.specs.Order.{IsOrder}
 use Rattle.tm_sem.specs.StateBits.{state_widths}
 use Rattle.tm_syntax.specs.Design.View.{design_tree}
 use Rattle.game_bench.proofs.StateWidths.{count_inputs, first_widths}

@@ -1,6 +1,6 @@
 use Rattle.std.proofs.Common.{◌+◌, List, sym, subst, arith}
-use Rattle.tm_answers.specs.declared.replies.Replies.{Replies}
-use Rattle.tm_answers.proofs.Growth.{sized_kept}
+use Rattle.tm_check.specs.declared.replies.Replies.{Replies}
+use Rattle.tm_check.proofs.Growth.{sized_kept}
 use Rattle.tm_check.proofs.Rows.{AreFirstAnswers, answers_all, answers_more, answers_none}
 use Rattle.tm_check.proofs.check.all_replies.Goals as goal
 use Rattle.tm_cir.specs.View.{trees_of}

@@ -1,5 +1,5 @@
 use Rattle.std.proofs.Common.{◌≡◌, List, sym, ◌∙◌, subst, arith}
-use Rattle.tm_answers.proofs.Growth.{sized_kept}
+use Rattle.tm_check.proofs.Growth.{sized_kept}
 use Rattle.tm_check.specs.Leaving.{AreAnswers}
 use Rattle.tm_check.specs.Tried.{AreTried}
 use Rattle.tm_check.specs.Verdict.{IsDriverVerdict}
@@ -11,11 +11,11 @@ use Rattle.tm_cir.specs.View.{trees_of}
 use Rattle.tm_cir.proofs.Deciding.{certified_blocks}
 use Rattle.tm_game.proofs.Growing.{grows_then, of_kept}
 use Rattle.tm_sem.specs.Strategy.{Good}
-use Rattle.tm_sets.specs.Sets.{driver_sets}
+use Rattle.tm_verdict.specs.Sets.{driver_sets}
 use Rattle.tm_syntax.specs.Design.View.{design_tree}
-use Rattle.tm_verdicts.specs.declared.verdict.Verdict.TheVariants.{Accepted}
-use Rattle.tm_verdicts.specs.Driver.{DriverPart, driver_meaning}
-use Rattle.tm_verdicts.proofs.Trying.{tried_stop, tried_then}
+use Rattle.tm_verdict.specs.declared.verdict.Verdict.TheVariants.{Accepted}
+use Rattle.tm_verdict.specs.Driver.{DriverPart, driver_meaning}
+use Rattle.tm_verdict.proofs.Trying.{tried_stop, tried_then}
 
 pub on_sets-requires : goal.on_sets-requires
 on_sets-requires c =

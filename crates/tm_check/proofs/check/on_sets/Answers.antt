@@ -5,8 +5,8 @@ use Rattle.tm_check.proofs.Keeping.{has_told_kept, told_kept}
 use Rattle.tm_check.proofs.check.on_sets.Goals as goal
 use Rattle.tm_cir.specs.Answer.{Answers}
 use Rattle.tm_game.proofs.Growing.{grows_then}
-use Rattle.tm_verdicts.specs.Driver.{begins_within, driver_meaning, goal_parts, goals_of, is_calm, is_ranked}
-use Rattle.tm_verdicts.proofs.Trying.{tried_stop, tried_then}
+use Rattle.tm_verdict.specs.Driver.{begins_within, driver_meaning, goal_parts, goals_of, is_calm, is_ranked}
+use Rattle.tm_verdict.proofs.Trying.{tried_stop, tried_then}
 
 pub returns-in_default-clause-tried : goal.returns-in_default-clause-tried
 returns-in_default-clause-tried c = λ d bs cs is.

@@ -6,8 +6,8 @@ use Rattle.tm_check.proofs.Keeping.{answers_kept, has_told_kept, leaving_kept, t
 use Rattle.tm_check.proofs.check.on_steps.Goals as goal
 use Rattle.tm_cir.specs.Answer.{Answers}
 use Rattle.tm_game.proofs.Growing.{grows_then}
-use Rattle.tm_verdicts.specs.Driver.{driver_meaning, falls_when_fair, goals_of, is_answered, never_rises}
-use Rattle.tm_verdicts.proofs.Trying.{tried_stop, tried_then}
+use Rattle.tm_verdict.specs.Driver.{driver_meaning, falls_when_fair, goals_of, is_answered, never_rises}
+use Rattle.tm_verdict.proofs.Trying.{tried_stop, tried_then}
 
 pub returns-in_default-clause-tried : goal.returns-in_default-clause-tried
 returns-in_default-clause-tried c = λ d bs cs is are passed.

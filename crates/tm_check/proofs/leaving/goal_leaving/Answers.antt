@@ -1,7 +1,7 @@
 use Rattle.std.proofs.Common.{◌≡◌, ℕ, ◌+◌, List, [], ◌∷◌, ◌++◌, true, Some, sym, ap, ◌∙◌, subst, arith}
 use Rattle.std.proofs.lemmas.Option.{slice_get-get_or}
-use Rattle.tm_answers.specs.declared.replies.Replies.{Replies}
-use Rattle.tm_answers.proofs.Keeping.{replies_kept}
+use Rattle.tm_check.specs.declared.replies.Replies.{Replies}
+use Rattle.tm_check.proofs.KeepingReplies.{replies_kept}
 use Rattle.tm_check.proofs.Keeping.{answers_kept, told_kept}
 use Rattle.tm_check.proofs.LeavingRanks.{AreFirstLeaving, leaving_all, leaving_more, leaving_none, none_within}
 use Rattle.tm_check.proofs.LeavingRanks.{plays_of, within_at}
@@ -11,7 +11,7 @@ use Rattle.tm_check.specs.Loaded.{row_at}
 use Rattle.tm_check.proofs.leaving.goal_leaving.Goals as goal
 use Rattle.tm_cir.specs.Answer.{Answers}
 use Rattle.tm_dd.specs.declared.node.NodeId.{NodeId}
-use Rattle.tm_failures.specs.Found.{MayLeave, within_rank}
+use Rattle.tm_verdict.specs.Found.{MayLeave, within_rank}
 use Rattle.tm_game.specs.Game.{IsStates}
 use Rattle.tm_game.proofs.Growing.{grows_then, of_kept, set_kept}
 

@@ -1,5 +1,5 @@
-use Rattle.tm_answers.proofs.Growth.{or_before}
-use Rattle.tm_answers.proofs.Keeping.{replies_kept}
+use Rattle.tm_check.proofs.Growth.{or_before}
+use Rattle.tm_check.proofs.KeepingReplies.{replies_kept}
 use Rattle.tm_check.proofs.LeavingRanks.{may_leave_is}
 use Rattle.tm_check.proofs.leaving.may_leave.Goals as goal
 use Rattle.tm_game.proofs.Growing.{grows_then, known_kept, of_kept, set_kept}

@@ -16,10 +16,10 @@ use Rattle.tm_check.proofs.loaded.load.Goals as goal
 use Rattle.tm_dd.specs.declared.node.NodeId.{NodeId}
 use Rattle.tm_game.specs.Game.{IsStates}
 use Rattle.tm_game.proofs.Growing.{grows_then, states_kept}
-use Rattle.tm_loading.specs.Loaded.{AreLoaded}
+use Rattle.tm_verdict.specs.Loaded.{AreLoaded}
 use Rattle.tm_sem.specs.Fairness.{conditions}
-use Rattle.tm_sets.specs.Fitting.{AreNodes, FitsRank}
-use Rattle.tm_sets.specs.Sets.{driver_sets, ranked_set, set_of}
+use Rattle.tm_verdict.specs.Fitting.{AreNodes, FitsRank}
+use Rattle.tm_verdict.specs.Sets.{driver_sets, ranked_set, set_of}
 
 pub load_nodes-requires-clause-nodes : goal.load_nodes-requires-clause-nodes
 load_nodes-requires-clause-nodes c =

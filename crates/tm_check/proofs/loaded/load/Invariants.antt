@@ -1,7 +1,7 @@
 use Rattle.tm_check.specs.Loaded.{CanLoad}
 use Rattle.tm_check.proofs.Rows.{AreFirstRows}
 use Rattle.tm_game.specs.Game.{Grows}
-use Rattle.tm_sets.specs.Sets.{driver_sets}
+use Rattle.tm_verdict.specs.Sets.{driver_sets}
 use Rattle.tm_syntax.specs.Design.{DesignTree}
 use Rattle.tm_check.proofs.loaded.load.Given as goal
 

@@ -2,7 +2,7 @@ use Rattle.std.proofs.Common.{◌≡◌, ℕ, ◌+◌, true, List, get_or, map, 
 use Rattle.std.specs.Option.{option_map}
 use Rattle.std.proofs.lemmas.List.{length-map}
 use Rattle.std.proofs.lemmas.Option.{slice_get-get_or, slice_get-map}
-use Rattle.tm_answers.proofs.Growth.{or_before}
+use Rattle.tm_check.proofs.Growth.{or_before}
 use Rattle.tm_cert.specs.declared.cert.Rank.{Rank}
 use Rattle.tm_check.specs.declared.loaded.RankedDiagrams.{RankedDiagrams}
 use Rattle.tm_check.proofs.Keeping.{ids_known, loaded_kept}
@@ -11,7 +11,7 @@ use Rattle.tm_check.proofs.loaded.load_ranks.Goals as goal
 use Rattle.tm_dd.specs.declared.node.TheConstants.{FALSE}
 use Rattle.tm_game.specs.Game.{IsStates}
 use Rattle.tm_game.proofs.Growing.{grows_none, grows_then, known_kept, of_kept}
-use Rattle.tm_sets.specs.Sets.{ranked_set, set_of}
+use Rattle.tm_verdict.specs.Sets.{ranked_set, set_of}
 
 pub loop-rank-init : goal.loop-rank-init
 loop-rank-init c = record {

@@ -3,7 +3,7 @@ use Rattle.tm_cert.specs.declared.cert.Entry.{Entry}
 use Rattle.tm_check.specs.Loaded.{IsLoadedIn}
 use Rattle.tm_check.proofs.Ranking.{AreFirstRanks}
 use Rattle.tm_game.specs.Game.{Grows}
-use Rattle.tm_sets.specs.Sets.{ranked_set}
+use Rattle.tm_verdict.specs.Sets.{ranked_set}
 use Rattle.tm_syntax.specs.Design.{DesignTree}
 use Rattle.tm_check.proofs.loaded.load_ranks.Given as goal
 

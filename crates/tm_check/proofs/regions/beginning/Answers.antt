@@ -2,7 +2,7 @@ use Rattle.std.proofs.Common.{refl}
 use Rattle.tm_check.proofs.Found.{beginning_found, found_set, found_tried}
 use Rattle.tm_check.proofs.Keeping.{told_kept}
 use Rattle.tm_check.proofs.regions.beginning.Goals as goal
-use Rattle.tm_verdicts.specs.Driver.{begins_within}
+use Rattle.tm_verdict.specs.Driver.{begins_within}
 use Rattle.tm_game.proofs.Growing.{grows_then}
 
 pub without-requires-clause-set : goal.without-requires-clause-set

@@ -5,7 +5,7 @@ use Rattle.tm_check.proofs.regions.goal_ranking.Goals as goal
 use Rattle.tm_dd.specs.declared.node.NodeId.{NodeId}
 use Rattle.tm_dd.specs.Table.{Knows, means}
 use Rattle.tm_ddops.specs.Manager.{IsFunction}
-use Rattle.tm_verdicts.specs.Driver.{is_ranked}
+use Rattle.tm_verdict.specs.Driver.{is_ranked}
 use Rattle.tm_game.proofs.Growing.{grows_none, grows_then}
 
 pub without-requires-clause-set : goal.without-requires-clause-set

@@ -4,8 +4,8 @@ use Rattle.tm_check.proofs.Keeping.{has_told_kept, told_kept}
 use Rattle.tm_check.proofs.regions.goal_regions.Goals as goal
 use Rattle.tm_cir.specs.Answer.{Answers}
 use Rattle.tm_check.proofs.Looping.{ranks_are, ranks_of}
-use Rattle.tm_verdicts.specs.Driver.{driver_meaning, region_parts}
-use Rattle.tm_verdicts.proofs.Trying.{tried_all, tried_more, tried_none, tried_stops}
+use Rattle.tm_verdict.specs.Driver.{driver_meaning, region_parts}
+use Rattle.tm_verdict.proofs.Trying.{tried_all, tried_more, tried_none, tried_stops}
 use Rattle.tm_game.proofs.Growing.{grows_none, grows_then}
 
 pub loop-index-init : goal.loop-index-init

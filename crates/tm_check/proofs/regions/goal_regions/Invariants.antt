@@ -6,8 +6,8 @@ use Rattle.tm_game.specs.Game.{Grows}
 use Rattle.tm_sem.specs.Certificates.{DriverSets}
 use Rattle.tm_syntax.specs.Design.{DesignTree}
 use Rattle.tm_check.proofs.Looping.{ranks_of}
-use Rattle.tm_verdicts.specs.Driver.{driver_meaning, region_parts}
-use Rattle.tm_verdicts.specs.Tried.{AreTriedTo}
+use Rattle.tm_verdict.specs.Driver.{driver_meaning, region_parts}
+use Rattle.tm_verdict.specs.Tried.{AreTriedTo}
 use Rattle.tm_check.proofs.regions.goal_regions.Given as goal
 
 abbrev pub invariant-loop-index : goal.invariant-loop-index

@@ -2,7 +2,7 @@ use Rattle.std.proofs.Common.{refl, arith}
 use Rattle.tm_check.proofs.Found.{found_set, found_tried, lying_found, own}
 use Rattle.tm_check.proofs.Keeping.{told_kept}
 use Rattle.tm_check.proofs.regions.lying.Goals as goal
-use Rattle.tm_verdicts.specs.Driver.{lies_within}
+use Rattle.tm_verdict.specs.Driver.{lies_within}
 use Rattle.tm_game.proofs.Growing.{grows_none, grows_then}
 
 pub without-requires-clause-set : goal.without-requires-clause-set

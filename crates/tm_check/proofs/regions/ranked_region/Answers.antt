@@ -3,8 +3,8 @@ use Rattle.tm_check.specs.Tried.{AreTried}
 use Rattle.tm_check.proofs.Keeping.{has_told_kept, told_kept}
 use Rattle.tm_check.proofs.regions.ranked_region.Goals as goal
 use Rattle.tm_cir.specs.Answer.{Answers}
-use Rattle.tm_verdicts.specs.Driver.{adds_state, driver_meaning, lies_within}
-use Rattle.tm_verdicts.proofs.Trying.{tried_stop, tried_then}
+use Rattle.tm_verdict.specs.Driver.{adds_state, driver_meaning, lies_within}
+use Rattle.tm_verdict.proofs.Trying.{tried_stop, tried_then}
 use Rattle.tm_game.proofs.Growing.{grows_then}
 
 pub adding-requires-clause-told : goal.adding-requires-clause-told

@@ -5,8 +5,8 @@ use Rattle.tm_cir.specs.Tree.{BlockTree}
 use Rattle.tm_game.specs.Game.{Grows}
 use Rattle.tm_sem.specs.Certificates.{DriverSets}
 use Rattle.tm_syntax.specs.Design.{DesignTree}
-use Rattle.tm_verdicts.specs.Driver.{driver_meaning, is_ranked}
-use Rattle.tm_verdicts.specs.Tried.{AreTriedTo}
+use Rattle.tm_verdict.specs.Driver.{driver_meaning, is_ranked}
+use Rattle.tm_verdict.specs.Tried.{AreTriedTo}
 use Rattle.tm_check.proofs.regions.ranking.Given as goal
 
 abbrev pub invariant-loop-goal : goal.invariant-loop-goal

@@ -3,8 +3,8 @@ use Rattle.tm_check.specs.Tried.{AreTried}
 use Rattle.tm_check.proofs.Keeping.{has_told_kept, told_kept, answers_kept}
 use Rattle.tm_check.proofs.steps.answering.Goals as goal
 use Rattle.tm_cir.specs.Answer.{Answers}
-use Rattle.tm_verdicts.specs.Driver.{driver_meaning, is_answered}
-use Rattle.tm_verdicts.proofs.Trying.{tried_all, tried_more, tried_none, tried_stops}
+use Rattle.tm_verdict.specs.Driver.{driver_meaning, is_answered}
+use Rattle.tm_verdict.proofs.Trying.{tried_all, tried_more, tried_none, tried_stops}
 use Rattle.tm_game.proofs.Growing.{grows_none, grows_then}
 
 pub loop-goal-init : goal.loop-goal-init

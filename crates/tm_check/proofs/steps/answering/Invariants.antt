@@ -6,8 +6,8 @@ use Rattle.tm_game.specs.Game.{Grows}
 use Rattle.tm_sem.specs.Certificates.{DriverSets}
 use Rattle.tm_syntax.specs.Design.{DesignTree}
 use Rattle.tm_check.specs.Leaving.{AreAnswers}
-use Rattle.tm_verdicts.specs.Driver.{driver_meaning, is_answered}
-use Rattle.tm_verdicts.specs.Tried.{AreTriedTo}
+use Rattle.tm_verdict.specs.Driver.{driver_meaning, is_answered}
+use Rattle.tm_verdict.specs.Tried.{AreTriedTo}
 use Rattle.tm_check.proofs.steps.answering.Given as goal
 
 abbrev pub invariant-loop-goal : goal.invariant-loop-goal

@@ -4,7 +4,7 @@ use Rattle.tm_check.proofs.Keeping.{told_kept}
 use Rattle.tm_check.proofs.States.{set_is}
 use Rattle.tm_check.proofs.StepParts.{calming_found}
 use Rattle.tm_check.proofs.steps.calming.Goals as goal
-use Rattle.tm_verdicts.specs.Driver.{is_calm}
+use Rattle.tm_verdict.specs.Driver.{is_calm}
 use Rattle.tm_game.proofs.Growing.{grows_then, known_kept}
 
 pub calm-requires : goal.calm-requires

@@ -7,8 +7,8 @@ use Rattle.tm_sem.specs.Certificates.{DriverSets}
 use Rattle.tm_syntax.specs.Design.{DesignTree}
 use Rattle.tm_check.specs.Leaving.{AreLeaving}
 use Rattle.tm_check.specs.Tried.{HavePassed}
-use Rattle.tm_verdicts.specs.Driver.{driver_meaning, falls_when_fair}
-use Rattle.tm_verdicts.specs.Tried.{AreTriedTo}
+use Rattle.tm_verdict.specs.Driver.{driver_meaning, falls_when_fair}
+use Rattle.tm_verdict.specs.Tried.{AreTriedTo}
 use Rattle.tm_check.proofs.steps.falling.Given as goal
 
 abbrev pub invariant-loop-goal : goal.invariant-loop-goal

@@ -1,14 +1,14 @@
 use Rattle.std.proofs.Common.{◌≡◌, true, Some, refl, sym, ap, ◌∙◌, arith}
 use Rattle.std.proofs.lemmas.Option.{slice_get-get_or}
-use Rattle.tm_answers.specs.declared.replies.Replies.{Replies}
-use Rattle.tm_answers.proofs.Growth.{and_before}
-use Rattle.tm_answers.proofs.Keeping.{replies_kept}
+use Rattle.tm_check.specs.declared.replies.Replies.{Replies}
+use Rattle.tm_check.proofs.Growth.{and_before}
+use Rattle.tm_check.proofs.KeepingReplies.{replies_kept}
 use Rattle.tm_check.proofs.Found.{found_set, found_tried}
 use Rattle.tm_check.proofs.Keeping.{told_kept}
 use Rattle.tm_check.proofs.States.{set_is}
 use Rattle.tm_check.proofs.StepParts.{answering_found}
 use Rattle.tm_check.proofs.steps.goal_answering.Goals as goal
-use Rattle.tm_verdicts.specs.Driver.{is_answered}
+use Rattle.tm_verdict.specs.Driver.{is_answered}
 use Rattle.tm_game.proofs.Growing.{grows_then, of_kept, set_kept}
 
 pub and-requires-clause-f : goal.and-requires-clause-f

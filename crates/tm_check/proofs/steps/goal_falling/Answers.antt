@@ -3,7 +3,7 @@ use Rattle.tm_check.proofs.Found.{found_set, found_tried}
 use Rattle.tm_check.proofs.Keeping.{has_told_kept, leaving_kept, told_kept}
 use Rattle.tm_check.proofs.StepParts.{staying_found, staying_none}
 use Rattle.tm_check.proofs.steps.goal_falling.Goals as goal
-use Rattle.tm_verdicts.specs.Driver.{falls_when_fair}
+use Rattle.tm_verdict.specs.Driver.{falls_when_fair}
 use Rattle.tm_game.proofs.Growing.{grows_none, grows_then}
 
 pub loop-index-init : goal.loop-index-init

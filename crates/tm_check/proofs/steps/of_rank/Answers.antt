@@ -1,5 +1,5 @@
 use Rattle.std.proofs.Common.{length, get_or, ap, arith}
-use Rattle.tm_answers.proofs.Growth.{and_before}
+use Rattle.tm_check.proofs.Growth.{and_before}
 use Rattle.tm_check.proofs.Found.{own}
 use Rattle.tm_check.proofs.StepParts.{awaiting_found, goal_states}
 use Rattle.tm_check.proofs.steps.of_rank.Goals as goal

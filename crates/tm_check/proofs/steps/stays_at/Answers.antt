@@ -1,7 +1,7 @@
 use Rattle.std.proofs.Common.{◌<◌, Some, length, get_or, sym, ap, ◌∙◌, subst, arith}
 use Rattle.std.specs.Prelude.{vec_len}
 use Rattle.std.proofs.lemmas.Option.{slice_get-get_or}
-use Rattle.tm_answers.proofs.Growth.{and_before, or_before}
+use Rattle.tm_check.proofs.Growth.{and_before, or_before}
 use Rattle.tm_check.specs.declared.leaving.Leaving.{Leaving}
 use Rattle.tm_check.proofs.LeavingRanks.{leave_at, leave_known, leaving_long}
 use Rattle.tm_check.proofs.StepParts.{fair_below, fair_states, staying_more}

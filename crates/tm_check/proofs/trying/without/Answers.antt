@@ -1,5 +1,5 @@
 use Rattle.std.proofs.Common.{◌&&◌, ap, ◌∙◌}
-use Rattle.tm_answers.proofs.Growth.{and_before}
+use Rattle.tm_check.proofs.Growth.{and_before}
 use Rattle.tm_check.proofs.trying.without.Goals as goal
 use Rattle.tm_dd.specs.Table.{means}
 

@@ -6,8 +6,8 @@ use Rattle.tm_envcheck.specs.Verdict.{CanCheck}
 use Rattle.tm_game.specs.Game.{Grows}
 use Rattle.tm_sem.specs.Certificates.{Level}
 use Rattle.tm_syntax.specs.Design.{DesignTree}
-use Rattle.tm_verdicts.specs.Environment.{level_meaning}
-use Rattle.tm_verdicts.specs.Tried.{AreTriedTo}
+use Rattle.tm_verdict.specs.Environment.{level_meaning}
+use Rattle.tm_verdict.specs.Tried.{AreTriedTo}
 use Rattle.tm_envcheck.proofs.chains.over_chains.Given as goal
 
 abbrev pub invariant-loop-fair : goal.invariant-loop-fair

@@ -5,8 +5,8 @@ use Rattle.tm_envcheck.proofs.ChainParts.{set_there}
 use Rattle.tm_envcheck.proofs.Growing.{can_kept, over_kept, set_told_kept, told_kept}
 use Rattle.tm_game.proofs.Growing.{grows_none, grows_then, set_kept}
 use Rattle.tm_game.proofs.MadeSets.{false_set, false_test}
-use Rattle.tm_verdicts.specs.Environment.{level_meaning, set_parts}
-use Rattle.tm_verdicts.proofs.Trying.{refused_stops, tried_all, tried_more, tried_none}
+use Rattle.tm_verdict.specs.Environment.{level_meaning, set_parts}
+use Rattle.tm_verdict.proofs.Trying.{refused_stops, tried_all, tried_more, tried_none}
 use Rattle.tm_envcheck.proofs.chains.over_sets.Goals as goal
 
 pub loop-set-init : goal.loop-set-init

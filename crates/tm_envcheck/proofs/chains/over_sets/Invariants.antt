@@ -7,8 +7,8 @@ use Rattle.tm_game.specs.Game.{Grows, IsSet}
 use Rattle.tm_game.specs.Least.{test_of}
 use Rattle.tm_sem.specs.Certificates.{Level, set_before}
 use Rattle.tm_syntax.specs.Design.{DesignTree}
-use Rattle.tm_verdicts.specs.Environment.{level_meaning, set_parts}
-use Rattle.tm_verdicts.specs.Tried.{AreTriedTo}
+use Rattle.tm_verdict.specs.Environment.{level_meaning, set_parts}
+use Rattle.tm_verdict.specs.Tried.{AreTriedTo}
 use Rattle.tm_envcheck.proofs.chains.over_sets.Given as goal
 
 abbrev pub invariant-loop-set : goal.invariant-loop-set

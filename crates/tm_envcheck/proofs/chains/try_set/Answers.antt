@@ -4,8 +4,8 @@ use Rattle.tm_envcheck.specs.Tried.{AreTried}
 use Rattle.tm_envcheck.proofs.ChainParts.{grows_tried, lies_in_tried}
 use Rattle.tm_envcheck.proofs.Growing.{can_kept, over_kept, set_told_kept, told_kept}
 use Rattle.tm_game.proofs.Growing.{grows_then, of_kept, set_kept}
-use Rattle.tm_verdicts.specs.Environment.{grows, level_meaning, lies_in}
-use Rattle.tm_verdicts.proofs.Trying.{refused_stop, tried_then}
+use Rattle.tm_verdict.specs.Environment.{grows, level_meaning, lies_in}
+use Rattle.tm_verdict.proofs.Trying.{refused_stop, tried_then}
 use Rattle.tm_envcheck.proofs.chains.try_set.Goals as goal
 
 pub returns-in_err-fails_at-clause-grows : goal.returns-in_err-fails_at-clause-grows

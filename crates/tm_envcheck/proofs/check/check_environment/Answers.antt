@@ -6,7 +6,7 @@ use Rattle.tm_envcheck.proofs.Growing.{can_kept, ready_kept}
 use Rattle.tm_envcheck.proofs.Verdicts.{certified_lost, told_verdict}
 use Rattle.tm_game.proofs.Growing.{grows_then}
 use Rattle.tm_sem.proofs.Losing.{certified_is_lost}
-use Rattle.tm_sets.specs.Sets.{levels_of}
+use Rattle.tm_verdict.specs.Sets.{levels_of}
 use Rattle.tm_envcheck.proofs.check.check_environment.Goals as goal
 
 pub load-requires-clause-levels : goal.load-requires-clause-levels

@@ -7,9 +7,9 @@ use Rattle.tm_envcheck.specs.Tried.{AreTried}
 use Rattle.tm_envcheck.proofs.Growing.{can_kept, overs_kept, ready_kept, tell_kept}
 use Rattle.tm_envcheck.proofs.Whole.{whole}
 use Rattle.tm_game.proofs.Growing.{grows_then}
-use Rattle.tm_verdicts.specs.declared.verdict.Verdict.TheVariants.{Refused}
-use Rattle.tm_verdicts.specs.Environment.{LevelPart, begins_lost, level_meaning, level_places}
-use Rattle.tm_verdicts.proofs.Trying.{refused_stop, tried_then}
+use Rattle.tm_verdict.specs.declared.verdict.Verdict.TheVariants.{Refused}
+use Rattle.tm_verdict.specs.Environment.{LevelPart, begins_lost, level_meaning, level_places}
+use Rattle.tm_verdict.proofs.Trying.{refused_stop, tried_then}
 use Rattle.tm_envcheck.proofs.check.try_all.Goals as goal
 
 pub returns-in-Refused-clause-tried : goal.returns-in-Refused-clause-tried

@@ -4,8 +4,8 @@ use Rattle.tm_envcheck.specs.Inner.Parts.{parts_at}
 use Rattle.tm_envcheck.specs.Tried.{AreTried}
 use Rattle.tm_envcheck.proofs.Growing.{can_kept, over_kept, ready_kept, told_kept}
 use Rattle.tm_game.proofs.Growing.{grows_none, grows_then}
-use Rattle.tm_verdicts.specs.Environment.{level_meaning}
-use Rattle.tm_verdicts.proofs.Trying.{refused_stops, tried_all, tried_more, tried_none}
+use Rattle.tm_verdict.specs.Environment.{level_meaning}
+use Rattle.tm_verdict.proofs.Trying.{refused_stops, tried_all, tried_more, tried_none}
 use Rattle.tm_envcheck.proofs.conditions.over_levels.Goals as goal
 
 pub loop-level-init : goal.loop-level-init

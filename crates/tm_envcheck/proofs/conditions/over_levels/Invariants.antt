@@ -5,8 +5,8 @@ use Rattle.tm_envcheck.specs.Verdict.{CanCheck}
 use Rattle.tm_game.specs.Game.{Grows}
 use Rattle.tm_sem.specs.Certificates.{Level}
 use Rattle.tm_syntax.specs.Design.{DesignTree}
-use Rattle.tm_verdicts.specs.Environment.{level_meaning}
-use Rattle.tm_verdicts.specs.Tried.{AreTriedTo}
+use Rattle.tm_verdict.specs.Environment.{level_meaning}
+use Rattle.tm_verdict.specs.Tried.{AreTriedTo}
 use Rattle.tm_envcheck.proofs.conditions.over_levels.Given as goal
 
 abbrev pub invariant-loop-level : goal.invariant-loop-level

@@ -4,9 +4,9 @@ use Rattle.std.proofs.lemmas.Result.{IfOk-weaker}
 use Rattle.tm_envcheck.specs.Tried.{AreTried}
 use Rattle.tm_envcheck.proofs.Growing.{can_kept, over_kept, ready_kept, told_kept}
 use Rattle.tm_game.proofs.Growing.{grows_then}
-use Rattle.tm_verdicts.specs.declared.verdict.Verdict.TheVariants.{Refused}
-use Rattle.tm_verdicts.specs.Environment.{chain_parts, chain_places, has_new, holds_before, level_meaning}
-use Rattle.tm_verdicts.proofs.Trying.{refused_stop, tried_then}
+use Rattle.tm_verdict.specs.declared.verdict.Verdict.TheVariants.{Refused}
+use Rattle.tm_verdict.specs.Environment.{chain_parts, chain_places, has_new, holds_before, level_meaning}
+use Rattle.tm_verdict.proofs.Trying.{refused_stop, tried_then}
 use Rattle.tm_envcheck.proofs.conditions.shape.Goals as goal
 
 pub returns-in-Refused-clause-tried : goal.returns-in-Refused-clause-tried

@@ -9,8 +9,8 @@ use Rattle.tm_envcheck.specs.Inner.Over.{AreSets}
 use Rattle.tm_envcheck.proofs.LoadedChains.{levels_fit, nodes_fit}
 use Rattle.tm_envcheck.proofs.Loaded.{levels_told, loaded_sets}
 use Rattle.tm_game.proofs.Growing.{grows_then}
-use Rattle.tm_loading.specs.Loaded.{AreLoaded}
-use Rattle.tm_sets.specs.Fitting.{AreNodes, FitsLevel}
+use Rattle.tm_verdict.specs.Loaded.{AreLoaded}
+use Rattle.tm_verdict.specs.Fitting.{AreNodes, FitsLevel}
 use Rattle.tm_envcheck.proofs.levels.load.Goals as goal
 
 pub load_nodes-requires-clause-nodes : goal.load_nodes-requires-clause-nodes

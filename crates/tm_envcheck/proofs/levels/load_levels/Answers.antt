@@ -10,7 +10,7 @@ use Rattle.tm_envcheck.proofs.FirstLevels.{last_pushed, loaded_push, no_levels, 
 use Rattle.tm_envcheck.proofs.Growing.{overs_kept, sets_kept}
 use Rattle.tm_game.proofs.Growing.{grows_none, grows_then}
 use Rattle.tm_game.proofs.MadeSets.{false_set}
-use Rattle.tm_sets.specs.Fitting.{FitsLevel}
+use Rattle.tm_verdict.specs.Fitting.{FitsLevel}
 use Rattle.tm_envcheck.proofs.levels.load_levels.Goals as goal
 
 pub loop-level-init : goal.loop-level-init

@@ -5,7 +5,7 @@ use Rattle.tm_dd.specs.declared.node.NodeId.{NodeId}
 use Rattle.tm_dd.specs.Table.{means}
 use Rattle.tm_envcheck.specs.Inner.Stuck.{IsSettled, IsStuckBelow}
 use Rattle.tm_envcheck.specs.Inner.Told.{chain_told}
-use Rattle.tm_forcing.specs.Functions.{Assignment}
+use Rattle.tm_game_bits.specs.Functions.{Assignment}
 use Rattle.tm_game.specs.Game.{Grows, IsOf, IsSet}
 use Rattle.tm_game.specs.Least.{test_of}
 use Rattle.tm_sem.specs.Certificates.{set_before}

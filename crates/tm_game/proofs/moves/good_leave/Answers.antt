@@ -1,7 +1,7 @@
 use Rattle.std.proofs.Common.{◌≡◌, get_or, arith}
 use Rattle.std.proofs.lemmas.List.{get_or_default}
 use Rattle.tm_dd.specs.Table.{means}
-use Rattle.tm_forcing.specs.Diagrams.{game_of}
+use Rattle.tm_game_bits.specs.Diagrams.{game_of}
 use Rattle.tm_game.proofs.GoodMoves.{leave_here}
 use Rattle.tm_game.proofs.moves.good_leave.Goals as goal
 

@@ -1,9 +1,9 @@
 use Rattle.std.proofs.Common.{◌≡◌, ◌⊎◌, true, subst}
 use Rattle.tm_dd.specs.Table.{means}
 use Rattle.tm_dd.proofs.CallerLaws.{Extends-refl, Extends-trans}
-use Rattle.tm_forcing.specs.Diagrams.{IsSetOf, game_of}
-use Rattle.tm_forcing.specs.Functions.{Function, GameFunctions}
-use Rattle.tm_forcing.proofs.Extended.{KnowsGame-Extends, Knows-Extends, game_of-Extends, means-Extends}
+use Rattle.tm_game_bits.specs.Diagrams.{IsSetOf, game_of}
+use Rattle.tm_game_bits.specs.Functions.{Function, GameFunctions}
+use Rattle.tm_game_bits.proofs.Extended.{KnowsGame-Extends, Knows-Extends, game_of-Extends, means-Extends}
 use Rattle.tm_game.specs.Inner.Good.{IsGoodLeave}
 use Rattle.tm_game.proofs.GoodMoves.{leaves_more, leaves_none}
 use Rattle.tm_game.proofs.moves.good_leaves.Goals as goal

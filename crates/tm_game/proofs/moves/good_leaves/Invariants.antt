@@ -1,6 +1,6 @@
 use Rattle.tm_dd.specs.Reduced.{Extends}
 use Rattle.tm_dd.specs.Table.{means}
-use Rattle.tm_forcing.specs.Diagrams.{IsSetOf, game_of}
+use Rattle.tm_game_bits.specs.Diagrams.{IsSetOf, game_of}
 use Rattle.tm_game.specs.Inner.Good.{HasGoodLeaveBelow}
 use Rattle.tm_game.proofs.moves.good_leaves.Given as goal
 

@@ -1,5 +1,5 @@
 use Rattle.std.proofs.Common.{sym, subst}
-use Rattle.tm_forcing.specs.Diagrams.{KnowsStep}
+use Rattle.tm_game_bits.specs.Diagrams.{KnowsStep}
 use Rattle.tm_game.proofs.GoodMoves.{good_step_is}
 use Rattle.tm_game.proofs.moves.good_step.Goals as goal
 

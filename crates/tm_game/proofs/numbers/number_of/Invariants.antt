@@ -1,5 +1,5 @@
 use Rattle.std.proofs.Common.{◌≡◌, take}
-use Rattle.tm_bits.specs.Bits.{number_of}
+use Rattle.tm_base.specs.Bits.{number_of}
 use Rattle.tm_game.proofs.numbers.number_of.Given as goal
 
 abbrev pub invariant-loop-bit : goal.invariant-loop-bit

@@ -1,5 +1,5 @@
 use Rattle.std.proofs.Common.{◌≡◌, ◌+◌, ◌-◌, get_or, take, drop, refl, ap, ◌∙◌, arith}
-use Rattle.tm_bits.specs.Bits.{number_of}
+use Rattle.tm_base.specs.Bits.{number_of}
 use Rattle.tm_game.proofs.Reading.{read_all, read_long, read_more}
 use Rattle.tm_game.proofs.numbers.numbers_at.Goals as goal
 

@@ -1,5 +1,5 @@
 use Rattle.std.proofs.Common.{◌≡◌, ◌++◌, ◌-◌}
-use Rattle.tm_bits.specs.Bits.{bits_of}
+use Rattle.tm_base.specs.Bits.{bits_of}
 use Rattle.tm_game.proofs.numbers.push_number.Given as goal
 
 abbrev pub invariant-loop-passed : goal.invariant-loop-passed

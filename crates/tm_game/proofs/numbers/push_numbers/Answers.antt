@@ -1,6 +1,6 @@
 use Rattle.std.proofs.Common.{ℕ}
 use Rattle.std.proofs.lemmas.Slice.Zip.{either_empty_from_Zip}
-use Rattle.tm_bits.specs.Bits.{bits_of}
+use Rattle.tm_base.specs.Bits.{bits_of}
 use Rattle.tm_game.proofs.Writing.{zip_ended}
 use Rattle.tm_game.proofs.numbers.push_numbers.Goals as goal
 

@@ -3,13 +3,13 @@ use Rattle.std.specs.Prelude.{All}
 use Rattle.tm_dd.specs.Table.{means}
 use Rattle.tm_dd.proofs.CallerLaws.{Extends-trans}
 use Rattle.tm_flat.specs.Flat.{flat_terms}
-use Rattle.tm_forcing.proofs.Extended.{Knows-Extends}
+use Rattle.tm_game_bits.proofs.Extended.{Knows-Extends}
 use Rattle.tm_game.proofs.KeptSets.{kept_is}
 use Rattle.tm_game.proofs.opening.kept_ids.Goals as goal
 use Rattle.tm_flat.specs.Steps.{IsTerm}
-use Rattle.tm_making.proofs.Ready.{ready_kept}
-use Rattle.tm_making.specs.Sets.{AreSets, IsAlwaysOneIn, IsOneIn}
-use Rattle.tm_making.specs.Setting.{setting_of}
+use Rattle.tm_game_steps.proofs.Ready.{ready_kept}
+use Rattle.tm_game_steps.specs.Sets.{AreSets, IsAlwaysOneIn, IsOneIn}
+use Rattle.tm_game_steps.specs.Setting.{setting_of}
 use Rattle.tm_term.specs.declared.term.TermId.{TermId}
 
 pub and-requires-clause-f : goal.and-requires-clause-f

@@ -1,6 +1,6 @@
 use Rattle.std.proofs.Common.{◌≡◌, get_or, arith}
 use Rattle.std.proofs.lemmas.List.{get_or_default}
-use Rattle.tm_forcing.specs.Diagrams.{game_of}
+use Rattle.tm_game_bits.specs.Diagrams.{game_of}
 use Rattle.tm_game.proofs.PermittedMoves.{leave_here}
 use Rattle.tm_game.proofs.permitted.permitted_leave.Goals as goal
 

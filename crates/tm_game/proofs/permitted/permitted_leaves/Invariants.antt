@@ -1,5 +1,5 @@
 use Rattle.tm_dd.specs.Reduced.{Extends}
-use Rattle.tm_forcing.specs.Diagrams.{IsSetOf, game_of}
+use Rattle.tm_game_bits.specs.Diagrams.{IsSetOf, game_of}
 use Rattle.tm_game.specs.Inner.Permitted.{HasPermittedLeaveBelow}
 use Rattle.tm_game.proofs.permitted.permitted_leaves.Given as goal
 

@@ -1,6 +1,6 @@
 use Rattle.std.proofs.Common.{ℕ, List, sym, subst}
 use Rattle.tm_ddops.specs.Quantified.{IsExists}
-use Rattle.tm_forcing.specs.Diagrams.{KnowsStep}
+use Rattle.tm_game_bits.specs.Diagrams.{KnowsStep}
 use Rattle.tm_game.proofs.PermittedMoves.{permitted_step_is}
 use Rattle.tm_game.proofs.permitted.permitted_step.Goals as goal
 

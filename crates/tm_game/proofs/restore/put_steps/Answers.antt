@@ -1,5 +1,5 @@
 use Rattle.std.proofs.Common.{◌≡◌, ◌+◌, ◌≤◌, length, sym, ap, subst, arith}
-use Rattle.tm_forcing.specs.declared.step.StepDiagrams.{StepDiagrams}
+use Rattle.tm_game_bits.specs.declared.step.StepDiagrams.{StepDiagrams}
 use Rattle.tm_game.specs.Inner.Listed.{step_ids}
 use Rattle.tm_game.specs.Inner.Restored.{SameStep, SameSteps, StandAt}
 use Rattle.tm_game.proofs.Restoring.{put_all, put_first, put_more, put_within, written_back}

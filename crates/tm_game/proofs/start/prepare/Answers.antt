@@ -2,15 +2,15 @@ use Rattle.std.proofs.Common.{◌≡◌, ℕ, ◌+◌, ◌-◌, ◌^◌, ◌<◌
 use Rattle.std.specs.Prelude.{map, sum}
 use Rattle.std.specs.declared.alloc.Global.{Global}
 use Rattle.std.proofs.lemmas.List.{length-map}
-use Rattle.tm_assigned.specs.Inputs.{input_levels}
+use Rattle.tm_game_bits.specs.Inputs.{input_levels}
 use Rattle.tm_flat.specs.declared.flat.FlatStep.{FlatStep}
 use Rattle.tm_flat.specs.Flat.{flat_terms, step_terms}
 use Rattle.tm_game.specs.Start.{state_bits_in}
 use Rattle.tm_game.proofs.Starting.{inputs_count, locations_fit, magic_count, movers_fit, passing_kept, places_kept, processes_count, start_is, terms_count}
 use Rattle.tm_game.proofs.start.prepare.Goals as goal
-use Rattle.tm_levels.specs.Order.{IsOrder}
-use Rattle.tm_levels.proofs.Orders.{length_order}
-use Rattle.tm_making.specs.Places.{ArePlaces, flag_at, flags_of}
+use Rattle.tm_game_bits.specs.Order.{IsOrder}
+use Rattle.tm_game_bits.proofs.Orders.{length_order}
+use Rattle.tm_game_steps.specs.Places.{ArePlaces, flag_at, flags_of}
 use Rattle.tm_term.proofs.Valued.{Extends-trans}
 
 pub overflow_sub-numbers : goal.overflow_sub-numbers

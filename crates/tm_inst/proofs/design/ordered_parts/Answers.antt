@@ -5,7 +5,7 @@ use Rattle.tm_syntax.specs.Tree.{SpecTree}
 use Rattle.tm_syntax.specs.Tree.View.{spec_tree}
 use Rattle.tm_syntax.specs.Faults.{HasTreeFault}
 use Rattle.tm_scope.specs.CallOrder.{CoversTasks}
-use Rattle.tm_counts.specs.FirstLimit.{IsFirstLimit}
+use Rattle.tm_limits.specs.FirstLimit.{IsFirstLimit}
 use Rattle.tm_inst.proofs.Told.{limit_told}
 use Rattle.tm_inst.proofs.design.ordered_parts.Goals as goal
 

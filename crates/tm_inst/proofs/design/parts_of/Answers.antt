@@ -4,7 +4,7 @@ use Rattle.tm_syntax.specs.Tree.View.{spec_tree}
 use Rattle.tm_syntax.specs.Faults.{HasTreeFault, IsFirst}
 use Rattle.tm_syntax.specs.Faults.Cycles.{HoldsItself, TemplateMark, all_templates}
 use Rattle.tm_syntax.specs.Faults.Marks.{named}
-use Rattle.tm_counts.specs.TemplateOrders.{IsTemplateOrder}
+use Rattle.tm_limits.specs.TemplateOrders.{IsTemplateOrder}
 use Rattle.tm_inst.proofs.Told.{cycle_told}
 use Rattle.tm_inst.proofs.design.parts_of.Goals as goal
 

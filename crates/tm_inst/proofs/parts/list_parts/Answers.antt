@@ -6,8 +6,8 @@ use Rattle.tm_syntax.specs.Tree.{SpecTree}
 use Rattle.tm_syntax.specs.Tree.View.{spec_tree}
 use Rattle.tm_syntax.specs.Design.{instance_node}
 use Rattle.tm_scope.specs.Graph.{graph_of}
-use Rattle.tm_items.specs.Instances.{AreSizes}
-use Rattle.tm_items.specs.Sizes.{HasShortLists}
+use Rattle.tm_inst.specs.Instances.{AreSizes}
+use Rattle.tm_inst.specs.Sizes.{HasShortLists}
 use Rattle.tm_inst.proofs.FewInstances.{instances_few, nodes_few}
 use Rattle.tm_inst.proofs.HeldKnown.{all_held, main_apart}
 use Rattle.tm_inst.proofs.Narrow.{all_narrow}

@@ -3,10 +3,10 @@ use Rattle.std.proofs.lemmas.List.{take_all}
 use Rattle.std.proofs.lemmas.Option.{slice_get-get_or}
 use Rattle.tm_scope.proofs.Entries.{at-contained}
 use Rattle.tm_syntax.specs.declared.fault.Quantity.TheVariants as quantity
-use Rattle.tm_counts.specs.Shares.{combination_of}
-use Rattle.tm_counts.specs.Amount.{capped}
-use Rattle.tm_counts.specs.Totals.{combined, over}
-use Rattle.tm_counts.proofs.TotalSteps.{total_more}
+use Rattle.tm_limits.specs.Shares.{combination_of}
+use Rattle.tm_limits.specs.Amount.{capped}
+use Rattle.tm_limits.specs.Totals.{combined, over}
+use Rattle.tm_limits.proofs.TotalSteps.{total_more}
 use Rattle.tm_inst.proofs.sizes.size_with.Goals as goal
 
 -- two counts that are told, added

@@ -8,11 +8,11 @@ use Rattle.std.proofs.lemmas.List.{length-map}
 use Rattle.std.proofs.lemmas.Option.{slice_get-get_or, slice_get-map, slice_get_within}
 use Rattle.tm_scope.specs.Graph.{graph_of}
 use Rattle.tm_syntax.specs.declared.fault.Quantity.TheVariants as quantity
-use Rattle.tm_counts.specs.Shares.{combination_of}
-use Rattle.tm_counts.specs.Amount.{capped}
-use Rattle.tm_counts.specs.Orders.{targets}
-use Rattle.tm_counts.specs.Totals.{combined, over}
-use Rattle.tm_counts.proofs.TotalSteps.{target_edge, totals_more, whole, whole_of}
+use Rattle.tm_limits.specs.Shares.{combination_of}
+use Rattle.tm_limits.specs.Amount.{capped}
+use Rattle.tm_limits.specs.Orders.{targets}
+use Rattle.tm_limits.specs.Totals.{combined, over}
+use Rattle.tm_limits.proofs.TotalSteps.{target_edge, totals_more, whole, whole_of}
 use Rattle.tm_inst.proofs.sizes.template_sizes.Goals as goal
 
 -- the nodes to which a node leads, as the row of the code has them

@@ -1,9 +1,9 @@
 use Rattle.std.proofs.Common.{◌≡◌, ℕ, ◌<◌, Some, get_or, length, map, slice_get}
 use Rattle.tm_scope.specs.Graph.{graph_of}
 use Rattle.tm_syntax.specs.declared.fault.Quantity.TheVariants as quantity
-use Rattle.tm_counts.specs.Shares.{combination_of}
-use Rattle.tm_counts.specs.Amount.{capped}
-use Rattle.tm_counts.specs.Totals.{nodes_below, over}
+use Rattle.tm_limits.specs.Shares.{combination_of}
+use Rattle.tm_limits.specs.Amount.{capped}
+use Rattle.tm_limits.specs.Totals.{nodes_below, over}
 use Rattle.tm_inst.proofs.sizes.template_sizes.Given as goal
 
 abbrev pub invariant-loop-node : goal.invariant-loop-node

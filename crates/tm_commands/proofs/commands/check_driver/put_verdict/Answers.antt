@@ -1,6 +1,6 @@
 use Rattle.std.proofs.Common.{sym, subst}
 use Rattle.tm_syntax.specs.Design.View.{design_tree}
-use Rattle.tm_verdicts.specs.declared.verdict.Verdict.{Verdict}
+use Rattle.tm_verdict.specs.declared.verdict.Verdict.{Verdict}
 use Rattle.tm_commands.specs.Check.{driver_text}
 use Rattle.tm_report.specs.Output.{sink_data}
 use Rattle.tm_report.specs.Putting.{HasPut}

@@ -1,11 +1,11 @@
 use Rattle.std.proofs.Common.{sym, subst}
-use Rattle.tm_assigned.specs.Inputs.{input_levels}
+use Rattle.tm_game_bits.specs.Inputs.{input_levels}
 use Rattle.tm_blast.specs.Bits.{AreBits}
 use Rattle.tm_game.specs.Game.{GameData, IsOf}
 use Rattle.tm_game.proofs.Extending.{grows_from}
 use Rattle.tm_game.proofs.TermBits.{bits_extended, bits_told}
 use Rattle.tm_game.proofs.game.Game.bits.Goals as goal
-use Rattle.tm_making.proofs.Ready.{levels_there, made_there}
+use Rattle.tm_game_steps.proofs.Ready.{levels_there, made_there}
 use Rattle.tm_sem.specs.StateBits.{state_widths}
 use Rattle.tm_syntax.specs.Design.{DesignTree}
 use Rattle.tm_term.specs.Table.{IsKnown}

@@ -3,13 +3,13 @@ use Rattle.std.specs.Prelude.{Contains}
 use Rattle.tm_dd.specs.declared.node.NodeId.{NodeId}
 use Rattle.tm_dd.specs.Table.{Knows}
 use Rattle.tm_flat.specs.Flat.{flat_terms}
-use Rattle.tm_forcing.specs.Diagrams.{game_of}
+use Rattle.tm_game_bits.specs.Diagrams.{game_of}
 use Rattle.tm_game.specs.Copied.{IsCopied}
 use Rattle.tm_game.specs.Game.{GameData, IsOf}
 use Rattle.tm_game.specs.Layout.{IsGame, game_data}
 use Rattle.tm_game.proofs.Copying.{after, copied_of, copied_so, game_copied, kept_known, on_error, unchanged}
 use Rattle.tm_game.proofs.game.Game.copy_roots.Goals as goal
-use Rattle.tm_making.specs.Setting.{setting_of}
+use Rattle.tm_game_steps.specs.Setting.{setting_of}
 use Rattle.tm_syntax.specs.Design.{DesignTree}
 
 pub copied-requires-clause-roots : goal.copied-requires-clause-roots

@@ -1,7 +1,7 @@
 use Rattle.std.proofs.Common.{◌≡◌, ℕ, ◌≤◌, ◌<◌, Bool, List, None, Vec, length, take, drop, sym, ap, ◌∙◌, subst, arith}
 use Rattle.std.specs.Prelude.{All, sum}
 use Rattle.std.specs.declared.alloc.Global.{Global}
-use Rattle.tm_assigned.specs.States.{numbers_from}
+use Rattle.tm_game_bits.specs.AssignedStates.{numbers_from}
 use Rattle.tm_dd.specs.Table.{assignment}
 use Rattle.tm_flat.specs.Flat.{flat_terms}
 use Rattle.tm_game.specs.Game.{GameData, IsOf, IsSet}
@@ -10,8 +10,8 @@ use Rattle.tm_game.specs.Least.{HoldsNowhere, test_of}
 use Rattle.tm_game.proofs.Extending.{extended_only, grows_from}
 use Rattle.tm_game.proofs.LeastStates.{bits_enough, first_within, found_none, found_some, least_is, nowhere_in, own_order}
 use Rattle.tm_game.proofs.game.Game.least.Goals as goal
-use Rattle.tm_levels.specs.Order.{IsOrder}
-use Rattle.tm_making.specs.Setting.{setting_of}
+use Rattle.tm_game_bits.specs.Order.{IsOrder}
+use Rattle.tm_game_steps.specs.Setting.{setting_of}
 use Rattle.tm_sem.specs.StateBits.{IsLeast}
 use Rattle.tm_syntax.specs.Design.{DesignTree}
 

@@ -2,7 +2,7 @@ use Rattle.std.proofs.Common.{◌≡◌, ℕ, ◌+◌, length, sym, subst, arith
 use Rattle.std.proofs.lemmas.List.{length-map}
 use Rattle.tm_dd.specs.Table.{means}
 use Rattle.tm_flat.specs.Flat.{flat_terms, step_terms}
-use Rattle.tm_forcing.specs.Diagrams.{IsSetOf, game_of}
+use Rattle.tm_game_bits.specs.Diagrams.{IsSetOf, game_of}
 use Rattle.tm_game.specs.declared.moves.MoveShape.TheVariants as shapes
 use Rattle.tm_game.specs.Game.{GameData, IsOf, IsSet, in_set}
 use Rattle.tm_game.specs.Inner.Good.{HasGoodLeaveBelow}

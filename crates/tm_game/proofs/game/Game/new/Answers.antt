@@ -5,7 +5,7 @@ use Rattle.tm_flat.specs.Flat.{flat_terms}
 use Rattle.tm_game.specs.Start.{state_bits_in}
 use Rattle.tm_game.proofs.Starting.{inputs_count}
 use Rattle.tm_game.proofs.game.Game.new.Goals as goal
-use Rattle.tm_levels.specs.Order.{IsOrder}
+use Rattle.tm_game_bits.specs.Order.{IsOrder}
 
 pub state_bits-count-requires-clause-inputs : goal.state_bits-count-requires-clause-inputs
 state_bits-count-requires-clause-inputs c =

@@ -4,8 +4,8 @@ use Rattle.tm_game.specs.Game.{GameData}
 use Rattle.tm_game.specs.Start.{state_bits_in}
 use Rattle.tm_game.proofs.Starting.{places_permuted}
 use Rattle.tm_game.proofs.game.Game.order.Goals as goal
-use Rattle.tm_levels.specs.Order.{IsOrder}
-use Rattle.tm_making.specs.Setting.{setting_of}
+use Rattle.tm_game_bits.specs.Order.{IsOrder}
+use Rattle.tm_game_steps.specs.Setting.{setting_of}
 
 pub returns-clause-places : goal.returns-clause-places
 returns-clause-places c =

@@ -1,17 +1,17 @@
 use Rattle.std.proofs.Common.{length, sym, ap, subst, arith}
 use Rattle.tm_blast.specs.Memory.{Made}
 use Rattle.tm_flat.specs.Flat.{flat_terms}
-use Rattle.tm_forcing.specs.Diagrams.{game_of}
+use Rattle.tm_game_bits.specs.Diagrams.{game_of}
 use Rattle.tm_game.proofs.Extending.{made_kept}
 use Rattle.tm_flat.proofs.Growth.{flat_kept}
 use Rattle.tm_game.proofs.game.Game.with_order.Goals as goal
 use Rattle.tm_game.specs.Shape.{IsShape}
 use Rattle.tm_game.specs.Start.{state_bits_in}
-use Rattle.tm_levels.specs.Order.{IsOrder}
-use Rattle.tm_levels.proofs.Orders.{length_order}
-use Rattle.tm_making.specs.Passing.{ArePassing}
-use Rattle.tm_making.specs.Places.{ArePlaces}
-use Rattle.tm_making.specs.Setting.{IsReady, setting_of}
+use Rattle.tm_game_bits.specs.Order.{IsOrder}
+use Rattle.tm_game_bits.proofs.Orders.{length_order}
+use Rattle.tm_game_steps.specs.Passing.{ArePassing}
+use Rattle.tm_game_steps.specs.Places.{ArePlaces}
+use Rattle.tm_game_steps.specs.Setting.{IsReady, setting_of}
 
 pub manager-requires : goal.manager-requires
 manager-requires c =

@@ -1,5 +1,5 @@
 use Rattle.std.proofs.Common.{sym, ap, ◌∙◌, subst}
-use Rattle.tm_bits.specs.Arithmetic.{IsWidth}
+use Rattle.tm_base.specs.Arithmetic.{IsWidth}
 use Rattle.tm_term.specs.Table.{width_of, IsSound}
 use Rattle.tm_term.proofs.Growth.{IsWidth-width_of}
 use Rattle.tm_term.proofs.Kept.{width_in-values}

@@ -1,9 +1,0 @@
-pub mod Answering
-pub mod Gone
-pub mod Growth
-pub mod Keeping
-pub mod Moving
-pub mod Placing
-pub mod Pushed
-pub mod Valued
-pub mod Worth

@@ -1,4 +1,0 @@
-pub mod Coded
-pub mod InputLevels
-pub mod Numbers
-pub mod Pieces

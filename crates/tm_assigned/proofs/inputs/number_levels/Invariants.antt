@@ -1,5 +1,0 @@
-use Rattle.tm_assigned.proofs.Pieces.{ArePieces}
-use Rattle.tm_assigned.proofs.inputs.number_levels.Given as goal
-
-abbrev pub invariant-loop-width : goal.invariant-loop-width
-invariant-loop-width l = ArePieces l.by_place l.widths l.levels.items l.place l.width-index

@@ -1,4 +1,0 @@
-pub mod BitLists
-pub mod Bounds
-pub mod Cuts
-pub mod NumberBits

@@ -1,5 +1,0 @@
-use Rattle.tm_bits.proofs.Cuts.{greatest-shr}
-use Rattle.tm_bits.proofs.operations.greatest.Goals as goal
-
-pub returns : goal.returns
-returns c = greatest-shr c.args.width c.requires.1

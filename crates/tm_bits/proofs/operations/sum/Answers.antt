@@ -1,6 +1,0 @@
-use Rattle.std.proofs.Common.{◌∙◌}
-use Rattle.tm_bits.proofs.Cuts.{resize-sum}
-use Rattle.tm_bits.proofs.operations.sum.Goals as goal
-
-pub returns : goal.returns
-returns c = c.resize.ensures ∙ resize-sum 64 c.args.width c.args.a c.args.b c.requires.1

@@ -1,3 +1,0 @@
-pub mod Arithmetic
-pub mod Bits
-pub mod Shift

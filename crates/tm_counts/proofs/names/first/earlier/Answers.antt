@@ -1,5 +1,0 @@
-use Rattle.tm_counts.proofs.LongNames.{earliest-joins}
-use Rattle.tm_counts.proofs.names.first.earlier.Goals as goal
-
-pub returns : goal.returns
-returns c = earliest-joins _ _ _ c.earlier_of.ensures

@@ -1,6 +1,0 @@
-use Rattle.tm_syntax.specs.Tree.View.{spec_tree}
-use Rattle.tm_counts.specs.TaskBodies.{HasPaths}
-use Rattle.tm_counts.proofs.tasks.task_paths.Given as goal
-
-abbrev pub invariant-loop-task : goal.invariant-loop-task
-invariant-loop-task l = HasPaths (spec_tree l.scopes) l.order l.task-index l.paths.entries

@@ -1,2 +1,0 @@
-mod Ordering
-mod Startable

@@ -1,7 +1,0 @@
-use Rattle.tm_exact.proofs.Whole.{exact_any, reduced_of}
-use Rattle.tm_exact.proofs.operator.ExactPre.goals.Goals as goal
-
-pub returns-clause-exact : goal.returns-clause-exact
-returns-clause-exact c =
-    exact_any c.args.self.now.game c.args.self.now.of
-    (reduced_of c.args.self.now.game c.manager.result.now c.manager.ensures c.store-store.ensures.manager)

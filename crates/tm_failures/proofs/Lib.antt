@@ -1,5 +1,0 @@
-pub mod DriverFailures
-pub mod DriverPasses
-pub mod LevelFailures
-pub mod LevelPasses
-pub mod Ranks

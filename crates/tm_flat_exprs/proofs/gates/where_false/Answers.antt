@@ -1,0 +1,15 @@
+use Rattle.std.proofs.Common.{Option, Some, sym, subst}
+use Rattle.std.specs.Prelude.{◌&&◌, ◌==◌, not}
+use Rattle.tm_term.specs.declared.term.TermId.{TermId}
+use Rattle.tm_term.specs.Value.{value_of}
+use Rattle.tm_flat_exprs.specs.Made.{IsTruth, MakesTruth, truth_at}
+use Rattle.tm_flat_exprs.proofs.Later.{makes_denied}
+use Rattle.tm_flat_exprs.proofs.gates.where_false.Goals as goal
+
+pub returns : goal.returns
+returns c =
+    subst (λ (x : Option TermId). MakesTruth c.args.terms.now c.make.new.terms (Some c.in_ok-id.id)
+    (λ u v. not (not (value_of u v c.args.test == 0)) && truth_at u v x)) (sym c.in-Some.is)
+    (makes_denied c.args.terms.now c.denial.new.terms c.make.new.terms c.args.test c.in-Some.truth c.in_ok-fails.fails
+    c.in_ok-id.id c.requires.test (subst (IsTruth c.args.terms.now) c.in-Some.is c.requires.truth)
+    c.in_ok-fails.ensures c.in_ok-id.ensures)

@@ -1,0 +1,14 @@
+pub mod Arguments
+pub mod Arrived
+pub mod Begun
+pub mod Callable
+pub mod Calls
+pub mod Controllable
+pub mod Ended
+pub mod Inner
+pub mod Items
+pub mod Made
+pub mod Movable
+pub mod Next
+pub mod Run
+pub mod Turn

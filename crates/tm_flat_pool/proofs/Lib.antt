@@ -1,0 +1,13 @@
+pub mod FirstAtoms
+pub mod HeldAtoms
+pub mod MarkedBits
+pub mod MarkedVariables
+pub mod Parted
+pub mod Places
+pub mod PoolAtoms
+pub mod PredicateTerms
+pub mod PushedBits
+pub mod StateWidths
+pub mod TruthTerms
+pub mod TypedAtoms
+pub mod VariablePaths

@@ -1,0 +1,19 @@
+//! The pool of predicates of a design and its cells, as definitions and as terms.
+#![tactic(auto)]
+
+mod atoms;
+mod bits;
+mod holding;
+mod marks;
+mod memory;
+mod pool;
+mod pool_laws;
+mod pooler;
+mod variables;
+
+pub use pool::PoolTerms;
+pub use pool_laws::{
+    atoms_of_pools_are_truths, cells_bound_sets, certificates_of_cells_decide,
+    predicates_part_cells,
+};
+pub use pooler::Pooler;

@@ -1,0 +1,11 @@
+use Rattle.std.proofs.Common.{◌≡◌, ℕ, map}
+use Rattle.std.specs.List.{range_with_len}
+use Rattle.tm_syntax.specs.Design.{DesignTree}
+use Rattle.tm_syntax.specs.Design.Locations.{is_magic_at}
+use Rattle.tm_locations.specs.Locations.{AreLocations, table_of}
+use Rattle.tm_flat_states.proofs.magic.magic_places.Given as goal
+
+abbrev pub invariant-loop-place : goal.invariant-loop-place
+invariant-loop-place l =
+    (d : DesignTree) (p : ℕ) → AreLocations (table_of l.locations) d p →
+    l.places.items ≡ map (is_magic_at d p) (range_with_len 0 l.place)

@@ -1,0 +1,15 @@
+pub mod Asking
+pub mod Assigning
+pub mod Choosing
+pub mod ChoosingElement
+pub mod Flowing
+pub mod IntoElements
+pub mod Leading
+pub mod Leaving
+pub mod Parting
+pub mod Pieces
+pub mod PutBack
+pub mod ReadingBits
+pub mod Stopping
+pub mod Valuing
+pub mod Written

@@ -1,7 +1,0 @@
-use Rattle.tm_flatten.proofs.Later.{made}
-use Rattle.tm_flatten.proofs.gates.make.Goals as goal
-
-pub returns : goal.returns
-returns c =
-    made c.args.terms.now c.mk.new.self c.args.term c.in_ok-id.id c.requires c.mk.ensures.earlier
-    c.mk.ensures.sound c.in_ok-id.ensures.known c.in_ok-id.ensures.width c.in_ok-id.ensures.value

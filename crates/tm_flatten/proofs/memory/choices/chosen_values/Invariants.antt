@@ -1,5 +1,0 @@
-use Rattle.tm_flatten.specs.Inner.Merging.{MergesValues}
-use Rattle.tm_flatten.proofs.memory.choices.chosen_values.Given as goal
-
-abbrev pub invariant-loop-index : goal.invariant-loop-index
-invariant-loop-index l = MergesValues l.fn.terms l.terms l.guard l.first l.second l.index l.values.items

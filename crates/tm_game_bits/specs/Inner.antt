@@ -1,0 +1,5 @@
+-- What contracts of private functions alone cite.
+pub mod Loops
+pub mod Narrowed
+pub mod Pieces
+pub mod Weights

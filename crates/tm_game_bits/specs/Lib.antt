@@ -1,0 +1,13 @@
+pub mod AssignedStates
+pub mod Coding
+pub mod Diagrams
+pub mod Forcing
+pub mod Functions
+pub mod GameOf
+pub mod Inner
+pub mod Inputs
+pub mod Least
+pub mod Order
+pub mod Recent
+pub mod States
+pub mod Told

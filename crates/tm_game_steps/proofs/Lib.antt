@@ -1,0 +1,14 @@
+pub mod Changed
+pub mod Driving
+pub mod Lookups
+pub mod OneBit
+pub mod Pairs
+pub mod Passing
+pub mod PlaceTerms
+pub mod Pushed
+pub mod Pushing
+pub mod Ranges
+pub mod Ready
+pub mod SetsOf
+pub mod Telling
+pub mod Turning

@@ -1,0 +1,5 @@
+pub mod FlatShape
+pub mod Inner
+pub mod Judged
+pub mod Ordered
+pub mod Shape

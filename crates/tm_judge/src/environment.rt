@@ -1,0 +1,46 @@
+//! The verdict on an environment's certificate.
+ghost use Rattle.std.specs.Prelude.{◌≡◌, IfOk, Ok};
+ghost use Rattle.tm_envcheck.specs.Verdict.{IsEnvironmentVerdict, IsLostWithin};
+ghost use Rattle.tm_judge.specs.Judged.{CanJudgeEnvironment};
+ghost use Rattle.tm_sem.specs.Loss.{Lost};
+ghost use Rattle.tm_verdict.specs.Sets.{levels_of};
+ghost use Rattle.tm_syntax.specs.Design.View.{design_tree};
+ghost use Rattle.tm_verdict.specs.declared.verdict.Verdict.{Verdict as Answer};
+
+use crate::{
+    ordered_game, sound_designs_of_texts_are_regular, sound_designs_of_texts_have_initial_states,
+};
+use std::alloc::{AllocError, Global};
+use tm_cert::EnvCert;
+use tm_envcheck::check_environment;
+use tm_syntax::design::Design;
+use tm_verdict::Verdict;
+
+/// Whether levels are a certificate over the design of a text: every condition holds, or the first that fails, by
+/// number, then by level, with its least state by place. It makes the game of the design in the order of the
+/// certificate.
+///
+/// `AllocError` is want of memory.
+pub fn judge_environment(
+    alloc: Global,
+    design: &Design,
+    cert: &EnvCert,
+) -> Result<Verdict, AllocError>
+    requires { CanJudgeEnvironment (design_tree design.now) cert.now }
+    ensures verdict { IfOk result
+        (IsEnvironmentVerdict (design_tree design.now) (levels_of (design_tree design.now) cert.now)) }
+
+    // There is no other verdict on it.
+    ensures only { IfOk result (λ verdict. (other : Answer) → IsEnvironmentVerdict (design_tree design.now)
+        (levels_of (design_tree design.now) cert.now) other → verdict ≡ other) }
+
+    // A design whose certificate is accepted is lost, in as many steps as its levels tell.
+    ensures lost { result ≡ Ok Verdict.Accepted → Lost (design_tree design.now) }
+    ensures within { result ≡ Ok Verdict.Accepted
+        → IsLostWithin (design_tree design.now) (levels_of (design_tree design.now) cert.now) }
+{
+    sound_designs_of_texts_are_regular();
+    sound_designs_of_texts_have_initial_states();
+    let mut game = ordered_game(alloc, design, &cert.order)?;
+    check_environment(alloc, &mut game, cert)
+}

@@ -1,4 +1,0 @@
-pub mod LeastValues
-pub mod Orders
-pub mod Partition
-pub mod Weights

@@ -1,5 +1,0 @@
-use Rattle.tm_levels.proofs.Weights.{placed_first}
-use Rattle.tm_levels.proofs.order.push_weight.Goals as goal
-
-pub loop-width-init : goal.loop-width-init
-loop-width-init c = placed_first c.args.widths.now c.args.order.now.items c.args.weight

@@ -1,5 +1,0 @@
-use Rattle.tm_levels.proofs.Weights.{IsPlaced}
-use Rattle.tm_levels.proofs.order.push_weight.Given as goal
-
-abbrev pub invariant-loop-width : goal.invariant-loop-width
-invariant-loop-width l = IsPlaced l.widths l.fn.order.items l.weight l.order.items l.start l.width-index

@@ -1,0 +1,23 @@
+use Rattle.std.proofs.Common.{◌<◌, ◌∷◌, [], ℕ, length, map, ap, ◌∙◌, arith}
+use Rattle.std.specs.List.{flat_map}
+use Rattle.std.proofs.lemmas.List.{take_all}
+use Rattle.tm_limits.proofs.LongNames.{long_more}
+use Rattle.tm_limits.specs.LongNames.{first_long}
+use Rattle.tm_syntax.specs.Tree.{InstanceTree}
+use Rattle.tm_syntax.specs.Tree.View.{instance_tree}
+use Rattle.tm_limits.proofs.names.templates.instances_declared.Goals as goal
+
+pub loop-instance-preserved : goal.loop-instance-preserved
+loop-instance-preserved c =
+    let xs = c.args.instances.now in
+    let i : ℕ = c.loop-instance.instance-index in
+    let x = c.instance-item.result in
+    let within : i < length xs = omega arith in
+    long_more (λ (y : InstanceTree). y.name ∷ []) instance_tree xs i x _ _ _ within c.instance-item.is
+    (c.long.ensures) c.earlier-first.ensures c.loop-instance.invariant
+
+pub returns : goal.returns
+returns c =
+    c.loop-instance.invariant
+    ∙ ap (λ xs. first_long (flat_map (λ (y : InstanceTree). y.name ∷ []) (map instance_tree xs)))
+    (take_all c.loop-instance.instance-index c.args.instances.now (omega arith))

@@ -1,0 +1,14 @@
+use Rattle.std.proofs.Common.{◌≡◌, map, take}
+use Rattle.std.specs.List.{flat_map}
+use Rattle.std.specs.Option.{option_copied}
+use Rattle.tm_limits.specs.LongNames.{first_long}
+use Rattle.tm_syntax.specs.Faults.Limits.{type_names}
+use Rattle.tm_syntax.specs.Tree.{LocalTree, ProcessTree}
+use Rattle.tm_syntax.specs.Tree.View.{process_tree}
+use Rattle.tm_limits.proofs.names.templates.processes_types.Given as goal
+
+abbrev pub invariant-loop-process : goal.invariant-loop-process
+invariant-loop-process l =
+    option_copied l.first
+    ≡ first_long (flat_map (λ (p : ProcessTree). flat_map (λ (l : LocalTree). type_names l.ty) p.body.locals)
+    (map process_tree (take l.process-index l.processes)))

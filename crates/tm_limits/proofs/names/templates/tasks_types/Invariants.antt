@@ -1,0 +1,11 @@
+use Rattle.std.proofs.Common.{◌≡◌, map, take}
+use Rattle.std.specs.List.{flat_map}
+use Rattle.std.specs.Option.{option_copied}
+use Rattle.tm_limits.specs.LongNames.{first_long, task_types}
+use Rattle.tm_syntax.specs.Tree.View.{task_tree}
+use Rattle.tm_limits.proofs.names.templates.tasks_types.Given as goal
+
+abbrev pub invariant-loop-task : goal.invariant-loop-task
+invariant-loop-task l =
+    option_copied l.first
+    ≡ first_long (flat_map task_types (map task_tree (take l.task-index l.tasks)))

@@ -1,0 +1,15 @@
+use Rattle.tm_syntax.specs.Tree.View.{spec_tree}
+use Rattle.tm_limits.proofs.shares.task_counts.Goals as goal
+
+pub returns : goal.returns
+returns c = record {
+  order = c.args.order.now;
+  ordered = c.requires.ordered;
+  covers = c.requires.covers;
+  short = c.requires.short;
+  pausing = c.ordered_tasks_are_pausing.ensures (spec_tree c.args.scopes.now) c.args.order.now c.in_ok-pausing.pausing
+      c.requires.covers c.in_ok-pausing.ensures;
+  statements = c.in_ok-statements.ensures;
+  locations = c.in_ok-locations.ensures;
+  paths = c.in_ok-paths.ensures;
+}

@@ -1,9 +1,0 @@
-use Rattle.tm_game.specs.Game.{Grows}
-use Rattle.tm_loading.specs.Inner.Loading.{AreFirst}
-use Rattle.tm_loading.proofs.nodes.load_nodes.Given as goal
-
-abbrev pub invariant-loop-entry : goal.invariant-loop-entry
-invariant-loop-entry l = record {
-  grows : Grows l.fn.game l.game;
-  first : AreFirst l.game.diagrams.table l.nodes l.entry-index l.ids.items;
-}

@@ -1,9 +1,0 @@
-pub mod Driving
-pub mod Passing
-pub mod PlaceTerms
-pub mod Pushing
-pub mod Ranges
-pub mod Ready
-pub mod SetsOf
-pub mod Telling
-pub mod Turning

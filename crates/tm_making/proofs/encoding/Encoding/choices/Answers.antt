@@ -1,6 +1,0 @@
-use Rattle.tm_flat.specs.Inputs.{room}
-use Rattle.tm_making.proofs.encoding.Encoding.choices.Goals as goal
-
-pub returns : goal.returns
-unfolding room
-returns c = c.in_ok-levels.ensures

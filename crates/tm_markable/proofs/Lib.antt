@@ -1,2 +1,0 @@
-mod Conditions
-mod Markable

@@ -1,5 +1,0 @@
-use Rattle.tm_marks.specs.Conditions.{AreInputTerms}
-use Rattle.tm_marks.proofs.conditions.input_terms.Given as goal
-
-abbrev pub invariant-loop-index : goal.invariant-loop-index
-invariant-loop-index l = AreInputTerms l.fn.terms l.terms l.index l.ids.items

@@ -1,7 +1,0 @@
-use Rattle.std.proofs.Common.{take}
-use Rattle.std.specs.List.{AllZip}
-use Rattle.tm_operands.specs.Inner.ParamCells.{IsParamCell}
-use Rattle.tm_operands.proofs.parameters.parameter_cells.Given as goal
-
-abbrev pub invariant-loop-index : goal.invariant-loop-index
-invariant-loop-index l = AllZip (IsParamCell l.scope) (take l.index l.task.params.items) l.cells.items

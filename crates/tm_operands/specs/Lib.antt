@@ -1,4 +1,0 @@
-pub mod Inner
-pub mod Parameters
-pub mod Sorts
-pub mod Typed

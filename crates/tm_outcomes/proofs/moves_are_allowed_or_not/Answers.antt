@@ -1,5 +1,0 @@
-use Rattle.tm_outcomes.proofs.Deciding.{allowed_or_not}
-use Rattle.tm_outcomes.proofs.moves_are_allowed_or_not.Goals as goal
-
-pub returns : goal.returns
-returns c = allowed_or_not

@@ -1,5 +1,0 @@
-use Rattle.tm_outcomes.proofs.Deciding.{calm_or_leads, keeps_or_leads}
-use Rattle.tm_outcomes.proofs.moves_keep_or_lead_out.Goals as goal
-
-pub returns : goal.returns
-returns c = record { one = keeps_or_leads; environment = calm_or_leads }

@@ -1,5 +1,0 @@
-use Rattle.tm_places.proofs.CountedProcesses.{counted_process}
-use Rattle.tm_places.proofs.processes_have_the_locations_of_their_text.Goals as goal
-
-pub returns : goal.returns
-returns c = counted_process

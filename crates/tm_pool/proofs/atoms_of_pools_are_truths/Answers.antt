@@ -1,6 +1,0 @@
-use Rattle.tm_typing.proofs.Sound.{checked}
-use Rattle.tm_pool.proofs.PoolAtoms.{pool_truths}
-use Rattle.tm_pool.proofs.atoms_of_pools_are_truths.Goals as goal
-
-pub returns : goal.returns
-returns c = λ d sound of. pool_truths d (checked d sound of)

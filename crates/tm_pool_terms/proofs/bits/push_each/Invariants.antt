@@ -1,8 +1,0 @@
-use Rattle.std.proofs.Common.{take}
-use Rattle.tm_sem.specs.StateBits.{downwards}
-use Rattle.tm_pool_terms.specs.Inner.Bits.{PushesBits}
-use Rattle.tm_pool_terms.proofs.bits.push_each.Given as goal
-
-abbrev pub invariant-loop-passed : goal.invariant-loop-passed
-invariant-loop-passed l =
-    PushesBits l.index (take l.passed (downwards l.width)) l.fn.terms l.terms l.fn.ids.items l.ids.items

@@ -1,4 +1,0 @@
-pub mod FewPlaces
-pub mod FitDesigns
-pub mod SizedCalls
-pub mod TypedCells

@@ -1,5 +1,0 @@
-use Rattle.tm_runnable.proofs.FitDesigns.{fit_design}
-use Rattle.tm_runnable.proofs.sound_designs_of_texts_are_fit.Goals as goal
-
-pub returns : goal.returns
-returns c = fit_design

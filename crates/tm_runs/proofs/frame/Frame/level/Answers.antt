@@ -1,4 +1,0 @@
-use Rattle.tm_runs.proofs.frame.Frame.level.Goals as goal
-
-pub returns : goal.returns
-returns c = λ i. record { at = c.at.ensures i; depth = c.args.self.now.depth }

@@ -1,5 +1,0 @@
-use Rattle.tm_runs.proofs.Stacks.{owed_next}
-use Rattle.tm_runs.proofs.todo.push.Goals as goal
-
-pub returns : goal.returns
-returns c = owed_next c.push.new.self.items c.args.todo.now.items c.args.next c.in_ok-push.ensures.items

@@ -1,4 +1,0 @@
-pub mod Read
-pub mod Permuted
-pub mod Shapes
-pub mod Values

@@ -1,6 +1,0 @@
-use Rattle.tm_sets.specs.Sets.{id_holds, values_of}
-use Rattle.tm_sets.proofs.ids_of_some_diagram.Goals as goal
-
-pub returns : goal.returns
-unfolding id_holds values_of
-returns c = λ bits low high. rw (low, high)

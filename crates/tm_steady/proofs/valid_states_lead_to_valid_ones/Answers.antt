@@ -1,5 +1,0 @@
-use Rattle.tm_steady.proofs.Stepping.{steps_valid}
-use Rattle.tm_steady.proofs.valid_states_lead_to_valid_ones.Goals as goal
-
-pub returns : goal.returns
-returns c = steps_valid

@@ -1,5 +1,0 @@
-use Rattle.tm_steps.specs.Elements.{PutsSome}
-use Rattle.tm_steps.proofs.elements.put_some.Given as goal
-
-abbrev pub invariant-loop-number : goal.invariant-loop-number
-invariant-loop-number l = PutsSome l.reader l.path l.index l.number l.id l.fn.terms l.terms l.fn.flow l.goes

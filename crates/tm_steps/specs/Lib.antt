@@ -1,4 +1,0 @@
-pub mod Choices
-pub mod Elements
-pub mod Parted
-pub mod Places

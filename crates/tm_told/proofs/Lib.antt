@@ -1,5 +1,0 @@
-pub mod Bits
-pub mod Games
-pub mod Steps
-pub mod Tables
-pub mod Tasks

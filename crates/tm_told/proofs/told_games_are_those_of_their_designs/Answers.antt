@@ -1,5 +1,0 @@
-use Rattle.tm_told.proofs.Games.{is_game_of}
-use Rattle.tm_told.proofs.told_games_are_those_of_their_designs.Goals as goal
-
-pub returns : goal.returns
-returns c = is_game_of

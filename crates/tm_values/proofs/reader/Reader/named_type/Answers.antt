@@ -1,7 +1,0 @@
-use Rattle.tm_values.proofs.Reading.{named_by_tables}
-use Rattle.tm_values.proofs.reader.Reader.named_type.Goals as goal
-
-pub returns : goal.returns
-returns c =
-    named_by_tables c.self.inside.scope c.args.self.now c.self.view_is c.named_type.result c.args.path.now
-    c.named_type.ensures

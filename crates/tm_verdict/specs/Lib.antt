@@ -1,0 +1,11 @@
+pub mod Driver
+pub mod Environment
+pub mod Fitting
+pub mod Found
+pub mod Inner
+pub mod Levels
+pub mod Loaded
+pub mod Regular
+pub mod Reported
+pub mod Sets
+pub mod Tried

@@ -1,5 +1,0 @@
-use Rattle.tm_verdicts.proofs.RefusedLevels.{refused_is_none}
-use Rattle.tm_verdicts.proofs.refused_environments_are_not_certified.Goals as goal
-
-pub returns : goal.returns
-returns c = refused_is_none

@@ -1,4 +1,0 @@
-pub mod Driver
-pub mod Environment
-pub mod Reported
-pub mod Tried

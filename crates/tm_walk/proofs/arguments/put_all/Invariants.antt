@@ -1,5 +1,0 @@
-use Rattle.tm_walk.proofs.Passed.{PutsSoFar}
-use Rattle.tm_walk.proofs.arguments.put_all.Given as goal
-
-abbrev pub invariant-loop-index : goal.invariant-loop-index
-invariant-loop-index l = PutsSoFar l.at l.cells l.values l.index l.fn.flow l.goes
