@@ -10,7 +10,7 @@ flags="-std=c11 -Wall -Wextra -Werror -Wno-unused-label -Wno-parentheses-equalit
 if [ $# -eq 0 ]; then
     set -- $(seq 1 40)
 fi
-(cd "$here/../../crates/driver_samples" && printf '%s\n' "$@" | rt try > "$work/all" 2> "$work/said") || { cat "$work/said" >&2; exit 1; }
+(cd "$here/../../crates/test_compilers" && printf '%s\n' "$@" | rt try > "$work/all" 2> "$work/said") || { cat "$work/said" >&2; exit 1; }
 # each sample begins with its include line
 csplit -s -z -f "$work/sample" -n 4 "$work/all" '/^#include/' '{*}'
 compilers=0

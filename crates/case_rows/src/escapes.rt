@@ -31,12 +31,13 @@ pub fn unescaped(alloc: Global, text: &str) -> Result<Vec<u8>, AllocError> {
     Ok(bytes)
 }
 
-/// The spelling in a row of an ASCII text whose only controls are line feeds.
+/// The spelling in a row of an ASCII text whose only controls are line feeds and tabs.
 pub fn escaped(alloc: Global, bytes: &[u8]) -> Result<String, AllocError> {
     let mut text = String::new(alloc);
     for byte in bytes {
         match *byte {
             b'\n' => text.push_str("\\n")?,
+            b'\t' => text.push_str("\\t")?,
             b'\\' => text.push_str("\\\\")?,
             byte => text.push(char::from(byte))?,
         }

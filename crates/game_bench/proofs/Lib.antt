@@ -1,4 +1,0 @@
-mod Counts
-mod GoalSets
-mod Known
-mod StateWidths

@@ -1,5 +1,0 @@
-//! The bits that numbers need.
-#![tactic(auto)]
-
-#[cfg(test)]
-mod tests;

@@ -1,5 +1,0 @@
-use Rattle.solve_cases.proofs.ExampleFacts.{exact_of}
-use Rattle.solve_cases.proofs.tests.ExamplePre.fairs.Goals as goal
-
-pub returns-clause-exact : goal.returns-clause-exact
-returns-clause-exact c = exact_of c.args.self.now.store c.levels-levels.ensures.reduced c.args.self.now.two

@@ -1,5 +1,0 @@
-//! A game worked out by hand, solved.
-#![tactic(auto)]
-
-#[cfg(test)]
-mod tests;
