@@ -8,6 +8,7 @@ use Rattle.tm_base.specs.declared.files.Files.{Ghosts as FilesGhosts}
 use Rattle.tm_syntax.specs.Faults.{too_long}
 use Rattle.tm_report.specs.declared.ending.Ending.{Ending}
 use Rattle.tm_report.specs.declared.ending.Failure.TheVariants.{ReadFault, WriteFault, Memory}
+use Rattle.tm_report.proofs.Counts.{rose_later}
 use Rattle.tm_commands.specs.declared.stop.Stop.{Stop}
 use Rattle.tm_commands.specs.declared.stop.Stop.TheVariants.{Ends, Fails}
 use Rattle.tm_commands.specs.World.{FilesData, files_data, OnlyReads}

@@ -29,7 +29,7 @@ game_data a = record {
 pub record IsGame (a : Inside) : Type 0 where
   pub shape : IsShape (setting_of a.encoding) (flat_terms a.flat) a.order.items
   pub terms : HasTerms (setting_of a.encoding) (flat_terms a.flat)
-  pub levels : length a.order.items + 128 ≤ a.dd.table.levels
+  pub levels : length a.order.items + 128 + length a.flat.pool.items ≤ a.dd.table.levels
   pub ready : IsReady (setting_of a.encoding) a.dd.table a.bits
   pub steps : IsMadeGame (setting_of a.encoding) (flat_terms a.flat) a.dd.table a.made
   pub answers : AreAnswers a.dd.table (game_of a.dd.table a.made.steps) a.recent

@@ -5,5 +5,6 @@ pub mod Kept
 pub mod Layout
 pub mod Least
 pub mod Moves
+pub mod Operations
 pub mod Shape
 pub mod Start

@@ -42,11 +42,14 @@ impl Model for Game {
 }
 
 impl Game {
-    /// The place of the bit of each level of a state: each place once. It takes no memory.
+    /// The place of the bit of each level of a state: each place once. Behind these levels stand 128 of bits of
+    /// arguments and of choices, and then one for each predicate of the pool. It takes no memory.
     pub fn order(&self) -> &[u32]
         ensures value { result.now ≡ self.now.order }
         ensures places { IsOrder (state_bits_in self.now.flat) self.now.order }
         ensures levels { length self.now.order + 128 ≤ self.now.diagrams.table.levels }
+        ensures predicates { length self.now.order + 128 + length self.now.flat.pool
+            ≤ self.now.diagrams.table.levels }
     {
         &self.order
     }

@@ -12,6 +12,7 @@ use Rattle.tm_game.specs.Game.{GameData, IsOf}
 use Rattle.tm_game.specs.Start.{CanStart, state_bits_in}
 use Rattle.tm_game.proofs.Ordered.{widths_are}
 use Rattle.tm_game_bits.specs.Order.{IsOrder}
+use Rattle.tm_game_pool.specs.Pooled.{HasPool}
 use Rattle.tm_sem.specs.Fairness.{conditions}
 use Rattle.tm_sem.specs.StateBits.{state_widths}
 use Rattle.tm_syntax.specs.Design.{DesignTree}
@@ -37,10 +38,11 @@ module _ (d : DesignTree) (t : Table) (f : FlatTerms) (can : CanStart d t f) (or
     inputs_are = terms.inputs ∙ can.flat.inputs ∙ sym can.flat.widths
 
     -- a game that was made in this order
-    pub ordered : IsOf d g → length g.order + 128 ≤ g.diagrams.table.levels →
+    pub ordered : IsOf d g → HasPool d g → length g.order + 128 ≤ g.diagrams.table.levels →
         length g.goals ≡ length g.flat.goals → length g.fairs ≡ length g.flat.fairs → IsOrderedGame d order g
-    ordered of levels goals fairs = record {
+    ordered of pool levels goals fairs = record {
       of = of;
+      pool = pool;
       follows = follows;
       places = subst (λ (h : FlatTerms). IsOrder (state_bits_in h) g.order) (sym flat)
           (subst (IsOrder (state_bits_in f)) (sym follows) order_starts);

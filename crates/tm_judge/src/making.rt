@@ -1,9 +1,10 @@
 //! The game of a design.
 ghost use Rattle.std.specs.Prelude.{IfOk, sum};
+ghost use Rattle.tm_judge.specs.Inner.Updates.{AreUpdates};
 ghost use Rattle.tm_judge.specs.Ordered.{IsOrderedGame};
 ghost use Rattle.tm_flat.specs.Flat.{flat_terms};
 ghost use Rattle.tm_game.specs.Game.{IsOf};
-ghost use Rattle.tm_game.specs.Start.{CanStart};
+ghost use Rattle.tm_game_pool.specs.Pooled.{HasPool};
 ghost use Rattle.tm_game_bits.specs.Order.{IsOrder};
 ghost use Rattle.tm_sem.specs.StateBits.{state_widths};
 ghost use Rattle.tm_syntax.specs.Design.View.{design_tree};
@@ -27,7 +28,7 @@ struct Updates {
 fn make_updates(alloc: Global, design: &Design) -> Result<Updates, AllocError>
     requires sound { IsSound (design_tree design.now) }
     requires of_text { IsOfText (design_tree design.now).spec }
-    ensures { IfOk result (λ u. CanStart (design_tree design.now) u.terms (flat_terms u.flat)) }
+    ensures { IfOk result (λ u. AreUpdates (design_tree design.now) u.terms (flat_terms u.flat)) }
 {
     sound_designs_of_texts_are_markable();
     let mut terms = empty_terms(alloc, design)?;
@@ -35,13 +36,15 @@ fn make_updates(alloc: Global, design: &Design) -> Result<Updates, AllocError>
     Ok(Updates { flat, terms })
 }
 
-/// The symbolic game of a design of a text, from its guarded updates: the levels of a state are its places in order.
+/// The symbolic game of a design of a text, from its guarded updates: the levels of a state are its places in order,
+/// and the pool is that of the design.
 ///
 /// `AllocError` is want of memory.
 pub fn game_of(alloc: Global, design: &Design) -> Result<Game, AllocError>
     requires sound { IsSound (design_tree design.now) }
     requires of_text { IsOfText (design_tree design.now).spec }
-    ensures { IfOk result (IsOf (design_tree design.now)) }
+    ensures of { IfOk result (IsOf (design_tree design.now)) }
+    ensures pool { IfOk result (HasPool (design_tree design.now)) }
 {
     let made = make_updates(alloc, design)?;
     let game = Game::new(alloc, made.flat, made.terms)?;

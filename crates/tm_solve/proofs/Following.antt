@@ -11,7 +11,9 @@ pub extends_then : {a b c : Ids} → Extends a b → Extends b c → Extends a c
 extends_then d e = record {
   known = λ id known. e.known id (d.known id known);
   same = λ id known. e.same id (d.known id known) ∙ d.same id known;
+  kept = λ id is. let k = d.kept id is in let l = e.kept id k.0 in (l.0, l.1 ∙ k.1);
   of = λ design is. e.of design (d.of design is);
+  side = e.side ∙ d.side;
 }
 
 pub follows_then : {g h k : Game} {a b c : Ids} → Follows g a h b → Follows h b k c → Follows g a k c

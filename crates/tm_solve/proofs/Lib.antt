@@ -1,5 +1,5 @@
 mod Fixed
-mod Following
+pub mod Following
 mod Items
 mod Joins
 mod LevelCertificates

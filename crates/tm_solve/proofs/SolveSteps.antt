@@ -12,8 +12,9 @@ use Rattle.tm_solve.specs.Sets.{StateSet, IsAmong, IsWithin, IsSame, count}
 use Rattle.tm_solve.specs.Game.{Game, IsMonotone, IsAbsorbing}
 use Rattle.tm_solve.specs.Ids.{Ids, IsExact, Extends}
 use Rattle.tm_solve.specs.Fixpoints.{InReach, InRegion, Holds}
+use Rattle.tm_solve.specs.Levels.{LevelsFit}
 use Rattle.tm_solve.specs.Ranks.{AreRanks, last_ranked, RankGoal, RanksFit}
-use Rattle.tm_solve.specs.Iterates.{Each, KnowsRanks, EndAt, ranked_set, ranked_sets, driver_sets, last_id}
+use Rattle.tm_solve.specs.Iterates.{Each, KnowsRanks, EndAt, level_of, ranked_set, ranked_sets, driver_sets, last_id}
 use Rattle.tm_solve.specs.Inner.Rounds.{IsLeveled, IsRemaining, RegionSoFar}
 use Rattle.tm_solve.proofs.Sets.{both_same, count_gains}
 use Rattle.tm_solve.proofs.Following.{other_gains}
@@ -28,6 +29,13 @@ remaining_at g h ids z r same_game is = subst (λ (q : Game). IsRemaining q ids 
 pub leveled_at : (g h : Game) (ids : Ids) (z : NodeId) (items : List LevelSet) → h ≡ g → IsLeveled h ids z items →
     IsLeveled g ids z items
 leveled_at g h ids z items same_game is = subst (λ (q : Game). IsLeveled q ids z items) same_game is
+
+-- levels that lead to all outside what is left fit the region
+pub levels_end : (g : Game) (ids : Ids) (left z : NodeId) (items : List LevelSet) → left ≡ z →
+    IsLeveled g ids left items → LevelsFit g (ids.means z) (map (level_of ids) items)
+levels_end g ids left z items same l =
+    subst (λ (id : NodeId). LevelsFit g (ids.means id) (map (level_of ids) items)) same
+    (record { levels = l.levels; last = l.last })
 
 -- the id of the last ranked set is known, and means the last set
 last_known : (ids : Ids) (id : NodeId) (rs : List RankSet) → ids.knows id → KnowsRanks ids rs →

@@ -17,4 +17,4 @@ pub use certificates::{
 };
 pub use iterates::{Chain, Iterates, LevelSet, RankSet, Ranking};
 pub use pre::Pre;
-pub use solving::solve;
+pub use solving::{solve, solve_from};

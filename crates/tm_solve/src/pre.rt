@@ -10,14 +10,14 @@ use tm_dd::NodeId;
 /// A step operator of a GR(1) game over sets of states, which are named by ids.
 ///
 /// A state is a valid state of a design. Sets are compared at the valid states alone. Of known ids, equal ones are
-/// exactly equal sets. No call changes the game or its designs, and after each call, also one that is refused, every
-/// known id means what it meant. An implementation may ask more of a known id, as that its set is a union of cells:
-/// each id of a solution is a known one.
+/// exactly equal sets. No call changes the game, its designs or the side, and after each call, also one that is
+/// refused, every known id means what it meant. An implementation may ask more of a known id, as that its set is a
+/// union of cells: each id of a solution is a known one. Ids of which it does not ask so much are kept beside them.
 pub trait Pre {
     /// The valid states, the numbers of goals and fairness conditions, and the step operator.
     ghost game: { Self → Game };
 
-    /// Which ids are known, what they mean, and of which designs their sets are.
+    /// Which ids are known, which are kept, what they mean, of which designs their sets are, and the side.
     ghost ids: { Self → Ids };
 
     /// The number of goals.

@@ -17,7 +17,8 @@ pub(crate) struct Remaining {
     pub(crate) ranks: Vec<Ranking>,
 }
 
-// The states of z in AND_j mu Y . OR_i nu X . part(z, Y, X, j, i). Each goal that loses a state adds a level.
+// The states of z in AND_j mu Y . OR_i nu X . part(z, Y, X, j, i). Each goal that loses a state adds a level. Levels
+// that led to all outside z lead to all outside what is left.
 pub(crate) fn play_round<P: Pre>(
     alloc: Global,
     pre: &mut P,
@@ -25,9 +26,9 @@ pub(crate) fn play_round<P: Pre>(
     levels: &mut Vec<LevelSet>,
 ) -> Result<Remaining, AllocError>
     requires z_known { (P.ids pre.old).knows z }
-    requires leveled { IsLeveled (P.game pre.old) (P.ids pre.old) z levels.old.items }
     ensures remaining { IfOk result (λ r. IsRemaining (P.game pre.old) (P.ids pre.new) ((P.ids pre.old).means z) r) }
-    ensures leveled { IfOk result (λ r. IsLeveled (P.game pre.old) (P.ids pre.new) r.region levels.new.items) }
+    ensures leveled { IfOk result (λ r. IsLeveled (P.game pre.old) (P.ids pre.old) z levels.old.items
+        → IsLeveled (P.game pre.old) (P.ids pre.new) r.region levels.new.items) }
     ensures follows { Follows (P.game pre.old) (P.ids pre.old) (P.game pre.new) (P.ids pre.new) }
 {
     let goals = pre.goals();

@@ -1,16 +1,19 @@
 //! The winning region: the greatest fixpoint over Z.
-ghost use Rattle.std.specs.Prelude.{IfOk};
+ghost use Rattle.std.specs.Prelude.{◌≡◌, true, [], IfOk};
 ghost use Rattle.tm_solve.specs.Fixpoints.{Holds, InRegion};
 ghost use Rattle.tm_solve.specs.Ids.{Follows};
 ghost use Rattle.tm_solve.specs.Iterates.{driver_sets, EndAt, KnowsAll, levels_of};
 ghost use Rattle.tm_solve.specs.Levels.{LevelsFit};
 ghost use Rattle.tm_solve.specs.Ranks.{RanksFit};
+ghost use Rattle.tm_solve.specs.Sets.{IsAmong};
+ghost use Rattle.tm_sem.specs.State.{StateData};
 
 use crate::ids::same;
 use crate::iterates::Iterates;
 use crate::pre::Pre;
 use crate::rounds::play_round;
 use std::alloc::{AllocError, Global};
+use tm_dd::NodeId;
 
 /// The winning region of a GR(1) game, nu Z . AND_j mu Y . OR_i nu X . part(Z, Y, X, j, i) (Piterman, Pnueli and Sa'ar
 /// 2006), with ranked sets that lead to each goal and levels that lead out of all states.
@@ -46,5 +49,36 @@ pub fn solve<P: Pre>(alloc: Global, pre: &mut P) -> Result<Iterates, AllocError>
             });
         }
         z = remaining.region;
+    }
+}
+
+/// The winning region from a known set that holds it: the same region with ranked sets, as `solve` gives them, and no
+/// levels, since these lead out of all states. A start near the region, as that of a solution over fewer cells, takes
+/// fewer rounds.
+pub fn solve_from<P: Pre>(alloc: Global, pre: &mut P, start: NodeId) -> Result<Iterates, AllocError>
+    requires known { (P.ids pre.old).knows start }
+    requires above { (s : StateData) → IsAmong s (P.game pre.old).states → InRegion (P.game pre.old) s
+        → (P.ids pre.old).means start s ≡ true }
+    ensures region { IfOk result (λ it.
+        Holds (P.game pre.old).states ((P.ids pre.new).means it.region) (InRegion (P.game pre.old))) }
+    ensures known { IfOk result (λ it. KnowsAll (P.ids pre.new) it) }
+    ensures ranks { IfOk result (λ it. RanksFit (P.game pre.old) (driver_sets (P.ids pre.new) it)) }
+    ensures last { IfOk result (λ it. EndAt it.region it.ranks.items) }
+    ensures no_levels { IfOk result (λ it. it.levels.items ≡ []) }
+    ensures follows { Follows (P.game pre.old) (P.ids pre.old) (P.game pre.new) (P.ids pre.new) }
+{
+    let _goals = pre.goals();
+    let mut z = start;
+    'rounds: loop {
+        let mut unused = Vec::new(alloc);
+        let played = play_round(alloc, pre, z, &mut unused)?;
+        if same(played.region, z) {
+            return Ok(Iterates {
+                region: z,
+                ranks: played.ranks,
+                levels: Vec::new(alloc),
+            });
+        }
+        z = played.region;
     }
 }

@@ -37,7 +37,7 @@ use Rattle.tm_term.specs.Value.{value_of}
 use Rattle.tm_term.proofs.Valued.{value_of-below}
 use Rattle.tm_game_bits.specs.Told.{inputs_at}
 use Rattle.tm_solve_exact.specs.Coding.{coding_in}
-use Rattle.tm_solve_exact.specs.Exact.{IsExactOf, IsStateSet, bit_set, coding, exact_game, exact_ids, exact_operator, functions, set_of, states_of, stays_out, valid_set}
+use Rattle.tm_solve_exact.specs.Exact.{exact_side, IsExactOf, IsStateSet, bit_set, coding, exact_game, exact_ids, exact_operator, functions, set_of, states_of, stays_out, valid_set}
 use Rattle.tm_solve_exact.proofs.Coded.{coding_is, state_is}
 use Rattle.tm_solve_exact.proofs.Staying.{bit_set_reads, iff_same, stays_same, told_among}
 use Rattle.tm_solve_exact.proofs.Telling.{is_game}
@@ -256,10 +256,15 @@ follows_told d g h is grows reduced =
       game = same;
       extends = record {
         known = kept_set d g is h grows;
-        same = λ id set. λ i s.
-            means-Extends g.diagrams.table h.diagrams.table grows.diagrams id set.set.known i
-            ((same_coding d g is h grows i).assignment_of s);
+        same = means_kept;
+        kept = λ id set. (kept_set d g is h grows id set, means_kept id set);
         of = λ e other. kept_exact e g other h grows;
+        side = ap exact_side same;
       };
       exact = subst (λ (q : Game). IsExact q.states (exact_ids h)) same (exact_told d h after reduced);
     }
+  where
+    means_kept : (id : NodeId) → IsStateSet g id → set_of h id ≡ set_of g id
+    means_kept id set = λ i s.
+        means-Extends g.diagrams.table h.diagrams.table grows.diagrams id set.set.known i
+        ((same_coding d g is h grows i).assignment_of s)

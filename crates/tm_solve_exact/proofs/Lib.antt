@@ -1,7 +1,6 @@
 pub mod Answering
 pub mod Coded
 pub mod Exactness
-pub mod Following
 pub mod Growing
 pub mod Parted
 pub mod Staying

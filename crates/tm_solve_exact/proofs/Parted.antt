@@ -10,7 +10,7 @@ use Rattle.tm_solve.specs.Game.{Game}
 use Rattle.tm_solve.specs.Ids.{Follows, Ids, Is}
 use Rattle.tm_solve.specs.Operator.{part_of}
 use Rattle.tm_solve.specs.Sets.{IsAmong, StateSet}
-use Rattle.tm_solve_exact.proofs.Following.{is_at, is_kept}
+use Rattle.tm_solve.proofs.Following.{is_at, is_kept}
 use Rattle.tm_solve_exact.specs.Exact.{HasDesign, IsStateSet, exact_game, exact_ids, exact_operator, set_of}
 use Rattle.tm_solve_exact.proofs.Growing.{same_coding, same_fair, same_goal, same_told, stay_told}
 

@@ -1,5 +1,5 @@
 -- What follows where a game is that of some design.
-use Rattle.std.proofs.Common.{◌≡◌, Result, Ok, Err, IfOk}
+use Rattle.std.proofs.Common.{◌≡◌, ap, Result, Ok, Err, IfOk}
 use Rattle.std.proofs.Math.Logic.{∥∥₁_elim}
 use Rattle.std.proofs.Props.{props}
 use Rattle.tm_dd.specs.declared.node.NodeId.{NodeId}
@@ -7,7 +7,7 @@ use Rattle.tm_dd.specs.Reduced.{IsReduced}
 use Rattle.tm_game.specs.Game.{GameData, Grows}
 use Rattle.tm_solve.specs.Ids.{Follows, Is, IsExact}
 use Rattle.tm_solve.specs.Sets.{StateSet}
-use Rattle.tm_solve_exact.specs.Exact.{HasDesign, IsStateSet, exact_game, exact_ids, set_of}
+use Rattle.tm_solve_exact.specs.Exact.{HasDesign, IsStateSet, exact_game, exact_ids, exact_side, set_of}
 use Rattle.tm_solve_exact.proofs.Growing.{follows_told, kept_exact}
 
 pub set_prop : (g : GameData) (id : NodeId) → IsProp (IsStateSet g id)
@@ -42,7 +42,12 @@ follows_any g h of grows reduced = record {
         ∥∥₁_elim of (set_prop h id) (λ x. (follows_told x.0 g h x.1 grows reduced).extends.known id known);
     same = λ id known.
         ∥∥₁_elim of (same_prop g h id) (λ x. (follows_told x.0 g h x.1 grows reduced).extends.same id known);
+    kept = λ id known. (
+      ∥∥₁_elim of (set_prop h id) (λ x. (follows_told x.0 g h x.1 grows reduced).extends.known id known),
+      ∥∥₁_elim of (same_prop g h id) (λ x. (follows_told x.0 g h x.1 grows reduced).extends.same id known),
+    );
     of = λ d is. kept_exact d g is h grows;
+    side = ap exact_side (∥∥₁_elim of (game_prop g h) (λ x. (follows_told x.0 g h x.1 grows reduced).game));
   };
   exact = ∥∥₁_elim of (exact_prop g h) (λ x. (follows_told x.0 g h x.1 grows reduced).exact);
 }

@@ -15,7 +15,7 @@ use Rattle.tm_game_bits.specs.Order.{IsOrder}
 use Rattle.tm_sem.specs.Fairness.{conditions}
 use Rattle.tm_sem.specs.State.{StateData}
 use Rattle.tm_solve.specs.Game.{Game}
-use Rattle.tm_solve.specs.Ids.{Ids}
+use Rattle.tm_solve.specs.Ids.{Ids, Side}
 use Rattle.tm_solve.specs.Operator.{Operator, game_of}
 use Rattle.tm_solve.specs.Sets.{StateSet}
 use Rattle.tm_syntax.specs.Design.{DesignTree}
@@ -128,6 +128,16 @@ pub record IsExactOf (d : DesignTree) (g : GameData) : Type 0 where
 abbrev pub HasDesign : GameData → Type 0
 HasDesign g = ∥ ((d : DesignTree) × IsExactOf d g) ∥₁
 
--- the ids that are known, their sets, and the designs of the game
+-- the side of the exact operator, whose parts are the sets themselves
+abbrev pub exact_side : Game → Side
+exact_side game = record { tracked = []; upper = false; game = game }
+
+-- the ids that are known, all of which are kept, their sets, the designs of the game, and the side
 abbrev pub exact_ids : GameData → Ids
-exact_ids g = record { knows = IsStateSet g; means = set_of g; of = λ d. IsExactOf d g }
+exact_ids g = record {
+  knows = IsStateSet g;
+  kept = IsStateSet g;
+  means = set_of g;
+  of = λ d. IsExactOf d g;
+  side = exact_side (exact_game g);
+}

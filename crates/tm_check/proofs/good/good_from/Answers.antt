@@ -5,6 +5,7 @@ use Rattle.tm_check.specs.Good.{FitsReply, IsGoodReply}
 use Rattle.tm_check.proofs.Growth.{move_before, test_before}
 use Rattle.tm_check.proofs.good.good_from.Goals as goal
 use Rattle.tm_dd.specs.declared.node.NodeId.{NodeId}
+use Rattle.tm_game.proofs.Growing.{grows_then}
 
 pub compose-requires-clause-parts : goal.compose-requires-clause-parts
 compose-requires-clause-parts c =
@@ -40,3 +41,9 @@ returns-in_ok-good-in-Move-clause-good c =
     c.in_ok-given-in-Move.given c.in_ok-good-in-Move.good c.deref.result.now c.in-Move.arguments.items
     c.deref.ensures.value fits.1 fits.2 fits.0 fits.3 move_is c.in_ok-given-in-Move.ensures.answer
     c.in_ok-good-in-Move.ensures.answer)
+
+pub returns-in_err-good-in-Move-clause-grows : goal.returns-in_err-good-in-Move-clause-grows
+returns-in_err-good-in-Move-clause-grows c = grows_then _ _ _ c.compose.ensures.grows c.and.ensures.grows
+
+pub returns-in_ok-good-in-Move-clause-grows : goal.returns-in_ok-good-in-Move-clause-grows
+returns-in_ok-good-in-Move-clause-grows c = grows_then _ _ _ c.compose.ensures.grows c.and.ensures.grows

@@ -19,9 +19,10 @@ loop-goal-preserved g c =
           c.reach.ensures.follows.extends c.remove.ensures.follows.extends left;
       reached = reached_more c.loop-goal.ranks.items _ c.in_ok-reached.reached inv.reached r
           c.reach.ensures.follows.extends c.remove.ensures.follows.extends c.in_ok-push.ensures.items;
-      leveled = level_added (g.P.Pre.game c.args.pre.now) (g.met.P.Pre.monotone c.args.pre.now) _ c.loop-goal.goal
+      leveled = λ begun.
+          level_added (g.P.Pre.game c.args.pre.now) (g.met.P.Pre.monotone c.args.pre.now) _ c.loop-goal.goal
           c.loop-goal.region c.in_ok-region.region c.in_ok-reached.reached c.loop-goal.levels.items
-          c.remove.new.levels.items below inv.round inv.leveled r c.reach.ensures.follows.extends
+          c.remove.new.levels.items below inv.round (inv.leveled begun) r c.reach.ensures.follows.extends
           c.remove.ensures.follows.extends all.exact left
           (removed_at (g.P.Pre.game c.args.pre.now) (g.P.Pre.game c.reach.new.pre) (g.P.Pre.ids c.remove.new.pre)
           c.loop-goal.region c.loop-goal.goal _ c.in_ok-region.region _ _ to_reach.game c.in_ok-region.ensures.levels);

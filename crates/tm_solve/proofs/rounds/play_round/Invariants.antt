@@ -8,5 +8,6 @@ invariant-loop-goal g l = record {
   round : RoundSoFar (g.P.Pre.game l.fn.pre) (g.P.Pre.ids l.pre) ((g.P.Pre.ids l.fn.pre).means l.z) l.goal l.region;
   reached : AreReached (g.P.Pre.game l.fn.pre) (g.P.Pre.ids l.pre) ((g.P.Pre.ids l.fn.pre).means l.z) l.goal
       l.ranks.items;
-  leveled : IsLeveled (g.P.Pre.game l.fn.pre) (g.P.Pre.ids l.pre) l.region l.levels.items;
+  leveled : IsLeveled (g.P.Pre.game l.fn.pre) (g.P.Pre.ids l.fn.pre) l.z l.fn.levels.items →
+      IsLeveled (g.P.Pre.game l.fn.pre) (g.P.Pre.ids l.pre) l.region l.levels.items;
 }

@@ -1,6 +1,6 @@
-use Rattle.std.proofs.Common.{refl}
+use Rattle.std.proofs.Common.{refl, sym}
 use Rattle.tm_solve.proofs.Following.{follows_then, told_same, told_other}
-use Rattle.tm_solve.proofs.SolveSteps.{remaining_at, leveled_at, region_goes_on, region_shrinks, region_ends, ranks_fit, last_ends}
+use Rattle.tm_solve.proofs.SolveSteps.{remaining_at, leveled_at, region_goes_on, region_shrinks, region_ends, ranks_fit, last_ends, levels_end}
 use Rattle.tm_solve.proofs.solving.solve.Goals as goal
 
 pub returns-then-same-clause-ranks : goal.returns-then-same-clause-ranks
@@ -36,6 +36,31 @@ returns-then-same-clause-region g c =
     c.rounds.z c.in_ok-remaining.remaining inv.region r c.play_round.ensures.follows.extends
     (told_same c.if-same.ensures)
 
+pub returns-then-same-clause-levels : goal.returns-then-same-clause-levels
+returns-then-same-clause-levels g c =
+    let inv = c.rounds.invariant in
+    let l = leveled_at (g.P.Pre.game c.args.pre.now) (g.P.Pre.game c.rounds.pre) (g.P.Pre.ids c.play_round.new.pre)
+    c.in_ok-remaining.remaining.region c.play_round.new.levels.items inv.follows.game
+    (c.in_ok-remaining.ensures.leveled
+    (leveled_at (g.P.Pre.game c.rounds.pre) (g.P.Pre.game c.args.pre.now) (g.P.Pre.ids c.rounds.pre) c.rounds.z
+    c.rounds.levels.items (sym inv.follows.game) inv.leveled)) in
+    levels_end (g.P.Pre.game c.args.pre.now) (g.P.Pre.ids c.play_round.new.pre) c.in_ok-remaining.remaining.region
+    c.rounds.z c.play_round.new.levels.items (told_same c.if-same.ensures) l
+
+pub returns-then-same-clause-known : goal.returns-then-same-clause-known
+returns-then-same-clause-known g c =
+    let inv = c.rounds.invariant in
+    let l = leveled_at (g.P.Pre.game c.args.pre.now) (g.P.Pre.game c.rounds.pre) (g.P.Pre.ids c.play_round.new.pre)
+    c.in_ok-remaining.remaining.region c.play_round.new.levels.items inv.follows.game
+    (c.in_ok-remaining.ensures.leveled
+    (leveled_at (g.P.Pre.game c.rounds.pre) (g.P.Pre.game c.args.pre.now) (g.P.Pre.ids c.rounds.pre) c.rounds.z
+    c.rounds.levels.items (sym inv.follows.game) inv.leveled)) in
+    record {
+      region = c.play_round.ensures.follows.extends.known c.rounds.z inv.region.known;
+      ranks = c.in_ok-remaining.ensures.remaining.ranks.known;
+      levels = l.known;
+    }
+
 pub rounds-smaller : goal.rounds-smaller
 rounds-smaller g c =
     let inv = c.rounds.invariant in
@@ -56,5 +81,7 @@ rounds-preserved g c =
           c.in_ok-remaining.remaining inv.region r;
       leveled = leveled_at (g.P.Pre.game c.args.pre.now) (g.P.Pre.game c.rounds.pre) (g.P.Pre.ids c.play_round.new.pre)
           c.in_ok-remaining.remaining.region c.play_round.new.levels.items inv.follows.game
-          c.in_ok-remaining.ensures.leveled;
+          (c.in_ok-remaining.ensures.leveled
+          (leveled_at (g.P.Pre.game c.rounds.pre) (g.P.Pre.game c.args.pre.now) (g.P.Pre.ids c.rounds.pre) c.rounds.z
+          c.rounds.levels.items (sym inv.follows.game) inv.leveled));
     }

@@ -1,7 +1,7 @@
 use Rattle.std.proofs.Common.{◌<◌, List, length, subst, sym}
 use Rattle.std.proofs.lemmas.Result.{IfOk-weaker}
 use Rattle.tm_dd.specs.declared.node.NodeId.{NodeId}
-use Rattle.tm_solve_exact.proofs.Following.{follows_then}
+use Rattle.tm_solve.proofs.Following.{follows_then}
 use Rattle.tm_game.proofs.Growing.{grows_then}
 use Rattle.tm_solve_exact.proofs.Parted.{part_told}
 use Rattle.tm_solve_exact.proofs.parts.part.Goals as goal

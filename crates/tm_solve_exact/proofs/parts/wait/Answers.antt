@@ -6,7 +6,7 @@ use Rattle.tm_dd.specs.declared.node.NodeId.{NodeId}
 use Rattle.tm_dd.specs.declared.node.TheConstants.{FALSE}
 use Rattle.tm_sem.specs.Fairness.{IsFair}
 use Rattle.tm_solve.specs.Game.{Game}
-use Rattle.tm_solve_exact.proofs.Following.{follows_then}
+use Rattle.tm_solve.proofs.Following.{follows_then}
 use Rattle.tm_solve_exact.specs.Exact.{exact_game, exact_ids, exact_operator, set_of}
 use Rattle.tm_solve_exact.proofs.Growing.{states_set}
 use Rattle.tm_game.proofs.Growing.{grows_then}

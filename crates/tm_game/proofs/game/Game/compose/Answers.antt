@@ -1,6 +1,7 @@
 use Rattle.std.proofs.Common.{Contains, map, sym, subst}
 use Rattle.tm_dd.specs.declared.node.NodeId.{NodeId}
 use Rattle.tm_dd.specs.Table.{Knows}
+use Rattle.tm_ddops.specs.Manager.{Grows}
 use Rattle.tm_game.specs.Game.{GameData}
 use Rattle.tm_game.proofs.Extending.{extended_only, grows_from}
 use Rattle.tm_game.proofs.game.Game.compose.Goals as goal
@@ -18,14 +19,10 @@ pub invariant_of-self : goal.invariant_of-self
 invariant_of-self c =
     extended_only c.self.inside c.compose.new.self c.self.invariant c.compose.ensures.grows.extends
 
-pub invariant_of-self-2 : goal.invariant_of-self-2
-invariant_of-self-2 c =
-    extended_only c.self.inside c.compose.new.self c.self.invariant c.compose.ensures.grows.extends
-
-pub returns-in_err-id-clause-grows : goal.returns-in_err-id-clause-grows
-returns-in_err-id-clause-grows c =
-    grows_from c.self.inside _ c.self.view_is c.compose.new.self c.self.inside.recent c.compose.ensures.grows.extends
-
 pub returns-clause-grows : goal.returns-clause-grows
 returns-clause-grows c =
     grows_from c.self.inside _ c.self.view_is c.compose.new.self c.self.inside.recent c.compose.ensures.grows.extends
+
+pub returns-clause-diagrams : goal.returns-clause-diagrams
+returns-clause-diagrams c =
+    subst (λ (g : GameData). Grows g.diagrams c.compose.new.self) c.self.view_is c.compose.ensures.grows

@@ -1,5 +1,6 @@
 use Rattle.std.proofs.Common.{sym, subst}
 use Rattle.tm_dd.specs.Table.{Knows}
+use Rattle.tm_ddops.specs.Manager.{Grows}
 use Rattle.tm_game.specs.Game.{GameData}
 use Rattle.tm_game.proofs.Extending.{extended_only, grows_from}
 use Rattle.tm_game.proofs.game.Game.exists.Goals as goal
@@ -13,14 +14,10 @@ pub invariant_of-self : goal.invariant_of-self
 invariant_of-self c =
     extended_only c.self.inside c.exists.new.self c.self.invariant c.exists.ensures.grows.extends
 
-pub invariant_of-self-2 : goal.invariant_of-self-2
-invariant_of-self-2 c =
-    extended_only c.self.inside c.exists.new.self c.self.invariant c.exists.ensures.grows.extends
-
-pub returns-in_err-id-clause-grows : goal.returns-in_err-id-clause-grows
-returns-in_err-id-clause-grows c =
-    grows_from c.self.inside _ c.self.view_is c.exists.new.self c.self.inside.recent c.exists.ensures.grows.extends
-
 pub returns-clause-grows : goal.returns-clause-grows
 returns-clause-grows c =
     grows_from c.self.inside _ c.self.view_is c.exists.new.self c.self.inside.recent c.exists.ensures.grows.extends
+
+pub returns-clause-diagrams : goal.returns-clause-diagrams
+returns-clause-diagrams c =
+    subst (λ (g : GameData). Grows g.diagrams c.exists.new.self) c.self.view_is c.exists.ensures.grows

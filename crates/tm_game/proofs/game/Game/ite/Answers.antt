@@ -1,8 +1,8 @@
 use Rattle.std.proofs.Common.{sym, subst}
 use Rattle.tm_dd.specs.Table.{Knows}
-use Rattle.tm_ddops.specs.Manager.{Remembers}
 use Rattle.tm_ddops.specs.declared.operation.Operation.TheVariants as operation
 use Rattle.tm_game.specs.Game.{GameData}
+use Rattle.tm_game.specs.Operations.{RemembersResult}
 use Rattle.tm_game.proofs.Extending.{extended_only, grows_from}
 use Rattle.tm_game.proofs.game.Game.ite.Goals as goal
 
@@ -22,27 +22,18 @@ pub invariant_of-self : goal.invariant_of-self
 invariant_of-self c =
     extended_only c.self.inside c.ite.new.self c.self.invariant c.ite.ensures.grows.extends
 
-pub invariant_of-self-2 : goal.invariant_of-self-2
-invariant_of-self-2 c =
-    extended_only c.self.inside c.ite.new.self c.self.invariant c.ite.ensures.grows.extends
-
-pub returns-in_err-id-clause-grows : goal.returns-in_err-id-clause-grows
-returns-in_err-id-clause-grows c =
-    grows_from c.self.inside _ c.self.view_is c.ite.new.self c.self.inside.recent c.ite.ensures.grows.extends
-
 pub returns-clause-grows : goal.returns-clause-grows
 returns-clause-grows c =
     grows_from c.self.inside _ c.self.view_is c.ite.new.self c.self.inside.recent c.ite.ensures.grows.extends
 
-pub returns-in_err-id-clause-again : goal.returns-in_err-id-clause-again
-returns-in_err-id-clause-again c = λ id h.
-    let never = c.in_err-id.ensures.again id
-    (subst (λ (d : GameData). Remembers d.diagrams (operation.Ite c.args.f c.args.g c.args.h) id)
-    (sym c.self.view_is) h) in
-    absurd cc
-
-pub returns-clause-again : goal.returns-clause-again
-returns-clause-again c = λ id h.
-    c.in_ok-id.ensures.again id
-    (subst (λ (d : GameData). Remembers d.diagrams (operation.Ite c.args.f c.args.g c.args.h) id)
-    (sym c.self.view_is) h)
+pub returns-clause-remembers : goal.returns-clause-remembers
+returns-clause-remembers c =
+    subst (λ (d : GameData). RemembersResult (operation.Ite c.args.f c.args.g c.args.h) d.diagrams c.ite.new.self
+    c.ite.result) c.self.view_is (record {
+      remembered = c.ite.ensures.remembered;
+      answers = record {
+        again = c.ite.ensures.again;
+        again_same = c.ite.ensures.again_same;
+        grows = c.ite.ensures.grows;
+      };
+    })

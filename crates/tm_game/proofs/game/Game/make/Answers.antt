@@ -1,6 +1,7 @@
 use Rattle.std.proofs.Common.{◌<◌, sym, subst}
 use Rattle.tm_dd.specs.Table.{Knows, level_of}
 use Rattle.tm_game.specs.Game.{GameData}
+use Rattle.tm_game.specs.Operations.{MakesNode}
 use Rattle.tm_game.proofs.Extending.{extended_only, grows_from}
 use Rattle.tm_game.proofs.game.Game.make.Goals as goal
 
@@ -30,14 +31,19 @@ pub invariant_of-self : goal.invariant_of-self
 invariant_of-self c =
     extended_only c.self.inside c.make.new.self c.self.invariant c.make.ensures.grows.extends
 
-pub invariant_of-self-2 : goal.invariant_of-self-2
-invariant_of-self-2 c =
-    extended_only c.self.inside c.make.new.self c.self.invariant c.make.ensures.grows.extends
-
-pub returns-in_err-id-clause-grows : goal.returns-in_err-id-clause-grows
-returns-in_err-id-clause-grows c =
-    grows_from c.self.inside _ c.self.view_is c.make.new.self c.self.inside.recent c.make.ensures.grows.extends
-
 pub returns-clause-grows : goal.returns-clause-grows
 returns-clause-grows c =
     grows_from c.self.inside _ c.self.view_is c.make.new.self c.self.inside.recent c.make.ensures.grows.extends
+
+pub returns-clause-makes : goal.returns-clause-makes
+returns-clause-makes c =
+    subst (λ (d : GameData). MakesNode (record { level = c.args.level; lo = c.args.lo; hi = c.args.hi }) d.diagrams
+    c.make.new.self c.make.result) c.self.view_is (record {
+      equal = c.make.ensures.equal;
+      found = c.make.ensures.found;
+      unchanged = c.make.ensures.unchanged;
+      added = c.make.ensures.added;
+      adds = c.make.ensures.adds;
+      results = c.make.ensures.results;
+      refused = c.make.ensures.refused;
+    })

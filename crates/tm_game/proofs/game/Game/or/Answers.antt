@@ -1,9 +1,9 @@
 use Rattle.std.proofs.Common.{sym, subst}
 use Rattle.tm_dd.specs.Table.{Knows}
 use Rattle.tm_ddops.specs.Connective.{larger, smaller}
-use Rattle.tm_ddops.specs.Manager.{Remembers}
 use Rattle.tm_ddops.specs.declared.operation.Operation.TheVariants as operation
 use Rattle.tm_game.specs.Game.{GameData}
+use Rattle.tm_game.specs.Operations.{RemembersPair}
 use Rattle.tm_game.proofs.Extending.{extended_only, grows_from}
 use Rattle.tm_game.proofs.game.Game.or.Goals as goal
 
@@ -19,29 +19,19 @@ pub invariant_of-self : goal.invariant_of-self
 invariant_of-self c =
     extended_only c.self.inside c.or.new.self c.self.invariant c.or.ensures.grows.extends
 
-pub invariant_of-self-2 : goal.invariant_of-self-2
-invariant_of-self-2 c =
-    extended_only c.self.inside c.or.new.self c.self.invariant c.or.ensures.grows.extends
-
-pub returns-in_err-id-clause-grows : goal.returns-in_err-id-clause-grows
-returns-in_err-id-clause-grows c =
-    grows_from c.self.inside _ c.self.view_is c.or.new.self c.self.inside.recent c.or.ensures.grows.extends
-
 pub returns-clause-grows : goal.returns-clause-grows
 returns-clause-grows c =
     grows_from c.self.inside _ c.self.view_is c.or.new.self c.self.inside.recent c.or.ensures.grows.extends
 
-pub returns-in_err-id-clause-again : goal.returns-in_err-id-clause-again
-returns-in_err-id-clause-again c = λ id h.
-    let never = c.in_err-id.ensures.again id
-    (subst
-    (λ (d : GameData). Remembers d.diagrams (operation.Or (smaller c.args.f c.args.g) (larger c.args.f c.args.g)) id)
-    (sym c.self.view_is) h) in
-    absurd cc
-
-pub returns-clause-again : goal.returns-clause-again
-returns-clause-again c = λ id h.
-    c.in_ok-id.ensures.again id
-    (subst
-    (λ (d : GameData). Remembers d.diagrams (operation.Or (smaller c.args.f c.args.g) (larger c.args.f c.args.g)) id)
-    (sym c.self.view_is) h)
+pub returns-clause-remembers : goal.returns-clause-remembers
+returns-clause-remembers c =
+    subst (λ (d : GameData). RemembersPair (operation.Or (smaller c.args.f c.args.g) (larger c.args.f c.args.g))
+    c.args.f c.args.g d.diagrams c.or.new.self c.or.result) c.self.view_is (record {
+      remembered = c.or.ensures.remembered;
+      answers = record {
+        again = c.or.ensures.again;
+        again_same = c.or.ensures.again_same;
+        grows = c.or.ensures.grows;
+      };
+      nodes = c.or.ensures.nodes;
+    })

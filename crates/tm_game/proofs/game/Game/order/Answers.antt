@@ -1,4 +1,4 @@
-use Rattle.std.proofs.Common.{◌+◌, ◌≤◌, length, subst}
+use Rattle.std.proofs.Common.{◌+◌, ◌≤◌, length, subst, arith}
 use Rattle.tm_flat.specs.Flat.{flat_terms}
 use Rattle.tm_game.specs.Game.{GameData}
 use Rattle.tm_game.specs.Start.{state_bits_in}
@@ -15,4 +15,11 @@ returns-clause-places c =
 
 pub returns-clause-levels : goal.returns-clause-levels
 returns-clause-levels c =
-    subst (λ (g : GameData). length g.order + 128 ≤ g.diagrams.table.levels) c.self.view_is c.self.invariant.levels
+    let enough : length c.self.inside.order.items + 128 ≤ c.self.inside.dd.table.levels =
+    omega (arith, c.self.invariant.levels) in
+    subst (λ (g : GameData). length g.order + 128 ≤ g.diagrams.table.levels) c.self.view_is enough
+
+pub returns-clause-predicates : goal.returns-clause-predicates
+returns-clause-predicates c =
+    subst (λ (g : GameData). length g.order + 128 + length g.flat.pool ≤ g.diagrams.table.levels) c.self.view_is
+    c.self.invariant.levels
