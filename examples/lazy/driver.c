@@ -1,0 +1,7 @@
+#include "termite.h"
+
+void driver_turn(void)
+{
+L0:
+	return;
+}
