@@ -1,0 +1,5 @@
+use Rattle.tm_strat_drafts.specs.Growth.{Carried}
+use Rattle.tm_strat.proofs.covering.parts_of.Given as goal
+
+abbrev pub invariant-loop-index : goal.invariant-loop-index
+invariant-loop-index l = Carried l.fn.game l.game

@@ -1,0 +1,6 @@
+use Rattle.tm_strat.specs.Fitting.{AreSpelled}
+use Rattle.tm_strat.proofs.spelling.spelled.Given as goal
+use Rattle.tm_syntax.specs.Design.View.{design_tree}
+
+abbrev pub invariant-loop-block : goal.invariant-loop-block
+invariant-loop-block l = AreSpelled (design_tree l.design) l.drafted l.blocks.items l.block-index

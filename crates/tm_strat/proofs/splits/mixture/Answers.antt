@@ -1,0 +1,14 @@
+use Rattle.std.proofs.Common.{sym, subst}
+use Rattle.tm_game.specs.Game.{GameData, Grows}
+use Rattle.tm_strat.proofs.splits.mixture.Goals as goal
+use Rattle.tm_strat.proofs.splits.mixture.Goals.{else-sharing-test, then-sharing-test+in_ok-share+in_ok-left+then-eq}
+
+pub returns : goal.returns
+returns c = λ base b.
+    elim c.sharing-test.branch [
+      | else-sharing-test w ↦
+          subst (λ (g : GameData). Grows base g) (sym w.game-is) (c.sharing.invariant base b)
+      | then-sharing-test+in_ok-share+in_ok-left+then-eq w ↦
+          subst (λ (g : GameData). Grows base g) (sym w.game-is)
+          (w.rest.ensures base (w.largest.ensures base (c.sharing.invariant base b)))
+    ]

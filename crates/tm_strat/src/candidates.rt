@@ -1,0 +1,142 @@
+//! Moves that blocks may make.
+ghost use Rattle.std.specs.Prelude.{◌≡◌, ◌≤◌, ℕ, true, All, IfOk, Some, map};
+ghost use Rattle.tm_cir.specs.Fit.{FitsBlock, FitsNum, parameter_count};
+ghost use Rattle.tm_cir.specs.View.{block_tree, num_tree};
+ghost use Rattle.tm_strat.specs.Fitting.{FitsCounts};
+ghost use Rattle.tm_syntax.specs.Design.View.{design_tree};
+ghost use Rattle.tm_syntax.specs.Faults.Limits.{limit_of};
+ghost use Rattle.tm_syntax.specs.declared.fault.Quantity.TheVariants as quantity;
+
+use crate::expressions::Expression;
+use crate::numbers::Counts;
+use std::alloc::{AllocError, Global};
+use tm_cir::block::MOST_ARGUMENTS;
+use tm_cir::{Block, Num64, parameter_count};
+use tm_game::MoveShape;
+use tm_syntax::design::Design;
+
+/// A move that blocks may make: a shape, by number, and the arguments of a call.
+#[derive(Drop)]
+pub(crate) struct Candidate {
+    pub(crate) shape: u32,
+    pub(crate) arguments: Vec<Expression>,
+}
+
+/// The shape of a number, which is to idle where there is none.
+pub(crate) fn shape_at(shapes: &[MoveShape], number: u32) -> MoveShape {
+    let index = number as usize;
+    if index < shapes.len() {
+        shapes[index]
+    } else {
+        MoveShape::Idle
+    }
+}
+
+/// The block of a move of a shape with arguments, or to idle where the design has no such move.
+pub(crate) fn move_block(
+    alloc: Global,
+    design: &Design,
+    counts: Counts,
+    shape: MoveShape,
+    arguments: &[Expression],
+) -> Result<Block, AllocError>
+    requires { FitsCounts (design_tree design.now) counts }
+    ensures { IfOk result (λ b. (count at : ℕ) → FitsBlock (design_tree design.now) count at (block_tree b)) }
+{
+    match shape {
+        MoveShape::Idle => Ok(Block::Idle),
+        MoveShape::Leave(process) => Ok(leave_block(design, process)),
+        MoveShape::Call(task) => {
+            let nums = nums_of(alloc, counts, arguments)?;
+            Ok(call_block(design, counts, task, nums))
+        }
+    }
+}
+
+// The block that leaves the magic block at which a process stands.
+fn leave_block(design: &Design, process: u32) -> Block
+    ensures { (count at : ℕ) → FitsBlock (design_tree design.now) count at (block_tree result) }
+{
+    if (process as usize) < design.processes.len() {
+        Block::Leave(process)
+    } else {
+        Block::Idle
+    }
+}
+
+// The block that calls a task.
+#[tactic(auto, using(crate::proofs::Fitted::call_fits))]
+fn call_block(design: &Design, counts: Counts, task: u32, nums: Vec<Num64>) -> Block
+    requires counts { FitsCounts (design_tree design.now) counts }
+    requires nums { All (FitsNum counts.vars counts.processes) (map num_tree nums.items) }
+    ensures { (count at : ℕ) → FitsBlock (design_tree design.now) count at (block_tree result) }
+{
+    if are_enough(design, task, nums.len()) {
+        Block::Call(task, nums)
+    } else {
+        Block::Idle
+    }
+}
+
+// Whether a task has so many parameters.
+fn are_enough(design: &Design, task: u32, count: usize) -> bool
+    ensures { result ≡ true → (parameter_count (design_tree design.now) task ≡ Some count)
+        × (count ≤ limit_of quantity.Arguments) }
+{
+    match parameter_count(design, task) {
+        Some(parameters) => parameters == count && count <= MOST_ARGUMENTS,
+        None => false,
+    }
+}
+
+// Arguments as expressions of C.
+#[tactic(auto, using(crate::proofs::Fitted::nums_more))]
+fn nums_of(
+    alloc: Global,
+    counts: Counts,
+    arguments: &[Expression],
+) -> Result<Vec<Num64>, AllocError>
+    ensures { IfOk result (λ nums. All (FitsNum counts.vars counts.processes) (map num_tree nums.items)) }
+{
+    let mut nums = Vec::new(alloc);
+    for argument in arguments {
+        let num = argument.num(alloc, counts)?;
+        nums.push(num)?;
+    }
+    Ok(nums)
+}
+
+/// The constants that bits have in widths, one behind the other: the bits of all, the first one the most significant of
+/// 64.
+pub(crate) fn constants(
+    alloc: Global,
+    widths: &[u8],
+    bits: u64,
+) -> Result<Vec<Expression>, AllocError> {
+    let mut found = Vec::new(alloc);
+    let mut rest = bits;
+    for width in widths {
+        found.push(Expression::Constant(upper(rest, *width)))?;
+        rest = behind(rest, *width);
+    }
+    Ok(found)
+}
+
+// The first bits of some.
+fn upper(bits: u64, width: u8) -> u64 {
+    if width == 0 {
+        return 0;
+    }
+    if width >= 64 {
+        return bits;
+    }
+    bits >> (64 - width)
+}
+
+// The bits behind the first ones.
+fn behind(bits: u64, width: u8) -> u64 {
+    if width >= 64 {
+        return 0;
+    }
+    bits << width
+}

@@ -1,0 +1,291 @@
+//! Where moves are good for the ranked sets of a solution.
+ghost use Rattle.std.specs.Prelude.{◌≡◌, ◌<◌, true, IfOk, length};
+ghost use Rattle.tm_game.specs.Game.{GameData, IsSet};
+ghost use Rattle.tm_game.specs.Moves.{HasTask};
+ghost use Rattle.tm_strat.specs.Targets.{AreSets, AreSetsOf, HasSets};
+ghost use Rattle.tm_strat_drafts.specs.Growth.{Carried};
+
+use crate::sets::{both, either, rest, somewhere};
+use std::alloc::{AllocError, Global};
+use tm_dd::{FALSE, NodeId};
+use tm_game::{Game, MoveShape};
+use tm_solve::{Iterates, RankSet};
+
+/// The good moves while a goal is pending: for each shape the pairs of a state and of arguments at which a move of it
+/// is good, and the states at which some move is.
+#[derive(Drop)]
+pub(crate) struct GoodMoves {
+    pub(crate) pairs: Vec<NodeId>,
+    pub(crate) care: NodeId,
+}
+
+/// The shapes of the driver's moves: to idle, to leave each process, and to call each task.
+pub(crate) fn shapes(
+    alloc: Global,
+    processes: u32,
+    tasks: u32,
+) -> Result<Vec<MoveShape>, AllocError> {
+    let mut shapes = Vec::new(alloc);
+    shapes.push(MoveShape::Idle)?;
+    push_leaves(&mut shapes, processes)?;
+    push_calls(&mut shapes, tasks)?;
+    Ok(shapes)
+}
+
+// Puts the leaves of processes behind other shapes.
+fn push_leaves(shapes: &mut Vec<MoveShape>, processes: u32) -> Result<(), AllocError> {
+    for process in 0..processes {
+        shapes.push(MoveShape::Leave(process))?;
+    }
+    Ok(())
+}
+
+// Puts the calls of tasks behind other shapes.
+fn push_calls(shapes: &mut Vec<MoveShape>, tasks: u32) -> Result<(), AllocError> {
+    for task in 0..tasks {
+        shapes.push(MoveShape::Call(task))?;
+    }
+    Ok(())
+}
+
+/// The good moves of each goal.
+pub(crate) fn good_moves(
+    alloc: Global,
+    game: &mut Game,
+    iterates: &Iterates,
+    shapes: &[MoveShape],
+    levels: &[u32],
+) -> Result<Vec<GoodMoves>, AllocError>
+    requires sets { AreSetsOf game.old iterates.now }
+    ensures { Carried game.old game.new }
+{
+    let mut all = Vec::new(alloc);
+    for goal in 0..iterates.ranks.len() {
+        let ranks = ranks_at(iterates, goal);
+        let good = goal_moves(alloc, game, iterates.region, ranks, goal, shapes, levels)?;
+        all.push(good)?;
+    }
+    Ok(all)
+}
+
+// The ranked sets of a goal.
+fn ranks_at(iterates: &Iterates, goal: usize) -> &[RankSet]
+    requires { goal < length iterates.now.ranks.items }
+    ensures { (g : GameData) → AreSetsOf g iterates.now → HasSets g result.now }
+{
+    iterates.ranks[goal].sets.as_slice()
+}
+
+// The good moves of a goal.
+fn goal_moves(
+    alloc: Global,
+    game: &mut Game,
+    region: NodeId,
+    ranks: &[RankSet],
+    goal: usize,
+    shapes: &[MoveShape],
+    levels: &[u32],
+) -> Result<GoodMoves, AllocError>
+    requires region { IsSet game.old region }
+    requires ranks { HasSets game.old ranks.now }
+    ensures { Carried game.old game.new }
+{
+    let ends = targets(alloc, region, ranks)?;
+    let states = zones(alloc, game, region, ranks, goal)?;
+    let good = moves_of(alloc, game, &states, &ends, shapes, levels)?;
+    Ok(good)
+}
+
+// The sets in which moves are to end: the region, and each ranked set.
+#[tactic(auto, using(crate::proofs::Carrying::one_set, crate::proofs::Carrying::ranked_more))]
+fn targets(alloc: Global, region: NodeId, ranks: &[RankSet]) -> Result<Vec<NodeId>, AllocError>
+    ensures { IfOk result (λ ids. (g : GameData) → IsSet g region → HasSets g ranks.now → AreSets g ids.items) }
+{
+    let mut targets = Vec::new(alloc);
+    targets.push(region)?;
+    for rank in ranks {
+        targets.push(rank.set)?;
+    }
+    Ok(targets)
+}
+
+// For each target the states from which a move is to end in it: in the region where the goal holds, and elsewhere at no
+// higher rank, and at a lower one where the condition of the rank holds. From the states of the lowest rank at which it
+// holds no move is good.
+fn zones(
+    alloc: Global,
+    game: &mut Game,
+    region: NodeId,
+    ranks: &[RankSet],
+    goal: usize,
+) -> Result<Vec<NodeId>, AllocError>
+    ensures { Carried game.old game.new }
+{
+    let holds = id_at(game.goals(), goal);
+    let turn = game.turn();
+    let here = both(game, region, turn)?;
+    let met = both(game, here, holds)?;
+    let failing = rest(game, here, holds)?;
+    let waits = waits(alloc, game, failing, ranks)?;
+    let mut zones = Vec::new(alloc);
+    zones.push(met)?;
+    push_zones(game, &mut zones, &waits)?;
+    Ok(zones)
+}
+
+// New states of a rank: those at which its condition fails, and those at which it holds.
+#[derive(Clone, Copy, Drop)]
+struct NewStates {
+    waiting: NodeId,
+    falling: NodeId,
+}
+
+// The new states of each rank, of a set.
+fn waits(
+    alloc: Global,
+    game: &mut Game,
+    failing: NodeId,
+    ranks: &[RankSet],
+) -> Result<Vec<NewStates>, AllocError>
+    ensures { Carried game.old game.new }
+{
+    let mut waits = Vec::new(alloc);
+    let mut before = FALSE;
+    for rank in ranks {
+        let states = new_states(game, failing, before, *rank)?;
+        waits.push(states)?;
+        before = either(game, before, rank.set)?;
+    }
+    Ok(waits)
+}
+
+// The new states of a rank, of a set.
+fn new_states(
+    game: &mut Game,
+    failing: NodeId,
+    before: NodeId,
+    rank: RankSet,
+) -> Result<NewStates, AllocError>
+    ensures { Carried game.old game.new }
+{
+    let fair = id_at(game.fairs(), rank.fair as usize);
+    let inside = both(game, failing, rank.set)?;
+    let added = rest(game, inside, before)?;
+    let waiting = rest(game, added, fair)?;
+    let falling = both(game, added, fair)?;
+    Ok(NewStates { waiting, falling })
+}
+
+// Puts for each rank the states that wait at it, and those that fall to it from the next one, behind others.
+fn push_zones(
+    game: &mut Game,
+    zones: &mut Vec<NodeId>,
+    waits: &[NewStates],
+) -> Result<(), AllocError>
+    ensures { Carried game.old game.new }
+{
+    for index in 0..waits.len() {
+        let falling = falling_to(waits, index);
+        let states = either(game, waits[index].waiting, falling)?;
+        zones.push(states)?;
+    }
+    Ok(())
+}
+
+// The states that fall to a rank from the next one.
+fn falling_to(waits: &[NewStates], index: usize) -> NodeId
+    requires { index < length waits.now }
+{
+    if index + 1 < waits.len() {
+        waits[index + 1].falling
+    } else {
+        FALSE
+    }
+}
+
+/// The id of a number in a list, or `FALSE` where there is none.
+pub(crate) fn id_at(ids: &[NodeId], index: usize) -> NodeId {
+    if index < ids.len() { ids[index] } else { FALSE }
+}
+
+// The good moves over some zones and their targets.
+fn moves_of(
+    alloc: Global,
+    game: &mut Game,
+    zones: &[NodeId],
+    targets: &[NodeId],
+    shapes: &[MoveShape],
+    levels: &[u32],
+) -> Result<GoodMoves, AllocError>
+    requires sets { AreSets game.old targets.now }
+    ensures { Carried game.old game.new }
+{
+    let mut pairs = Vec::new(alloc);
+    let mut care = FALSE;
+    for shape in shapes {
+        let good = shape_moves(game, zones, targets, *shape)?;
+        let states = somewhere(game, good, levels)?;
+        care = either(game, care, states)?;
+        pairs.push(good)?;
+    }
+    Ok(GoodMoves { pairs, care })
+}
+
+// The pairs of a state and of arguments at which a move of a shape is good in some zone.
+fn shape_moves(
+    game: &mut Game,
+    zones: &[NodeId],
+    targets: &[NodeId],
+    shape: MoveShape,
+) -> Result<NodeId, AllocError>
+    requires sets { AreSets game.old targets.now }
+    ensures { Carried game.old game.new }
+{
+    let mut good = FALSE;
+    for index in 0..targets.len() {
+        let target = target_at(targets, index);
+        let here = zone_moves(game, id_at(zones, index), target, shape)?;
+        good = either(game, good, here)?;
+    }
+    Ok(good)
+}
+
+// The target of a number.
+#[tactic(auto, using(crate::proofs::Carrying::set_at))]
+fn target_at(targets: &[NodeId], index: usize) -> NodeId
+    requires { index < length targets.now }
+    ensures { (g : GameData) → AreSets g targets.now → IsSet g result }
+{
+    targets[index]
+}
+
+// The pairs of a state of a zone and of arguments at which a move of a shape is good for a target.
+#[tactic(auto, using(crate::proofs::Carrying::carry))]
+fn zone_moves(
+    game: &mut Game,
+    states: NodeId,
+    target: NodeId,
+    shape: MoveShape,
+) -> Result<NodeId, AllocError>
+    requires target { IsSet game.old target }
+    ensures { Carried game.old game.new }
+{
+    if states == FALSE || target == FALSE || !has_task(game, shape) {
+        return Ok(FALSE);
+    }
+    let legal = game.legal_move(shape, target)?;
+    let here = both(game, states, legal)?;
+    Ok(here)
+}
+
+// Whether the task of a shape is there.
+#[tactic(auto, using(crate::proofs::Carrying::task_there))]
+fn has_task(game: &Game, shape: MoveShape) -> bool
+    ensures { result ≡ true → HasTask game.now.flat shape }
+{
+    match shape {
+        MoveShape::Idle => true,
+        MoveShape::Leave(_) => true,
+        MoveShape::Call(task) => (task as usize) < game.flat().tasks.len(),
+    }
+}

@@ -1,0 +1,23 @@
+//! A driver's blocks, made from the solution of a game: tests of the state that lead to moves that are good there.
+#![tactic(auto)]
+
+mod atoms;
+mod candidates;
+mod choosing;
+mod covering;
+mod expressions;
+mod good;
+mod literals;
+mod making;
+mod masses;
+mod numbers;
+mod options;
+mod parameters;
+mod predicates;
+mod reading;
+mod sets;
+mod spelling;
+mod splits;
+mod tests;
+
+pub use making::{Driven, driver};

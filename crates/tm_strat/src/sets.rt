@@ -1,0 +1,133 @@
+//! Operations on diagrams of which nothing is asked: an id that the game does not know is taken for `FALSE`.
+ghost use Rattle.std.specs.Prelude.{◌↔◌, All, IsTrue};
+ghost use Rattle.tm_dd.specs.Table.{Knows};
+ghost use Rattle.tm_strat_drafts.specs.Growth.{Carried};
+
+use std::alloc::{AllocError, Global};
+use tm_dd::{FALSE, NodeId};
+use tm_game::Game;
+use tm_term::Term;
+
+// Whether the game knows an id.
+fn is_known(game: &Game, id: NodeId) -> bool
+    ensures { IsTrue result ↔ Knows game.now.diagrams.table id }
+{
+    game.manager().store().knows(id)
+}
+
+/// Both of two functions.
+#[tactic(auto, using(crate::proofs::Carrying::carry))]
+pub(crate) fn both(game: &mut Game, a: NodeId, b: NodeId) -> Result<NodeId, AllocError>
+    ensures { Carried game.old game.new }
+{
+    if !is_known(game, a) || !is_known(game, b) {
+        return Ok(FALSE);
+    }
+    let id = game.and(a, b)?;
+    Ok(id)
+}
+
+/// The first of two functions where the second is false.
+pub(crate) fn rest(game: &mut Game, a: NodeId, b: NodeId) -> Result<NodeId, AllocError>
+    ensures { Carried game.old game.new }
+{
+    let other = b.complement();
+    let id = both(game, a, other)?;
+    Ok(id)
+}
+
+/// At least one of two functions.
+#[tactic(auto, using(crate::proofs::Carrying::carry))]
+pub(crate) fn either(game: &mut Game, a: NodeId, b: NodeId) -> Result<NodeId, AllocError>
+    ensures { Carried game.old game.new }
+{
+    if !is_known(game, a) || !is_known(game, b) {
+        return Ok(FALSE);
+    }
+    let id = game.or(a, b)?;
+    Ok(id)
+}
+
+/// The second of three functions where the first is true, and the third elsewhere.
+#[tactic(auto, using(crate::proofs::Carrying::carry))]
+pub(crate) fn chosen(
+    game: &mut Game,
+    test: NodeId,
+    a: NodeId,
+    b: NodeId,
+) -> Result<NodeId, AllocError>
+    ensures { Carried game.old game.new }
+{
+    if !is_known(game, test) || !is_known(game, a) || !is_known(game, b) {
+        return Ok(FALSE);
+    }
+    let id = game.ite(test, a, b)?;
+    Ok(id)
+}
+
+/// A function for some values of the levels.
+#[tactic(auto, using(crate::proofs::Carrying::carry))]
+pub(crate) fn somewhere(game: &mut Game, f: NodeId, levels: &[u32]) -> Result<NodeId, AllocError>
+    ensures { Carried game.old game.new }
+{
+    if !is_known(game, f) {
+        return Ok(FALSE);
+    }
+    let id = game.exists(f, levels)?;
+    Ok(id)
+}
+
+// Whether the game knows the functions of levels.
+#[tactic(auto, using(crate::proofs::Carrying::parts_step, crate::proofs::Carrying::unknown_part))]
+fn are_known(game: &Game, parts: &[(u32, NodeId)]) -> bool
+    ensures { IsTrue result ↔ All (λ p. Knows game.now.diagrams.table p.1) parts.now }
+{
+    for part in parts {
+        if !is_known(game, part.1) {
+            return false;
+        }
+    }
+    true
+}
+
+/// A function with others in the places of levels.
+#[tactic(auto, using(crate::proofs::Carrying::carry))]
+pub(crate) fn placed(
+    game: &mut Game,
+    f: NodeId,
+    parts: &[(u32, NodeId)],
+) -> Result<NodeId, AllocError>
+    ensures { Carried game.old game.new }
+{
+    if !is_known(game, f) || !are_known(game, parts) {
+        return Ok(FALSE);
+    }
+    let id = game.compose(f, parts)?;
+    Ok(id)
+}
+
+/// The least values of levels for which a function is true, none where it is `FALSE`.
+pub(crate) fn least(game: &Game, f: NodeId) -> Result<Option<Vec<bool>>, AllocError> {
+    if !is_known(game, f) {
+        return Ok(None);
+    }
+    game.manager().least(f)
+}
+
+/// The bits of an input, the most significant first, none where the game does not have it.
+#[tactic(auto, using(crate::proofs::Carrying::carry))]
+pub(crate) fn input_bits(
+    alloc: Global,
+    game: &mut Game,
+    input: u32,
+) -> Result<Vec<NodeId>, AllocError>
+    ensures { Carried game.old game.new }
+{
+    let term = Term::Input(input);
+    if !game.terms().fits(term) {
+        return Ok(Vec::new(alloc));
+    }
+    let id = game.mk(term)?;
+    let bits = game.bits(id)?;
+    Ok(bits)
+}

@@ -1,0 +1,154 @@
+//! Drafted blocks as blocks of C.
+ghost use Rattle.std.specs.Prelude.{◌≡◌, ℕ, IfOk, length};
+ghost use Rattle.tm_cir.specs.Fit.{FitBlocks, FitsBlock};
+ghost use Rattle.tm_cir.specs.View.{block_tree, block_trees, trees_of};
+ghost use Rattle.tm_strat.specs.Fitting.{AreSpelled, FitsCounts, IsSpelled};
+ghost use Rattle.tm_syntax.specs.Design.View.{design_tree};
+
+use crate::candidates::{Candidate, constants, move_block, shape_at};
+use crate::numbers::{Counts, narrow};
+use crate::predicates::Predicate;
+use std::alloc::{AllocError, Global};
+use tm_cir::{Block, Blocks};
+use tm_game::MoveShape;
+use tm_strat_drafts::{DraftBlock, MoveChoice};
+use tm_syntax::design::Design;
+
+/// What the numbers in drafted blocks stand for: tests of states, shapes of moves, the widths of each task's
+/// parameters, and candidates.
+#[derive(Drop)]
+pub(crate) struct Spelling {
+    pub(crate) counts: Counts,
+    pub(crate) predicates: Vec<Predicate>,
+    pub(crate) shapes: Vec<MoveShape>,
+    pub(crate) widths: Vec<Vec<u8>>,
+    pub(crate) candidates: Vec<Candidate>,
+}
+
+/// The blocks of C, one for each drafted one.
+#[tactic(auto, using(crate::proofs::Fitted::none_spelled, crate::proofs::Fitted::spelled_more))]
+pub(crate) fn spelled(
+    alloc: Global,
+    design: &Design,
+    spelling: &Spelling,
+    drafted: &[DraftBlock],
+) -> Result<Vec<Block>, AllocError>
+    requires { FitsCounts (design_tree design.now) spelling.now.counts }
+    ensures { IfOk result (λ bs. AreSpelled (design_tree design.now) drafted.now bs.items (length drafted.now)) }
+{
+    let mut blocks = Vec::new(alloc);
+    for block in drafted {
+        let spelled = spelled_block(alloc, design, spelling, *block)?;
+        blocks.push(spelled)?;
+    }
+    Ok(blocks)
+}
+
+// A block of C.
+#[tactic(auto, using(crate::proofs::Fitted::test_fits))]
+fn spelled_block(
+    alloc: Global,
+    design: &Design,
+    spelling: &Spelling,
+    block: DraftBlock,
+) -> Result<Block, AllocError>
+    requires { FitsCounts (design_tree design.now) spelling.now.counts }
+    ensures { IfOk result (IsSpelled (design_tree design.now) block) }
+{
+    match block {
+        DraftBlock::Test(test, first, second) => {
+            let predicate = predicate_at(&spelling.predicates, test);
+            let truth = predicate.truth(alloc, spelling.counts)?;
+            Ok(Block::Test(truth, first, second))
+        }
+        DraftBlock::Move(choice) => {
+            let made = spelled_move(alloc, design, spelling, choice)?;
+            Ok(made)
+        }
+    }
+}
+
+// The block of a move, wherever it stands.
+fn spelled_move(
+    alloc: Global,
+    design: &Design,
+    spelling: &Spelling,
+    choice: MoveChoice,
+) -> Result<Block, AllocError>
+    requires { FitsCounts (design_tree design.now) spelling.now.counts }
+    ensures { IfOk result (λ b. (count at : ℕ) → FitsBlock (design_tree design.now) count at (block_tree b)) }
+{
+    match choice {
+        MoveChoice::Candidate(number) => candidate_block(alloc, design, spelling, number),
+        MoveChoice::Constant(shape, bits) => constant_block(alloc, design, spelling, shape, bits),
+    }
+}
+
+/// Blocks that fit the design.
+#[tactic(auto, using(crate::proofs::Fitted::same_made, crate::proofs::Fitted::never_none))]
+pub(crate) fn fitting(design: &Design, list: Vec<Block>) -> Blocks
+    requires { FitBlocks (design_tree design.now) (block_trees list.items) }
+    ensures fits { FitBlocks (design_tree design.now) (trees_of result) }
+    ensures same { trees_of result ≡ block_trees list.items }
+{
+    match Blocks::new(design, list) {
+        Some(blocks) => blocks,
+        None => unreachable!(),
+    }
+}
+
+// The test of a number; behind those of states come those whether a goal is pending.
+fn predicate_at(predicates: &[Predicate], test: u32) -> Predicate {
+    let index = test as usize;
+    if index < predicates.len() {
+        return predicates[index];
+    }
+    Predicate::Pending(narrow(index - predicates.len()))
+}
+
+// The block of the candidate of a number, which is to idle where there is none.
+fn candidate_block(
+    alloc: Global,
+    design: &Design,
+    spelling: &Spelling,
+    number: u32,
+) -> Result<Block, AllocError>
+    requires { FitsCounts (design_tree design.now) spelling.now.counts }
+    ensures { IfOk result (λ b. (count at : ℕ) → FitsBlock (design_tree design.now) count at (block_tree b)) }
+{
+    match spelling.candidates.get(number as usize) {
+        Some(candidate) => {
+            let shape = shape_at(&spelling.shapes, candidate.shape);
+            move_block(alloc, design, spelling.counts, shape, &candidate.arguments)
+        }
+        None => Ok(Block::Idle),
+    }
+}
+
+// The block of a move of a shape whose arguments are constants.
+fn constant_block(
+    alloc: Global,
+    design: &Design,
+    spelling: &Spelling,
+    shape: u32,
+    bits: u64,
+) -> Result<Block, AllocError>
+    requires { FitsCounts (design_tree design.now) spelling.now.counts }
+    ensures { IfOk result (λ b. (count at : ℕ) → FitsBlock (design_tree design.now) count at (block_tree b)) }
+{
+    let shape = shape_at(&spelling.shapes, shape);
+    let arguments = constants(alloc, widths_of(spelling, shape), bits)?;
+    move_block(alloc, design, spelling.counts, shape, &arguments)
+}
+
+// The widths of the parameters of the task that a shape calls.
+fn widths_of(spelling: &Spelling, shape: MoveShape) -> &[u8] {
+    match shape {
+        MoveShape::Idle => &[],
+        MoveShape::Leave(_) => &[],
+        MoveShape::Call(task) => match spelling.widths.get(task as usize) {
+            Some(widths) => widths.as_slice(),
+            None => &[],
+        },
+    }
+}

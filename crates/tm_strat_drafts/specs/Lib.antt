@@ -1,0 +1,3 @@
+pub mod Begun
+pub mod Drafts
+pub mod Growth
