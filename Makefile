@@ -6,16 +6,17 @@ FILES = $(CURDIR)/$(EXAMPLE)/spec $(CURDIR)/$(EXAMPLE)/driver.c $(CURDIR)/$(EXAM
 UNPROVED = nothing is proved by this run: make build proves the program
 
 help:
-	@echo "make run              plays the worked example before any proof, in a minute or two"
+	@echo "make run              finds a driver for the worked example, checks it and plays it, before any proof"
 	@echo "make try ARGS='..'    runs the program with these words before any proof, in two to four minutes"
 	@echo "make build            proves and builds the program, and prints where it lies"
 	@echo "make test             the gate: proves all from nothing, tries the edits, runs the tests and programs"
 	@echo "make bench            prints the machine, the commit, and what each script of bench/ measures"
 
-# It runs the small program of crates/play, which is there sooner than termite.
+# It runs the program of crates/demo, which obeys three commands over files in memory.
 run:
 	@echo "$(UNPROVED)" >&2
-	@cd crates/play && rt try -- $(FILES)
+	@cd crates/demo && rt try --data transmitter=$(CURDIR)/$(EXAMPLE)/spec \
+	    --data choices=$(CURDIR)/$(EXAMPLE)/demo_choices -- transmitter choices
 
 # A word that is neither the command nor a number nor an option is a file: it is read and written where it lies.
 try:

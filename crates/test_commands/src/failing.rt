@@ -31,6 +31,19 @@ fn number(word: &str) -> u64 {
     word.parse().unwrap_or(0)
 }
 
+/// Which of the files that commands write there are.
+fn made(files: &MemFiles) -> &'static str {
+    let text = files.contents("o.c").is_some();
+    let cert = files.contents("o.cert").is_some();
+    match (files.contents("o").is_some(), text, cert) {
+        (true, ..) => " file o",
+        (false, true, true) => " files o.c o.cert",
+        (false, true, false) => " file o.c",
+        (false, false, true) => " file o.cert",
+        (false, false, false) => " file none",
+    }
+}
+
 /// Obeys words over files of which a call fails, with a put that fails, and tells what is left.
 fn fail_words<R: std::rt::Files + Print + AllocGlobal>(
     rt: &R,
@@ -43,12 +56,7 @@ fn fail_words<R: std::rt::Files + Print + AllocGlobal>(
     let mut files = example(rt, call)?;
     let status = obey_and_report(alloc, words, &mut files, &mut out);
     StdSink::new(rt).put(out.bytes())?;
-    let made = if files.contents("o").is_some() {
-        "o"
-    } else {
-        "none"
-    };
-    println!(rt; "exit {} file {made}", status.code())?;
+    println!(rt; "exit {}{}", status.code(), made(&files))?;
     Ok(())
 }
 

@@ -3,10 +3,11 @@
 //! The words of a line stand apart by single blanks. Lines of these kinds are no words of a command:
 //!
 //! - `show NAME` writes what a file holds, and `fill NAME N` makes a file of N blanks;
+//! - `lines N WORDS` obeys the words, and writes the first N lines of the report alone;
 //! - `fail CALL PUT WORDS` obeys the words over files in memory (`s`, `d`, `c` and `k` hold the specification, the
 //!   driver, the played choices and the certificate of `flag`, `lost` and `loss` a specification that is lost and its
-//!   certificate), where the call of the files and the put of these numbers fail (0 is none), and tells also whether
-//!   there is a file `o` afterwards;
+//!   certificate), where the call of the files and the put of these numbers fail (0 is none), and tells also which of
+//!   the files `o`, `o.c` and `o.cert` there are afterwards;
 //! - `disk CALLS` calls the files of the system and standard output, and `memory NUMBERS; NUMBERS; CALLS` files and an
 //!   output in memory, whose calls and puts of these numbers fail, as the module `files` tells;
 //! - `names FIRST SECOND` compares two names, `places LINE COLUMN, LINE COLUMN` two places in a text, and `steps N`
@@ -15,11 +16,13 @@
 
 mod failing;
 mod files;
+mod opening;
 mod values;
 
 use anyhow::Result;
 use case_rows::split_word;
 use failing::fail;
+use opening::obey_opening;
 use std::alloc::{AllocError, Global};
 use tm_base::{DiskFiles, Files, Sink, StdSink};
 use tm_commands::obey_and_report;
@@ -85,6 +88,7 @@ fn answer<R: std::rt::Files + Print + AllocGlobal>(rt: &R, line: &str) -> Result
         ("places", words) => values::places(alloc, words)?,
         ("steps", count) => values::steps(alloc, count)?,
         ("fail", failing) => return fail(rt, failing),
+        ("lines", counted) => return obey_opening(rt, counted),
         _ => return command(rt, line),
     };
     println!(rt; "{told}")?;

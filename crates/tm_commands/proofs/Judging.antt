@@ -15,11 +15,9 @@ use Rattle.tm_report.specs.declared.ending.Ending.{Ending}
 use Rattle.tm_report.specs.declared.ending.Failure.{Failure}
 use Rattle.tm_commands.specs.Check.{driver_end, driver_text, environment_end, environment_text}
 use Rattle.tm_report.specs.Output.{SinkData}
-use Rattle.tm_commands.specs.Inner.Counting.{greatest, longest_in}
 use Rattle.tm_commands.specs.Inner.Judging.{HasCutDriver, HasCutEnvironment, HasJudgedDriver, HasJudgedEnvironment}
 use Rattle.tm_commands.specs.Inner.Judging.{IsVerdictOn, IsVerdictOnLevels}
 use Rattle.tm_report.specs.Putting.{HasPut}
-use Rattle.tm_commands.proofs.Counting.{longest_told}
 
 -- there are few goals
 pub few_ranks : (d : DesignTree) (bs : List BlockTree) (c : DriverData) → CanJudgeDriver d bs c → (ranks : List ℕ) →
@@ -64,11 +62,8 @@ module _ {T : Type 0} (out after : SinkData) (r : Result T Failure) (v : Verdict
 
   module _ (d : DesignTree) (c : EnvData) (verdict : IsVerdictOnLevels d c v) (levels many chain : ℕ)
       (levels_are : levels ≡ length c.levels) (many_are : many ≡ length (conditions d))
-      (chain_is : chain ≡ greatest longest_in c.levels)
+      (longest_is : chain ≡ longest_chain (levels_of d c))
       (put : HasPut (environment_text d levels many chain v) out after r) where
-    longest_is : chain ≡ longest_chain (levels_of d c)
-    longest_is = chain_is ∙ longest_told d c
-
     numbers_put : HasPut
         (environment_text d (length c.levels) (length (conditions d)) (longest_chain (levels_of d c)) v) out after r
     numbers_put =

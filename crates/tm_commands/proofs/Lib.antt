@@ -3,7 +3,7 @@ mod Certifying
 mod Checking
 mod CheckingLevels
 mod Completing
-mod Counting
+mod Finding
 mod Halting
 mod Judging
 mod Loading
@@ -15,6 +15,7 @@ mod Running
 mod Specifying
 mod Spelling
 mod Splits
+mod Synthesising
 mod Telling
 mod Texts
 mod Writing

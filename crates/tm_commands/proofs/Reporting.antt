@@ -171,7 +171,8 @@ module _ (command : Option Command) (old new : FilesData) {B : Type 0} (O : Sink
       came_to_end ends.0 ending ends.1 (obeys.files.left tells)
   unreported (Err (ReadFault name)) obeys some tells = failed_to_read name obeys.shown (obeys.files.left tells)
   unreported (Err (WriteFault [])) obeys some tells = obeys.files.left tells
-  unreported (Err (WriteFault (b ∷ bs))) obeys some tells = failed_to_write (b ∷ bs) obeys.shown
+  unreported (Err (WriteFault (b ∷ bs))) obeys some tells =
+      failed_to_write (b ∷ bs) obeys.shown (obeys.files.left tells)
   unreported (Err Memory) obeys some tells = absurd (some refl)
 
   put_leaves : (outcome : Result Ending Failure) (failure : Failure) →
@@ -179,7 +180,7 @@ module _ (command : Option Command) (old new : FilesData) {B : Type 0} (O : Sink
       IsSinkFailure (sink_data O y) (sink_data O z) failure → IsTrue old.tells → Leaves command old new (Err failure)
   put_leaves outcome Memory obeys some failed tells = tt
   put_leaves outcome (WriteFault []) obeys some failed tells = unreported outcome obeys some tells
-  put_leaves outcome (WriteFault (b ∷ bs)) obeys some failed tells = tt
+  put_leaves outcome (WriteFault (b ∷ bs)) obeys some failed tells = let none : b ∷ bs ≡ [] = failed.0 in cc
   put_leaves outcome (ReadFault name) obeys some failed tells = elim failed [ ]
 
   -- some first part of them was put, which are not those of want of memory

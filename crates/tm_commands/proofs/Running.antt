@@ -14,13 +14,14 @@ use Rattle.tm_commands.specs.declared.stop.Stop.{Stop}
 use Rattle.tm_commands.specs.declared.stop.Stop.TheVariants as stops_at
 use Rattle.tm_report.specs.declared.ending.Failure.TheVariants.{ReadFault, WriteFault, Memory}
 use Rattle.tm_play.specs.Script.{ScriptData}
-use Rattle.tm_commands.specs.Words.{Command, run, check_driver, check_environment, generate, migrate}
+use Rattle.tm_commands.specs.Words.{Command, run, synthesise, check_driver, check_environment, generate, migrate}
 use Rattle.tm_commands.specs.World.{FilesData, OnlyReads, OnlyTouches}
 use Rattle.tm_report.specs.Output.{SinkData}
 use Rattle.tm_play.specs.declared.ending.PlayEnd.{PlayEnd}
 use Rattle.tm_play.specs.Played.{Ends, IsPart}
 use Rattle.tm_commands.specs.Run.{Loads, Refused, refused, ended, some_lines, no_line, RunMayEnd, may_play}
-use Rattle.tm_commands.specs.Commands.{read_names, write_names, CommandEnds, IsCommandPart, MayEnd, CommandLeaves}
+use Rattle.tm_commands.specs.Commands.{read_names, write_names, CommandEnds, IsAnswered, IsCommandPart, MayEnd}
+use Rattle.tm_commands.specs.Commands.{CommandLeaves}
 use Rattle.tm_commands.specs.Headline.{AreTold, IsLongShown, IsShown, wrote_none, Leaves}
 use Rattle.tm_commands.specs.Order.{IsDue, IsDueOfThree}
 use Rattle.tm_commands.specs.Inner.Stopping.{StopsBy, stop_outcome, IsLoadFailure, IsRefusal}
@@ -37,6 +38,7 @@ grows_none before = ([], sym (append-nil before))
 pub nothing_put : (contents : List ℕ → Option (List ℕ)) (command : Option Command) → IsCommandPart contents command []
 nothing_put contents None = refl
 nothing_put contents (Some (run spec driver choices)) = no_line
+nothing_put contents (Some (synthesise spec out)) = inl refl
 nothing_put contents (Some (check_driver spec driver cert)) = inl refl
 nothing_put contents (Some (check_environment spec cert)) = inl refl
 nothing_put contents (Some (generate registers out)) = refl
@@ -122,7 +124,7 @@ module _ (command : Option Command) (Cause Named : Ending → Type 0) (old new :
     (read : AreTold old (read_names command) → IsTrue old.tells) (reads : read_names command ≡ [] → ⊥)
     (ends : (ending : Ending) → Cause ending → CommandEnds old.contents command [] ending)
     (only : (ending : Ending) → Cause ending → (text : List ℕ) (other : Ending) →
-    CommandEnds old.contents command text other → ending ≡ other)
+    CommandEnds old.contents command text other → IsAnswered command ending other)
     (may : (ending : Ending) → Named ending → MayEnd command ending)
     (leaves : (ending : Ending) → Named ending → new.contents ≡ old.contents →
     CommandLeaves old.contents new.contents command ending) where
@@ -207,7 +209,7 @@ module _ (command : Option Command) (old new : FilesData) (out after : SinkData)
   pub put_obeys : (ending : Ending) (text : List ℕ) →
       (IsTrue old.tells → CommandEnds old.contents command text ending) →
       (IsTrue old.tells → (t : List ℕ) (other : Ending) → CommandEnds old.contents command t other →
-      ending ≡ other) →
+      IsAnswered command ending other) →
       MayEnd command ending → IsLongShown old new ending →
       (IsTrue out.tells → after.written ≡ out.written ++ text) → Obeys command old new out after (Ok ending)
   put_obeys ending text ends only may long put = record {
@@ -233,7 +235,7 @@ module _ (command : Option Command) (old new : FilesData) (out after : SinkData)
   cut_leaves : (failure : Failure) → IsSinkFailure out after failure → Leaves command old new (Err failure)
   cut_leaves Memory failed = tt
   cut_leaves (WriteFault []) failed = wrote_none writes left.same_contents
-  cut_leaves (WriteFault (b ∷ bs)) failed = tt
+  cut_leaves (WriteFault (b ∷ bs)) failed = let none : b ∷ bs ≡ [] = failed.0 in cc
   cut_leaves (ReadFault name) failed = elim failed [ ]
 
   -- it failed

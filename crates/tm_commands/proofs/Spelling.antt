@@ -11,12 +11,14 @@ use Rattle.tm_play.specs.Numbers.{digits_after}
 use Rattle.tm_commands.specs.Words.{Command, run, check_driver, check_environment, generate, migrate}
 use Rattle.tm_commands.specs.Words.{is_filled, positional_words, without_options}
 use Rattle.tm_commands.specs.Words.{most_registers, registers_of, run_of, check_of, generate_of, migrate_of, command_of}
+use Rattle.tm_commands.specs.Words.{synthesise, synthesise_of}
 use Rattle.tm_commands.specs.Words.{command_with}
 use Rattle.tm_commands.specs.Inner.Obeying.{IsSpelled}
 
 -- the registers are within their limit, and the file that is written has a name
 abbrev pub IsFit : Command → Type 0
 IsFit (run spec driver choices) = Unit {0}
+IsFit (synthesise spec out) = Unit {0}
 IsFit (check_driver spec driver cert) = Unit {0}
 IsFit (check_environment spec cert) = Unit {0}
 IsFit (generate registers out) = (registers ≤ most_registers) × (out ≡ [] → ⊥)
@@ -70,6 +72,12 @@ run_fit (s ∷ d ∷ []) c is = absurd (cc)
 run_fit (s ∷ d ∷ h ∷ []) c is = let same : run s d h ≡ c = cc in subst IsFit same tt
 run_fit (s ∷ d ∷ h ∷ w ∷ ws) c is = absurd (cc)
 
+synthesise_fit : (words : List (List ℕ)) (c : Command) → synthesise_of words ≡ Some c → IsFit c
+synthesise_fit [] c is = absurd (cc)
+synthesise_fit (s ∷ []) c is = absurd (cc)
+synthesise_fit (s ∷ o ∷ []) c is = let same : synthesise s o ≡ c = cc in subst IsFit same tt
+synthesise_fit (s ∷ o ∷ w ∷ ws) c is = absurd (cc)
+
 check_fit : (words : List (List ℕ)) (c : Command) → check_of words ≡ Some c → IsFit c
 check_fit [] c is = absurd (cc)
 check_fit (s ∷ []) c is = absurd (cc)
@@ -103,14 +111,15 @@ migrate_fit (s ∷ k ∷ o ∷ []) c all is =
     (filled o (both (is_filled o) true (both (is_filled k) (is_filled o && true) behind).1).0)
 migrate_fit (s ∷ k ∷ o ∷ w ∷ ws) c all is = absurd (cc)
 
-chosen : (r k g m : Bool) (words : List (List ℕ)) (c : Command) → list_all is_filled words ≡ true →
-    (if r then run_of words else if k then check_of words else if g then generate_of words
-    else if m then migrate_of words else None) ≡ Some c → IsFit c
-chosen true k g m words c all is = run_fit words c is
-chosen false true g m words c all is = check_fit words c is
-chosen false false true m words c all is = generate_fit words c all is
-chosen false false false true words c all is = migrate_fit words c all is
-chosen false false false false words c all is = absurd (cc)
+chosen : (r s k g m : Bool) (words : List (List ℕ)) (c : Command) → list_all is_filled words ≡ true →
+    (if r then run_of words else if s then synthesise_of words else if k then check_of words
+    else if g then generate_of words else if m then migrate_of words else None) ≡ Some c → IsFit c
+chosen true s k g m words c all is = run_fit words c is
+chosen false true k g m words c all is = synthesise_fit words c is
+chosen false false true g m words c all is = check_fit words c is
+chosen false false false true m words c all is = generate_fit words c all is
+chosen false false false false true words c all is = migrate_fit words c all is
+chosen false false false false false words c all is = absurd (cc)
 
 -- a command that is spelled is fit
 pub spelled_fit : (c : Command) → IsSpelled c → IsFit c
@@ -120,5 +129,6 @@ spelled_fit c spelled = by spelled.0 spelled.1
     by [] is = absurd (cc)
     by (command ∷ words) is =
         let from = made (command_with command) (positional_words words) c is in
-        chosen (bytes_eq command (codes "run")) (bytes_eq command (codes "check")) (bytes_eq command (codes "gen"))
-        (bytes_eq command (codes "migrate")) from.0 c (all_filled words from.0 from.1) from.2
+        chosen (bytes_eq command (codes "run")) (bytes_eq command (codes "synth")) (bytes_eq command (codes "check"))
+        (bytes_eq command (codes "gen")) (bytes_eq command (codes "migrate")) from.0 c
+        (all_filled words from.0 from.1) from.2

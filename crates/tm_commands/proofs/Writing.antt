@@ -19,7 +19,7 @@ use Rattle.tm_report.specs.declared.ending.Failure.TheVariants.{ReadFault, Write
 use Rattle.tm_commands.specs.Words.{Command, generate, migrate}
 use Rattle.tm_commands.specs.World.{FilesData, files_data, OnlyReads, OnlyWrites, OnlyTouches}
 use Rattle.tm_report.specs.Output.{SinkData}
-use Rattle.tm_commands.specs.Commands.{read_names, write_names, IsCommandPart}
+use Rattle.tm_commands.specs.Commands.{read_names, write_names, IsCommandPart, CommandBreaksOff}
 use Rattle.tm_commands.specs.Migrate.{migrates, may_migrate}
 use Rattle.tm_commands.specs.Headline.{IsShown, Leaves}
 use Rattle.tm_commands.specs.Order.{IsWriteDue}
@@ -51,6 +51,7 @@ module _ (command : Option Command) (name : List ℕ) (named : name ≡ [] → �
     (written : (n : List ℕ) → n ≡ name → Contains (write_names command) n) {A : Type 0} (F : FilesGhosts A)
     (x y z : A) (same : F.write_faults y ≡ F.write_faults x)
     (due : IsTrue F.tells → IsWriteDue (F.contents x) command)
+    (breaks : (n : List ℕ) → n ≡ name → IsTrue F.tells → CommandBreaksOff (F.contents x) (F.contents z) command n)
     (touched : OnlyTouches (read_names command) (write_names command) (files_data F x) (files_data F z)) where
   put_none : (before : List ℕ) (failure : Failure) →
       IsWriteFailure name (files_data F y) (files_data F z) failure →
@@ -76,13 +77,13 @@ module _ (command : Option Command) (name : List ℕ) (named : name ≡ [] → �
       (written (b ∷ bs) failed.0, rose_before (b ∷ bs) failed.0 failed.1, due)
 
   unwritten_leaves : (failure : Failure) → IsWriteFailure name (files_data F y) (files_data F z) failure →
-      Leaves command (files_data F x) (files_data F z) (Err failure)
-  unwritten_leaves Memory failed = tt
-  unwritten_leaves (ReadFault n) failed = elim failed [ ]
-  unwritten_leaves (WriteFault []) failed = absurd (named (sym failed.0))
-  unwritten_leaves (WriteFault (b ∷ bs)) failed = tt
+      IsTrue F.tells → Leaves command (files_data F x) (files_data F z) (Err failure)
+  unwritten_leaves Memory failed tells = tt
+  unwritten_leaves (ReadFault n) failed tells = elim failed [ ]
+  unwritten_leaves (WriteFault []) failed tells = absurd (named (sym failed.0))
+  unwritten_leaves (WriteFault (b ∷ bs)) failed tells = breaks (b ∷ bs) failed.0 tells
 
-  unwritten_obeys : (out : SinkData) (failure : Failure) →
+  pub unwritten_obeys : (out : SinkData) (failure : Failure) →
       IsWriteFailure name (files_data F y) (files_data F z) failure →
       Obeys command (files_data F x) (files_data F z) out out (Err failure)
   unwritten_obeys out failure failed = record {
@@ -93,7 +94,7 @@ module _ (command : Option Command) (name : List ℕ) (named : name ≡ [] → �
     may_end = tt;
     shown = write_shown out failure failed;
     long = tt;
-    files = record { touched = touched; left = λ tells. unwritten_leaves failure failed };
+    files = record { touched = touched; left = unwritten_leaves failure failed };
     no_fewer_faults = omega arith;
   }
 
@@ -111,7 +112,7 @@ module _ (registers : ℕ) (name : List ℕ) {A : Type 0} (F : FilesGhosts A) (x
       Obeys (Some (generate registers name)) (files_data F x) (files_data F z) out out (Err failure)
   ungenerated_obeys failure named failed =
       unwritten_obeys (Some (generate registers name)) name named (λ n is. (0, omega arith, sym is)) F x x z refl
-      (λ tells. tt) touched_generating out failure failed
+      (λ tells. tt) (λ n is tells. tt) touched_generating out failure failed
 
   -- was written
   pub generated_obeys : (IsTrue F.tells → F.contents z name ≡ Some (generated_text registers)) →
@@ -144,8 +145,8 @@ module _ (spec cert name : List ℕ) {A : Type 0} (F : FilesGhosts A) (x y z : A
       Obeys (Some (migrate spec cert name)) (files_data F x) (files_data F z) out out (Err failure)
   unmigrated_obeys shape c failure m named failed =
       unwritten_obeys (Some (migrate spec cert name)) name named (λ n is. (0, omega arith, sym is)) F x y z
-      read.same_writes (λ tells. (m.design, c, m.specified tells, m.certified tells)) touched_migrating out failure
-      failed
+      read.same_writes (λ tells. (m.design, c, m.specified tells, m.certified tells)) (λ n is tells. tt)
+      touched_migrating out failure failed
 
   -- was written
   pub migrated_obeys : (shape : CertShape) (c : Certificate) (text : List ℕ) →

@@ -19,7 +19,8 @@ use Rattle.tm_report.specs.declared.ending.Ending.TheVariants.{Faulty, BadText}
 use Rattle.tm_report.specs.declared.ending.Failure.{Failure}
 use Rattle.tm_report.specs.declared.ending.Failure.TheVariants.{ReadFault, WriteFault, Memory}
 use Rattle.tm_commands.specs.Words.{Command}
-use Rattle.tm_commands.specs.Commands.{read_names, write_names, CommandEnds, IsCommandPart, CommandLeaves}
+use Rattle.tm_commands.specs.Commands.{read_names, write_names, CommandEnds, IsAnswered, IsCommandPart, CommandLeaves}
+use Rattle.tm_commands.specs.Commands.{CommandBreaksOff}
 use Rattle.tm_commands.specs.Order.{IsDue, IsWriteDue}
 use Rattle.tm_report.specs.Report.{ending_text, failure_text, outcome_text}
 use Rattle.tm_commands.specs.World.{FilesData, OnlyTouches, HasFailedRead, HasFailedWrite}
@@ -37,12 +38,12 @@ HasCause old command outcome =
     AreTold old (read_names command) →
     IfOk outcome (λ ending. (text : List ℕ) × CommandEnds old.contents command text ending)
 
--- an end that the command has is the one that is answered, unless a failure comes first
+-- an end that the command has is the one that is answered, or alike, unless a failure comes first
 abbrev pub IsComplete : FilesData → Option Command → Result Ending Failure → Type 0
 IsComplete old command outcome =
     AreTold old (read_names command) →
     IfOk outcome (λ answered. (text : List ℕ) (ending : Ending) → CommandEnds old.contents command text ending →
-    answered ≡ ending)
+    IsAnswered command answered ending)
 
 -- a file was not read or written: it is one that the command reads or writes, its count rose, and where the files tell,
 -- those before it were judged well
@@ -75,22 +76,24 @@ pub record IsLongShown (old new : FilesData) (ending : Ending) : Type 0 where
   pub file : (name : List ℕ) → ending ≡ BadText name TooLong → TookMoreThan file_limit old new
 
 -- what is left in the files where the output failed: all as it was by a command that writes none, and by another one
--- what the outcome leaves that it came to: an end what it says, a failed read all as it was, a failed write anything
+-- what the outcome leaves that it came to: an end what it says, a failed read all as it was, a failed write anything in
+-- the file in hand
 pub data LeavesUnreported (command : Option Command) (old new : FilesData) : Type 0 where
   wrote_none : write_names command ≡ [] → new.contents ≡ old.contents → LeavesUnreported command old new
   came_to_end : (text : List ℕ) (ending : Ending) → CommandEnds old.contents command text ending →
       CommandLeaves old.contents new.contents command ending → LeavesUnreported command old new
   failed_to_read : (name : List ℕ) → IsFault command old new (ReadFault name) → new.contents ≡ old.contents →
       LeavesUnreported command old new
-  failed_to_write : (name : List ℕ) → IsFault command old new (WriteFault name) → LeavesUnreported command old new
+  failed_to_write : (name : List ℕ) → IsFault command old new (WriteFault name) →
+      CommandBreaksOff old.contents new.contents command name → LeavesUnreported command old new
 
--- what an outcome leaves in the files: an end what it says, and a failed read all as it was; after a failed write or
--- want of memory nothing is said of the file that the command writes
+-- what an outcome leaves in the files: an end what it says, and a failed read all as it was; after a failed write
+-- nothing is said of the file in hand, and after want of memory nothing of what the command writes
 abbrev pub Leaves : Option Command → FilesData → FilesData → Result Ending Failure → Type 0
 Leaves command old new (Ok ending) = CommandLeaves old.contents new.contents command ending
 Leaves command old new (Err (ReadFault name)) = new.contents ≡ old.contents
 Leaves command old new (Err (WriteFault [])) = LeavesUnreported command old new
-Leaves command old new (Err (WriteFault (b ∷ bs))) = Unit {0}
+Leaves command old new (Err (WriteFault (b ∷ bs))) = CommandBreaksOff old.contents new.contents command (b ∷ bs)
 Leaves command old new (Err Memory) = Unit {0}
 
 -- a report of a command, where it leaves in the files what its outcome says: its lines and those that tell its end, the

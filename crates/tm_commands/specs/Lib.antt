@@ -8,5 +8,6 @@ pub mod Order
 pub mod Run
 pub mod Status
 pub mod Synthesis
+pub mod Synthesise
 pub mod Words
 pub mod World

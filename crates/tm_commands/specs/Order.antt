@@ -1,11 +1,11 @@
 -- The order in which a command reads and writes its files: each only where those before it were judged well.
-use Rattle.std.specs.Prelude.{ℕ, Option, Some, List}
+use Rattle.std.specs.Prelude.{◌≡◌, ℕ, Option, Some, List}
 use Rattle.tm_syntax.specs.Design.{DesignTree}
 use Rattle.tm_cir.specs.Tree.{BlockTree}
 use Rattle.tm_cert.specs.declared.cert.Cert.{Cert as Certificate}
 use Rattle.tm_cert.specs.declared.shape.Kind.TheVariants.{Either}
 use Rattle.tm_commands.specs.Inputs.{TellsSpecification, TellsBlocks, TellsCert}
-use Rattle.tm_commands.specs.Words.{Command, run, check_driver, check_environment, migrate}
+use Rattle.tm_commands.specs.Words.{Command, run, synthesise, check_driver, check_environment, migrate}
 
 -- a file of three is due to be read: SPEC at once, DRIVER where SPEC tells a design, and the third where DRIVER tells
 -- blocks over it
@@ -23,14 +23,16 @@ pub data IsDueOfTwo (contents : List ℕ → Option (List ℕ)) (spec cert : Lis
 -- a file of a command is due to be read
 abbrev pub IsDue : (List ℕ → Option (List ℕ)) → Option Command → List ℕ → Type 0
 IsDue contents (Some (run spec driver choices)) = IsDueOfThree contents spec driver choices
+IsDue contents (Some (synthesise spec out)) = λ name. name ≡ spec
 IsDue contents (Some (check_driver spec driver cert)) = IsDueOfThree contents spec driver cert
 IsDue contents (Some (check_environment spec cert)) = IsDueOfTwo contents spec cert
 IsDue contents (Some (migrate spec cert out)) = IsDueOfTwo contents spec cert
 IsDue contents _ = λ name. ⊥
 
--- what a command writes is due: that of `migrate` where SPEC tells a design and CERT a certificate for it, and that of
--- `gen` at once
+-- what a command writes is due: that of `synth` where SPEC tells a design, that of `migrate` where CERT tells a
+-- certificate for it, too, and that of `gen` at once
 abbrev pub IsWriteDue : (List ℕ → Option (List ℕ)) → Option Command → Type 0
+IsWriteDue contents (Some (synthesise spec out)) = (d : DesignTree) × TellsSpecification contents spec d
 IsWriteDue contents (Some (migrate spec cert out)) =
     (d : DesignTree) × (c : Certificate) × TellsSpecification contents spec d × TellsCert contents cert d Either c
 IsWriteDue contents _ = Unit {0}

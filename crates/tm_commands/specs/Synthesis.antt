@@ -1,8 +1,10 @@
--- What it means that `check` accepts: over the contents of the files, and in words of plays alone.
+-- What it means that `check` accepts, and what `synth` finds: over the contents of the files, and in words of plays
+-- alone.
 use Rattle.std.specs.Prelude.{◌≡◌, ℕ, ◌+◌, ◌*◌, ◌<◌, false, Option, Some, Result, Ok, List, [], ◌++◌, length, sum}
 use Rattle.std.specs.Prelude.{IsTrue}
 use Rattle.std.specs.List.{AllByRecursion}
 use Rattle.tm_cir.specs.Answer.{Answers}
+use Rattle.tm_cir.specs.Text.{IsDriverText}
 use Rattle.tm_cir.specs.Tree.{BlockTree}
 use Rattle.tm_sem.specs.Fairness.{HasRounds}
 use Rattle.tm_sem.specs.Loss.{Beats, Lost}
@@ -12,10 +14,11 @@ use Rattle.tm_sem.specs.Step.{IsInitial}
 use Rattle.tm_sem.specs.Strategy.{Good, IsDriven, states_of}
 use Rattle.tm_syntax.specs.Design.{DesignTree}
 use Rattle.tm_report.specs.declared.ending.Ending.{Ending}
-use Rattle.tm_report.specs.declared.ending.Ending.TheVariants.{Accepted, AcceptedEnvironment}
+use Rattle.tm_report.specs.declared.ending.Ending.TheVariants.{Driver, Environment, Accepted, AcceptedEnvironment}
 use Rattle.tm_report.specs.declared.ending.Failure.{Failure}
-use Rattle.tm_commands.specs.Inputs.{TellsSpecification, TellsBlocks}
-use Rattle.tm_commands.specs.Words.{Command, check_driver, check_environment}
+use Rattle.tm_commands.specs.Inputs.{Tells, TellsSpecification, TellsBlocks}
+use Rattle.tm_commands.specs.Synthesise.{driver_name}
+use Rattle.tm_commands.specs.Words.{Command, synthesise, check_driver, check_environment}
 use Rattle.tm_commands.specs.World.{FilesData}
 
 -- SPEC tells a design, and DRIVER tells blocks over it that are a good driver: no play that they drive, whatever the
@@ -27,6 +30,22 @@ pub record TellsGood (contents : List ℕ → Option (List ℕ)) (spec driver : 
   pub blocks : List BlockTree
   pub specified : TellsSpecification contents spec design
   pub told : TellsBlocks contents driver design blocks
+  pub good : Good design (Answers blocks) ranks
+  pub waits : (first : StateData) (entries : List Entry) → IsDriven design (Answers blocks) first entries →
+      (goal n : ℕ) (before stretch after : List StateData) → goal < length design.goals →
+      states_of first entries ≡ before ++ (stretch ++ after) →
+      AllByRecursion (λ s. goal_holds design s goal ≡ false) stretch → HasRounds design n stretch → n < sum ranks
+
+-- SPEC tells a design, and OUT.c holds the C text of blocks over it, and of no others, that are a good driver: what is
+-- said of DRIVER above holds of these
+pub record WritesGood (old new : List ℕ → Option (List ℕ)) (spec out : List ℕ) (ranks : List ℕ) : Type 0 where
+  pub design : DesignTree
+  pub text : List ℕ
+  pub blocks : List BlockTree
+  pub specified : TellsSpecification old spec design
+  pub told : Tells new (driver_name out) text
+  pub is : IsDriverText design text blocks
+  pub only : (bs : List BlockTree) → IsDriverText design text bs → bs ≡ blocks
   pub good : Good design (Answers blocks) ranks
   pub waits : (first : StateData) (entries : List Entry) → IsDriven design (Answers blocks) first entries →
       (goal n : ℕ) (before stretch after : List StateData) → goal < length design.goals →
@@ -55,4 +74,18 @@ abbrev pub AcceptsLost : FilesData → Option Command → Result Ending Failure 
 AcceptsLost old command outcome =
     IsTrue old.tells → (levels conditions chain : ℕ) → outcome ≡ Ok (AcceptedEnvironment levels conditions chain) →
     (spec : List ℕ) × (cert : List ℕ) × (command ≡ Some (check_environment spec cert))
+    × TellsLost old.contents spec levels conditions chain
+
+-- a driver is found by `synth SPEC OUT` alone, and OUT.c holds a good one
+abbrev pub FindsGood : FilesData → FilesData → Option Command → Result Ending Failure → Type 0
+FindsGood old new command outcome =
+    IsTrue old.tells → (ranks : List ℕ) (nodes : ℕ) → outcome ≡ Ok (Driver ranks nodes) →
+    (spec : List ℕ) × (out : List ℕ) × (command ≡ Some (synthesise spec out))
+    × WritesGood old.contents new.contents spec out ranks
+
+-- that there is no driver is found by `synth SPEC OUT` alone, and the design is lost
+abbrev pub FindsLost : FilesData → Option Command → Result Ending Failure → Type 0
+FindsLost old command outcome =
+    IsTrue old.tells → (levels conditions chain : ℕ) → outcome ≡ Ok (Environment levels conditions chain) →
+    (spec : List ℕ) × (out : List ℕ) × (command ≡ Some (synthesise spec out))
     × TellsLost old.contents spec levels conditions chain

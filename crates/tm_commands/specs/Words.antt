@@ -12,6 +12,7 @@ use Rattle.tm_play.specs.Numbers.{digits_after}
 -- a command, with the names of its files
 pub data Command : Type 0 where
   run : (spec driver choices : List ℕ) → Command
+  synthesise : (spec out : List ℕ) → Command
   check_driver : (spec driver cert : List ℕ) → Command
   check_environment : (spec cert : List ℕ) → Command
   generate : (registers : ℕ) (out : List ℕ) → Command
@@ -54,6 +55,11 @@ abbrev pub run_of : List (List ℕ) → Option Command
 run_of (spec ∷ driver ∷ choices ∷ []) = Some (run spec driver choices)
 run_of _ = None
 
+-- `synth` with its positional words
+abbrev pub synthesise_of : List (List ℕ) → Option Command
+synthesise_of (spec ∷ out ∷ []) = Some (synthesise spec out)
+synthesise_of _ = None
+
 -- `check` with its positional words
 abbrev pub check_of : List (List ℕ) → Option Command
 check_of (spec ∷ cert ∷ []) = Some (check_environment spec cert)
@@ -74,6 +80,7 @@ migrate_of _ = None
 abbrev pub command_with : List ℕ → List (List ℕ) → Option Command
 command_with command words =
     if bytes_eq command (codes "run") then run_of words
+    else if bytes_eq command (codes "synth") then synthesise_of words
     else if bytes_eq command (codes "check") then check_of words
     else if bytes_eq command (codes "gen") then generate_of words
     else if bytes_eq command (codes "migrate") then migrate_of words
@@ -87,6 +94,7 @@ command_of (command ∷ words) = option_and_then (command_with command) (positio
 -- a command as the code has it
 abbrev pub command_view : Words → Command
 command_view (words.Run spec driver choices) = run spec.now driver.now choices.now
+command_view (words.Synthesise spec out) = synthesise spec.now out.now
 command_view (words.CheckDriver spec driver cert) = check_driver spec.now driver.now cert.now
 command_view (words.CheckEnvironment spec cert) = check_environment spec.now cert.now
 command_view (words.Generate registers out) = generate registers out.now

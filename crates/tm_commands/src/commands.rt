@@ -5,4 +5,5 @@ pub mod check_environment;
 pub mod generate;
 pub mod migrate;
 pub mod run;
+pub mod synthesise;
 pub mod write;

@@ -8,7 +8,7 @@ ghost use Rattle.tm_report.specs.Output.{sink_data};
 ghost use Rattle.tm_commands.specs.Status.{outcome_of};
 ghost use Rattle.tm_commands.specs.Headline.{HasCause, IsComplete, IsShown, IsLongShown, Reports, EndsWithLines};
 ghost use Rattle.tm_commands.specs.Headline.{KeepsFiles};
-ghost use Rattle.tm_commands.specs.Synthesis.{AcceptsGood, AcceptsLost};
+ghost use Rattle.tm_commands.specs.Synthesis.{AcceptsGood, AcceptsLost, FindsGood, FindsLost};
 ghost use Rattle.tm_commands.specs.Inner.Obeying.{IsSpelled, Obeys};
 
 use crate::commands::check_driver::check_driver;
@@ -16,6 +16,7 @@ use crate::commands::check_environment::check_environment;
 use crate::commands::generate::generate;
 use crate::commands::migrate::migrate;
 use crate::commands::run::run;
+use crate::commands::synthesise::synthesise;
 use crate::status::{Status, status_of};
 use crate::words::command::Command;
 use crate::words::reading::read_words;
@@ -41,6 +42,7 @@ fn obey<F: Files, O: Sink>(
             driver,
             choices,
         } => run(alloc, files, out, spec, driver, choices),
+        Command::Synthesise { spec, out: name } => synthesise(alloc, files, out, spec, name),
         Command::CheckDriver { spec, driver, cert } => {
             check_driver(alloc, files, out, spec, driver, cert)
         }
@@ -95,8 +97,12 @@ pub fn obey_and_report<F: Files, O: Sink>(
     ensures complete { IsComplete (files_data ⟦<F as Files>⟧ files.old)
         (command_of (map string_bytes words.now)) (outcome_of result) }
 
-    // The synthesis theorem. A driver that is accepted is a good one with the ranks that are answered, and a design
-    // whose environment is accepted is lost, where the files tell.
+    // The synthesis theorem. A driver that is found or accepted is a good one with the ranks that are answered, and a
+    // design without a driver, or whose environment is accepted, is lost, where the files tell.
+    ensures found_good { FindsGood (files_data ⟦<F as Files>⟧ files.old) (files_data ⟦<F as Files>⟧ files.new)
+        (command_of (map string_bytes words.now)) (outcome_of result) }
+    ensures found_lost { FindsLost (files_data ⟦<F as Files>⟧ files.old)
+        (command_of (map string_bytes words.now)) (outcome_of result) }
     ensures good { AcceptsGood (files_data ⟦<F as Files>⟧ files.old)
         (command_of (map string_bytes words.now)) (outcome_of result) }
     ensures lost { AcceptsLost (files_data ⟦<F as Files>⟧ files.old)
@@ -120,9 +126,10 @@ pub fn obey_and_report<F: Files, O: Sink>(
     ensures last_line { EndsWithLines
         (sink_data ⟦<O as Sink>⟧ out.old) (sink_data ⟦<O as Sink>⟧ out.new) (outcome_of result) }
 
-    // No file changes but those that the command writes. At `Generated` and `Migrated` what they hold is the text or
-    // the certificate that was asked for; where a read failed or a text is refused none of them has changed. Where the
-    // output failed they are as the outcome says whose lines it did not take.
+    // No file changes but those that the command writes. At `Driver`, `Environment`, `Generated` and `Migrated` what
+    // they hold is the driver with its certificate, the environment's certificate, the text or the certificate that was
+    // asked for; where a read failed or a text is refused none of them has changed. After a failed write the other file
+    // stands that was written before. Where the output failed they are as the outcome says whose lines it did not take.
     ensures files { KeepsFiles (command_of (map string_bytes words.now))
         (files_data ⟦<F as Files>⟧ files.old) (files_data ⟦<F as Files>⟧ files.new) (outcome_of result) }
 {

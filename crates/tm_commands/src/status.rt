@@ -13,6 +13,26 @@ use tm_syntax::fault::Faulty;
 pub enum Status {
     /// The choices were read to their end and are a play of so many steps.
     Played(u64),
+    /// A driver was found, and its files are written: it has so many ranked regions for each goal, and its certificate
+    /// so many nodes.
+    Driver {
+        ranks: Ranks,
+        nodes: u64,
+    },
+    /// No driver exists, and the file that shows it is written: so many levels, with a chain for each of so many
+    /// fairness conditions; the longest chain has so many sets.
+    Environment {
+        levels: u64,
+        conditions: u64,
+        chain: u64,
+    },
+    /// The checker refuses what was found: a condition fails, with the goal and the state that are reported. Nothing is
+    /// written.
+    Unproved {
+        condition: u8,
+        goal: u32,
+        state: State,
+    },
     /// The driver has its certificate, with so many ranked regions for each goal.
     Accepted {
         ranks: Ranks,
@@ -61,11 +81,14 @@ impl Status {
         ensures { result ≡ code_of self.now }
     {
         match self {
+            Status::Driver { .. } => 0,
             Status::Played(_) => 0,
             Status::Accepted { .. } => 0,
             Status::AcceptedEnvironment { .. } => 0,
             Status::Generated(_) => 0,
             Status::Migrated => 0,
+            Status::Environment { .. } => 1,
+            Status::Unproved { .. } => 1,
             Status::Refused { .. } => 1,
             Status::Usage => 2,
             Status::Faulty(_) => 3,
@@ -87,6 +110,29 @@ pub fn status_of(outcome: Result<Ending, Failure>) -> Status
         Ok(Ending::Faulty(fault)) => Status::Faulty(fault),
         Ok(Ending::Play(PlayEnd::Played(steps))) => Status::Played(steps),
         Ok(Ending::Play(PlayEnd::Stopped { step, why })) => Status::Stopped { step, why },
+        Ok(Ending::Driver { ranks, nodes }) => Status::Driver { ranks, nodes },
+        Ok(
+            Ending::Environment {
+                levels,
+                conditions,
+                chain,
+            },
+        ) => Status::Environment {
+            levels,
+            conditions,
+            chain,
+        },
+        Ok(
+            Ending::Unproved {
+                condition,
+                goal,
+                state,
+            },
+        ) => Status::Unproved {
+            condition,
+            goal,
+            state,
+        },
         Ok(Ending::Accepted { ranks }) => Status::Accepted { ranks },
         Ok(
             Ending::AcceptedEnvironment {

@@ -1,5 +1,6 @@
 -- The numbers that certificates speak of, by the guarded updates of a design and by the design.
-use Rattle.std.proofs.Common.{◌≡◌, ℕ, ◌+◌, ◌-◌, ◌^◌, ◌<◌, ◌≤◌, List, ◌++◌, map, length, take, replicate, refl, ap, ◌∙◌, arith, not, append_assoc, length-append}
+use Rattle.std.proofs.Common.{◌≡◌, ℕ, ◌+◌, ◌-◌, ◌^◌, ◌<◌, ◌≤◌, List, ◌++◌, map, length, take, replicate, refl, ap, ◌∙◌}
+use Rattle.std.proofs.Common.{arith, not, append_assoc, length-append}
 use Rattle.std.specs.Prelude.{sum}
 use Rattle.std.specs.List.{range_with_len}
 use Rattle.std.proofs.lemmas.List.{length-map, length-replicate}
@@ -44,7 +45,7 @@ states_cut widths cut count is same =
     ap (λ (ws : List ℕ). capped (sum ws)) (same ∙ ap (λ k. take k widths) is)
 
 module _ (d : DesignTree) (sound : IsSound d) where
-  few_conditions : length (conditions d) ≤ 63
+  pub few_conditions : length (conditions d) ≤ 63
   few_conditions =
       let all = length-append (map of_process (owed d)) (map of_text d.fairs) in
       let processes = length-map (owed d) of_process in

@@ -1,3 +1,4 @@
+pub mod Chains
 pub mod FlatShape
 pub mod Inner
 pub mod Judged

@@ -3,12 +3,14 @@
 
 mod allowed;
 mod bits;
+mod counts;
 mod driver;
 mod environment;
 mod fairness;
 mod flat_shape;
 mod laws;
 mod making;
+mod orders;
 mod read;
 mod regular_laws;
 mod shape;
@@ -16,6 +18,7 @@ mod shape_laws;
 mod write;
 
 pub use allowed::is_allowed;
+pub use counts::{longest_chain, ranks_of};
 pub use driver::judge_driver;
 pub use environment::judge_environment;
 pub use laws::good_blocks_are_not_of_lost_designs;

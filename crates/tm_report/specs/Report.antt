@@ -22,6 +22,8 @@ use Rattle.tm_syntax.specs.Design.{DesignTree}
 use Rattle.tm_report.specs.declared.ending.Ending.{Ending}
 use Rattle.tm_report.specs.declared.ending.Ending.TheVariants.{Usage, Faulty, Play, Generated, Migrated}
 use Rattle.tm_report.specs.declared.ending.Ending.TheVariants.{BadText, Accepted, AcceptedEnvironment, Refused}
+use Rattle.tm_report.specs.declared.ending.Ending.TheVariants.{Environment, Unproved}
+use Rattle.tm_report.specs.declared.ending.Ending.TheVariants as endings
 use Rattle.tm_report.specs.declared.ending.Failure.{Failure}
 use Rattle.tm_report.specs.declared.ending.Failure.TheVariants.{ReadFault, WriteFault, Memory}
 
@@ -103,7 +105,7 @@ abbrev pub accepted_text : DesignTree → List ℕ → List ℕ
 accepted_text d ranks =
     codes "accepted driver\n" ++ flat_map (goal_line d ranks) (range_with_len 0 (length ranks))
 
--- the line of the numbers of an environment that is accepted: of levels, of fairness conditions, and of sets in the
+-- the line of the numbers of an environment's certificate: of levels, of fairness conditions, and of sets in the
 -- longest chain
 abbrev pub numbers_line : (levels conditions chain : ℕ) → List ℕ
 numbers_line levels conditions chain =
@@ -113,6 +115,31 @@ numbers_line levels conditions chain =
 -- the lines of an environment that is accepted
 abbrev pub levels_text : (levels conditions chain : ℕ) → List ℕ
 levels_text levels conditions chain = codes "accepted environment\n" ++ numbers_line levels conditions chain
+
+-- the line that tells how many predicates were tracked at first: the decision is made without any
+abbrev pub track_line : List ℕ
+track_line = codes "track 0\n"
+
+-- the line of the number of nodes of a certificate
+abbrev pub nodes_line : ℕ → List ℕ
+nodes_line nodes = codes "nodes " ++ decimal nodes ++ codes "\n"
+
+-- the lines of a driver that was found
+abbrev pub driver_found_text : DesignTree → (ranks : List ℕ) (nodes : ℕ) → List ℕ
+driver_found_text d ranks nodes =
+    codes "driver\n" ++ (track_line
+    ++ (flat_map (goal_line d ranks) (range_with_len 0 (length ranks)) ++ nodes_line nodes))
+
+-- the lines of a design that has no driver
+abbrev pub environment_found_text : (levels conditions chain : ℕ) → List ℕ
+environment_found_text levels conditions chain =
+    codes "environment\n" ++ (track_line ++ numbers_line levels conditions chain)
+
+-- the line of a condition that fails of what was found, with its letter
+abbrev pub unproved_text : DesignTree → (letter : List ℕ) (condition goal : ℕ) → StateData → List ℕ
+unproved_text d letter condition goal s =
+    codes "unproved " ++ letter ++ decimal condition ++ codes " goal " ++ decimal goal ++ codes " "
+    ++ state_text d s ++ codes "\n"
 
 -- the line of a condition that fails, with its letter: its number, the goal, and the state that are reported
 abbrev pub refused_text : DesignTree → (letter : List ℕ) (condition goal : ℕ) → StateData → List ℕ
@@ -130,11 +157,15 @@ usage_text =
     ++ codes "       termite gen N OUT\n"
     ++ codes "       termite migrate SPEC CERT OUT\n"
 
--- the lines that tell an end; those of `check` on a certificate, which speak of the design, are put on the way
+-- the lines that tell an end; those of `synth` and of `check` on a certificate, which speak of the design, are put on
+-- the way
 abbrev pub ending_text : Ending → List ℕ
 ending_text Usage = usage_text
 ending_text (Faulty f) = fault_line f
 ending_text (Play end) = end_text end
+ending_text (endings.Driver ranks nodes) = []
+ending_text (Environment levels conditions chain) = []
+ending_text (Unproved condition goal s) = []
 ending_text (Accepted ranks) = []
 ending_text (AcceptedEnvironment levels conditions chain) = []
 ending_text (Refused condition goal s) = []

@@ -44,6 +44,26 @@ pub enum Ending {
     Faulty(Faulty),
     /// The choices were played to this end.
     Play(PlayEnd),
+    /// A driver was found, and its files are written: it has so many ranked regions for each goal, and its certificate
+    /// so many nodes.
+    Driver {
+        ranks: Ranks,
+        nodes: u64,
+    },
+    /// No driver exists, and the file that shows it is written: so many levels, with a chain for each of so many
+    /// fairness conditions; the longest chain has so many sets.
+    Environment {
+        levels: u64,
+        conditions: u64,
+        chain: u64,
+    },
+    /// The checker refuses what was found: a condition fails, with the goal and the state that are reported. Nothing is
+    /// written.
+    Unproved {
+        condition: u8,
+        goal: u32,
+        state: State,
+    },
     /// The driver has its certificate: every condition holds.
     Accepted {
         ranks: Ranks,

@@ -162,6 +162,9 @@ fn put_ending<O: Sink>(alloc: Global, ending: &Ending, out: &mut O) -> Result<()
             let line = end_line(alloc, *end)?;
             put_line(alloc, out, &line)
         }
+        Ending::Driver { .. } => Ok(()),
+        Ending::Environment { .. } => Ok(()),
+        Ending::Unproved { .. } => Ok(()),
         Ending::Accepted { .. } => Ok(()),
         Ending::AcceptedEnvironment { .. } => Ok(()),
         Ending::Refused { .. } => Ok(()),

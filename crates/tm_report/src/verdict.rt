@@ -56,8 +56,8 @@ fn put_goal<O: Sink>(
     put_line(alloc, out, &line)
 }
 
-/// Puts the lines of the goals of a driver that is accepted.
-fn put_goals<O: Sink>(
+/// Puts the lines of the goals of a driver.
+pub(crate) fn put_goals<O: Sink>(
     alloc: Global,
     design: &Design,
     ranks: &[u64],
@@ -115,7 +115,7 @@ fn levels_line(
 }
 
 /// Puts that line.
-fn put_numbers<O: Sink>(
+pub(crate) fn put_numbers<O: Sink>(
     alloc: Global,
     levels: u64,
     conditions: u64,

@@ -1,5 +1,5 @@
 //! The command `check` with a driver.
-ghost use Rattle.std.specs.Prelude.{◌≡◌, ◌<◌, ◌≤◌, ◌^◌, IfErr, IfOk, OnErr, Some, length, map};
+ghost use Rattle.std.specs.Prelude.{◌≡◌, ◌<◌, ◌≤◌, ◌^◌, IfErr, IfOk, OnErr, Some, length};
 ghost use Rattle.tm_cir.specs.View.{trees_of};
 ghost use Rattle.tm_commands.specs.Check.{driver_end, driver_text};
 ghost use Rattle.tm_commands.specs.Inner.Judging.{HasCutDriver, HasJudgedDriver};
@@ -13,27 +13,12 @@ ghost use Rattle.tm_judge.specs.Judged.{CanJudgeDriver};
 ghost use Rattle.tm_syntax.specs.Design.View.{design_tree};
 
 use crate::input::driver::{DriverInputs, load_driver};
-use std::alloc::{AllocError, Global};
+use std::alloc::Global;
 use tm_base::{Files, Sink};
-use tm_cert::{DriverCert, Rank};
-use tm_judge::judge_driver;
+use tm_judge::{judge_driver, ranks_of};
 use tm_report::{Ending, Failure, Ranks, put_accepted, put_refused};
 use tm_syntax::design::Design;
 use tm_verdict::Verdict;
-
-/// The numbers of ranked regions of goals.
-fn lengths(alloc: Global, goals: &[Vec<Rank>]) -> Result<Vec<u64>, AllocError>
-    ensures { IfOk result (λ ranks. ranks.items ≡ map (λ g. length g.items) goals.now) }
-{
-    goals.iter().map(|ranks| ranks.len() as u64).collect(alloc)
-}
-
-/// For each goal of a certificate the number of its ranked regions.
-fn ranks_of(alloc: Global, cert: &DriverCert) -> Result<Vec<u64>, AllocError>
-    ensures { IfOk result (λ ranks. ranks.items ≡ map length cert.now.goals) }
-{
-    lengths(alloc, &cert.goals)
-}
 
 /// Puts the lines of a verdict.
 fn put_verdict<O: Sink>(

@@ -1,7 +1,6 @@
 //! The command `check` without a driver.
 ghost use Rattle.std.specs.Prelude.{◌≡◌, ◌≤◌, IfErr, IfOk, OnErr, Some, length};
 ghost use Rattle.tm_commands.specs.Check.{environment_end, environment_text};
-ghost use Rattle.tm_commands.specs.Inner.Counting.{greatest, longest_in};
 ghost use Rattle.tm_commands.specs.Inner.Judging.{HasCutEnvironment, HasJudgedEnvironment};
 ghost use Rattle.tm_commands.specs.Inner.Obeying.{Obeys};
 ghost use Rattle.tm_report.specs.Putting.{HasPut};
@@ -10,14 +9,17 @@ ghost use Rattle.tm_commands.specs.Words.{check_environment as check_words};
 ghost use Rattle.tm_commands.specs.World.{files_data};
 ghost use Rattle.tm_report.specs.Output.{sink_data};
 ghost use Rattle.tm_judge.specs.Judged.{CanJudgeEnvironment};
+ghost use Rattle.tm_sem.specs.Certificates.{longest_chain as chain_of_levels};
 ghost use Rattle.tm_sem.specs.Fairness.{conditions};
+ghost use Rattle.tm_verdict.specs.Sets.{levels_of};
+ghost use Rattle.tm_syntax.specs.Design.{DesignTree};
 ghost use Rattle.tm_syntax.specs.Design.View.{design_tree};
 
 use crate::input::environment::{EnvironmentInputs, load_environment};
 use std::alloc::Global;
 use tm_base::{Files, Sink};
-use tm_cert::{CertLevel, EnvCert};
-use tm_judge::judge_environment;
+use tm_cert::EnvCert;
+use tm_judge::{judge_environment, longest_chain};
 use tm_report::{Ending, Failure, put_levels, put_refused};
 use tm_syntax::design::Design;
 use tm_verdict::Verdict;
@@ -31,38 +33,16 @@ struct Counts {
     chain: u64,
 }
 
-/// The number of sets in the longest of some chains.
-fn longest_of(chains: &[Vec<u64>]) -> u64
-    ensures { result ≡ greatest (λ chain. length chain.items) chains.now }
-{
-    let mut most = 0;
-    for chain in chains {
-        most = most.max(chain.len() as u64);
-    }
-    most
-}
-
-/// The number of sets in the longest chain of some levels.
-fn longest_chain(levels: &[CertLevel]) -> u64
-    ensures { result ≡ greatest longest_in levels.now }
-{
-    let mut most = 0;
-    for level in levels {
-        most = most.max(longest_of(&level.chains));
-    }
-    most
-}
-
 /// What is told of a certificate for so many fairness conditions.
 fn counts_of(cert: &EnvCert, fairs: u32) -> Counts
     ensures levels { result.levels ≡ length cert.now.levels }
     ensures conditions { result.conditions ≡ fairs }
-    ensures chain { result.chain ≡ greatest longest_in cert.now.levels }
+    ensures chain { (d : DesignTree) → result.chain ≡ chain_of_levels (levels_of d cert.now) }
 {
     Counts {
         levels: cert.levels.len() as u64,
         conditions: u64::from(fairs),
-        chain: longest_chain(&cert.levels),
+        chain: longest_chain(cert),
     }
 }
 

@@ -8,6 +8,10 @@ pub enum Command<'a> {
         driver: &'a str,
         choices: &'a str,
     },
+    Synthesise {
+        spec: &'a str,
+        out: &'a str,
+    },
     CheckDriver {
         spec: &'a str,
         driver: &'a str,

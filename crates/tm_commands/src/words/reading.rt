@@ -3,7 +3,7 @@ ghost use Rattle.std.specs.Prelude.{◌≡◌, map, IfOk};
 ghost use Rattle.std.specs.Option.{option_map};
 ghost use Rattle.std.specs.String.{string_bytes};
 ghost use Rattle.tm_commands.specs.Words.{check_of, command_of, command_view, command_with as command_behind};
-ghost use Rattle.tm_commands.specs.Words.{generate_of, migrate_of, registers_of, run_of};
+ghost use Rattle.tm_commands.specs.Words.{generate_of, migrate_of, registers_of, run_of, synthesise_of};
 
 use crate::words::command::Command;
 use crate::words::splitting::split;
@@ -25,6 +25,16 @@ fn run_with<'a>(words: &[&'a str]) -> Option<Command<'a>>
         driver,
         choices,
     })
+}
+
+/// The command `synth` with its positional words.
+fn synthesise_with<'a>(words: &[&'a str]) -> Option<Command<'a>>
+    ensures { option_map command_view result ≡ synthesise_of (map (λ w. w.now) words.now) }
+{
+    let [spec, out] = words else {
+        return None;
+    };
+    Some(Command::Synthesise { spec, out })
 }
 
 /// The command `check` with its positional words: three for a driver, two for the environment.
@@ -80,6 +90,7 @@ fn command_with<'a>(command: &str, words: &[&'a str]) -> Option<Command<'a>>
 {
     match command {
         "run" => run_with(words),
+        "synth" => synthesise_with(words),
         "check" => check_with(words),
         "gen" => generate_with(words),
         "migrate" => migrate_with(words),

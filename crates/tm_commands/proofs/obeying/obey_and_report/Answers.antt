@@ -6,6 +6,7 @@ use Rattle.tm_commands.specs.Words.{command_of}
 use Rattle.tm_commands.specs.World.{files_data}
 use Rattle.tm_report.specs.Output.{sink_data}
 use Rattle.tm_commands.proofs.Accepting.{accepts_good, accepts_lost}
+use Rattle.tm_commands.proofs.Finding.{finds_good, finds_lost}
 use Rattle.tm_commands.proofs.Reporting.{Keeps, keeps_whole, keeps_cut}
 use Rattle.tm_commands.proofs.obeying.obey_and_report.Goals as goal
 
@@ -20,6 +21,10 @@ returns-in-Ok g c =
     c.put_outcome.ensures.no_fewer_faults) in record {
       cause = kept.cause;
       complete = kept.complete;
+      found_good = finds_good (command_of (map string_bytes c.args.words.now)) (files_data g.F.Files c.args.files.now)
+          (files_data g.F.Files c.obey_words-outcome.new.files) _ kept.possible kept.files;
+      found_lost = finds_lost (command_of (map string_bytes c.args.words.now)) (files_data g.F.Files c.args.files.now)
+          (files_data g.F.Files c.obey_words-outcome.new.files) _ kept.possible kept.files;
       good = accepts_good (command_of (map string_bytes c.args.words.now)) (files_data g.F.Files c.args.files.now) _
           kept.cause kept.possible;
       lost = accepts_lost (command_of (map string_bytes c.args.words.now)) (files_data g.F.Files c.args.files.now) _
@@ -43,6 +48,10 @@ returns-in-Err g c =
     c.in-Err.ensures.err c.in-Err.ensures.failure c.in-Err.ensures.told) in record {
       cause = kept.cause;
       complete = kept.complete;
+      found_good = finds_good (command_of (map string_bytes c.args.words.now)) (files_data g.F.Files c.args.files.now)
+          (files_data g.F.Files c.obey_words-outcome.new.files) _ kept.possible kept.files;
+      found_lost = finds_lost (command_of (map string_bytes c.args.words.now)) (files_data g.F.Files c.args.files.now)
+          (files_data g.F.Files c.obey_words-outcome.new.files) _ kept.possible kept.files;
       good = accepts_good (command_of (map string_bytes c.args.words.now)) (files_data g.F.Files c.args.files.now) _
           kept.cause kept.possible;
       lost = accepts_lost (command_of (map string_bytes c.args.words.now)) (files_data g.F.Files c.args.files.now) _

@@ -4,7 +4,8 @@ use Rattle.tm_syntax.specs.declared.design.Design.{Design}
 use Rattle.tm_syntax.specs.Design.Locations.{Thread}
 use Rattle.tm_syntax.specs.Design.View.{design_tree}
 use Rattle.tm_scope.specs.Instances.{InstanceTables, IsOver}
-use Rattle.tm_locations.proofs.TableCallees.{item-read, no-thread-index, no-thread-site, site-here, thread-at, without-instance, without-template}
+use Rattle.tm_locations.proofs.TableCallees.{item-read, no-thread-index, no-thread-site, site-here, thread-at}
+use Rattle.tm_locations.proofs.TableCallees.{without-instance, without-template}
 use Rattle.tm_judge.specs.Inner.Laziness.{lazy_of}
 use Rattle.tm_judge.proofs.fairness.laziness.Goals as goal
 

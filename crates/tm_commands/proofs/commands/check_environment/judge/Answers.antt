@@ -14,7 +14,8 @@ returns-in-Ok-put_verdict-clause-judged g c =
     c.put_verdict.result c.in-Ok.verdict (design_tree c.args.inputs.now.design) c.args.inputs.now.cert
     (record { is = c.in-Ok.ensures.verdict; only = c.in-Ok.ensures.only }) c.counts_of-counts.result.levels
     c.counts_of-counts.result.conditions c.counts_of-counts.result.chain c.counts_of-counts.ensures.levels
-    (c.counts_of-counts.ensures.conditions ∙ c.requires.fairs) c.counts_of-counts.ensures.chain
+    (c.counts_of-counts.ensures.conditions ∙ c.requires.fairs)
+    (c.counts_of-counts.ensures.chain (design_tree c.args.inputs.now.design))
     c.put_verdict.ensures _ c.in-Ok-put_verdict.is c.end_of.result c.end_of.ensures
 
 pub returns-in-Err-clause-cut : goal.returns-in-Err-clause-cut
@@ -23,5 +24,6 @@ returns-in-Err-clause-cut g c =
     c.put_verdict.result c.in-Ok.verdict (design_tree c.args.inputs.now.design) c.args.inputs.now.cert
     (record { is = c.in-Ok.ensures.verdict; only = c.in-Ok.ensures.only }) c.counts_of-counts.result.levels
     c.counts_of-counts.result.conditions c.counts_of-counts.result.chain c.counts_of-counts.ensures.levels
-    (c.counts_of-counts.ensures.conditions ∙ c.requires.fairs) c.counts_of-counts.ensures.chain
+    (c.counts_of-counts.ensures.conditions ∙ c.requires.fairs)
+    (c.counts_of-counts.ensures.chain (design_tree c.args.inputs.now.design))
     c.put_verdict.ensures c.in-Err.failure c.in-Err.is

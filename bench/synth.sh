@@ -1,0 +1,23 @@
+#!/bin/bash
+# Proves and builds termite, and prints for each model what `synth` finds, how many blocks and bytes its C has, how many
+# nodes the certificate has, and the seconds and the peak memory that it takes. The models are the generated designs for
+# 1 to 12 and those in examples/. What the prover says goes to standard error.
+# Other models than these may be given, generated ones by their numbers: bench/synth.sh 8 my.spec
+set -e
+cd "$(dirname "$0")/.."
+example=$PWD/examples/transmitter
+(cd crates/termite && rt run -- run "$example/spec" "$example/driver.c" "$example/choices" > /dev/null)
+source bench/models
+
+line() {
+    rm -f "$folder"/out.*
+    taken=$(bench/measured.py "$folder/report" "$termite" synth "$2" "$folder/out")
+    found=$(head -n 1 "$folder/report")
+    sizes=""
+    if [ "$found" = driver ]; then
+        sizes=", $(grep -c '^L[0-9]*:' "$folder/out.c") blocks, $(wc -c < "$folder/out.c") bytes"
+    fi
+    echo "$1: $found$sizes, $(tail -n 1 "$folder/report")  $taken"
+}
+
+for_each_model "$@"

@@ -1,0 +1,52 @@
+use Rattle.std.proofs.Common.{List, refl, subst, arith}
+use Rattle.tm_envcheck.specs.Verdict.{IsLostWithin}
+use Rattle.tm_sem.specs.Certificates.{Level}
+use Rattle.tm_syntax.specs.Design.View.{design_tree}
+use Rattle.tm_verdict.specs.Sets.{levels_of}
+use Rattle.tm_judge.proofs.Moving.{environment_in_order, few_places, moved_environment, same_level_verdict}
+use Rattle.tm_judge.proofs.Moving.{same_only_levels, whole_order}
+use Rattle.tm_judge.proofs.environment.judge_moved.Goals as goal
+
+pub overflow_cast-order : goal.overflow_cast-order
+overflow_cast-order c =
+    let few = few_places (design_tree c.args.design.now) c.args.order.now c.args.order.now c.requires.order refl
+    c.requires.can.sound in
+    omega (arith, few)
+
+pub reorder_environment-requires-clause-count : goal.reorder_environment-requires-clause-count
+reorder_environment-requires-clause-count c =
+    few_places (design_tree c.args.design.now) c.args.order.now c.args.order.now c.requires.order refl
+    c.requires.can.sound
+
+pub reorder_environment-requires-clause-order : goal.reorder_environment-requires-clause-order
+reorder_environment-requires-clause-order c =
+    whole_order (design_tree c.args.design.now) c.args.order.now c.args.order.now c.requires.order refl
+
+pub reorder_environment-requires-clause-fits : goal.reorder_environment-requires-clause-fits
+reorder_environment-requires-clause-fits c =
+    environment_in_order (design_tree c.args.design.now) c.args.order.now c.args.order.now c.requires.order refl
+    c.args.cert.now c.requires.can
+
+pub judge_in_order-requires : goal.judge_in_order-requires
+judge_in_order-requires c =
+    moved_environment (design_tree c.args.design.now) c.args.order.now c.args.order.now c.requires.order refl
+    c.args.cert.now c.in_ok-moved.moved c.requires.can c.in_ok-moved.ensures.fits
+
+pub returns-clause-verdict : goal.returns-clause-verdict
+returns-clause-verdict c =
+    same_level_verdict (design_tree c.args.design.now) (levels_of (design_tree c.args.design.now) c.in_ok-moved.moved)
+    (levels_of (design_tree c.args.design.now) c.args.cert.now)
+    (c.in_ok-moved.ensures.sets (design_tree c.args.design.now))
+    c.judge_in_order.result c.judge_in_order.ensures.verdict
+
+pub returns-clause-only : goal.returns-clause-only
+returns-clause-only c =
+    same_only_levels (design_tree c.args.design.now) (levels_of (design_tree c.args.design.now) c.in_ok-moved.moved)
+    (levels_of (design_tree c.args.design.now) c.args.cert.now)
+    (c.in_ok-moved.ensures.sets (design_tree c.args.design.now))
+    c.judge_in_order.result c.judge_in_order.ensures.only
+
+pub returns-clause-within : goal.returns-clause-within
+returns-clause-within c =
+    λ is. subst (λ (ls : List Level). IsLostWithin (design_tree c.args.design.now) ls)
+    (c.in_ok-moved.ensures.sets (design_tree c.args.design.now)) (c.judge_in_order.ensures.within is)

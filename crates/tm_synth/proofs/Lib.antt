@@ -1,0 +1,5 @@
+mod Certificates
+mod Files
+mod Games
+mod Known
+mod Losing

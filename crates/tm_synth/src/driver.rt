@@ -1,0 +1,121 @@
+//! The files of a driver.
+ghost use Rattle.std.specs.Prelude.{IfOk};
+ghost use Rattle.tm_check.specs.Reads.{IsSized};
+ghost use Rattle.tm_cir.specs.View.{trees_of};
+ghost use Rattle.tm_judge.specs.Judged.{CanJudgeDriver};
+ghost use Rattle.tm_solve.specs.Exact.{MeetsRanks};
+ghost use Rattle.tm_solve.specs.Iterates as solution;
+ghost use Rattle.tm_solve.specs.Iterates.{KnowsAll};
+ghost use Rattle.tm_solve_exact.specs.Exact.{IsExactOf, exact_ids};
+ghost use Rattle.tm_syntax.specs.Design.View.{design_tree};
+ghost use Rattle.tm_syntax.specs.Faults.{IsOfText, IsSound};
+ghost use Rattle.tm_synth.specs.Found.{IsDriverFound, IsFound};
+ghost use Rattle.tm_synth.specs.Shown.{IsDriverShown, IsWeightOrder};
+
+use crate::found::{DriverFiles, Synthesis};
+use std::alloc::{AllocError, Global};
+use tm_cert::{Cert, DriverCert, Kind, write_shaped};
+use tm_cir::Blocks;
+use tm_cprint::print;
+use tm_ddops::Manager;
+use tm_game::Game;
+use tm_judge::{judge_driver, ranks_of};
+use tm_reorder::reorder_driver;
+use tm_solve::Iterates;
+use tm_strat::driver;
+use tm_strat_cert::driver_cert;
+use tm_syntax::design::Design;
+use tm_verdict::Verdict;
+
+// A driver with its certificate.
+#[derive(Drop)]
+struct Certified {
+    blocks: Blocks,
+    cert: DriverCert,
+}
+
+// The driver of the iterates of a game, with their certificate in the order of the game.
+fn certify(
+    alloc: Global,
+    design: &Design,
+    game: Game,
+    iterates: &Iterates,
+) -> Result<Certified, AllocError>
+    requires sound { IsSound (design_tree design.now) }
+    requires of_text { IsOfText (design_tree design.now).spec }
+    requires exact { IsExactOf (design_tree design.now) game }
+    requires sized { IsSized game }
+    requires known { KnowsAll (exact_ids game) iterates.now }
+    requires ranks { MeetsRanks (design_tree design.now) (solution.driver_sets (exact_ids game) iterates.now) }
+    ensures { IfOk result (λ made. CanJudgeDriver (design_tree design.now) (trees_of made.blocks) made.cert) }
+{
+    let cert = driver_cert(alloc, &game, iterates)?;
+    let driven = driver(alloc, game, design, iterates)?;
+    Ok(Certified {
+        blocks: driven.blocks,
+        cert,
+    })
+}
+
+// The texts of a driver and of its certificate, and the numbers that are reported.
+fn files_of(
+    alloc: Global,
+    design: &Design,
+    made: &Certified,
+    weight: &[u32],
+) -> Result<DriverFiles, AllocError>
+    requires weight { IsWeightOrder (design_tree design.now) weight.now }
+    requires shown { IsDriverShown (design_tree design.now) (trees_of made.now.blocks) made.now.cert }
+    ensures { IfOk result (λ f. IsDriverFound (design_tree design.now) f.driver.items f.cert.items f.ranks.items
+        f.nodes) }
+{
+    let driver = print(alloc, design, &made.blocks)?;
+    let ranks = ranks_of(alloc, &made.cert)?;
+    let bits = weight.len() as u32;
+    let mut dd = Manager::new(alloc, bits)?;
+    let moved = reorder_driver(alloc, &mut dd, &made.cert, weight)?;
+    let nodes = moved.nodes.len() as u64;
+    let cert = write_shaped(alloc, bits, &Cert::Driver(moved))?;
+    Ok(DriverFiles {
+        driver,
+        cert,
+        ranks,
+        nodes,
+    })
+}
+
+/// The files of the driver of the iterates of a game, where the checker accepts what was made.
+pub(crate) fn driver_files(
+    alloc: Global,
+    design: &Design,
+    game: Game,
+    iterates: &Iterates,
+    weight: &[u32],
+) -> Result<Synthesis, AllocError>
+    requires weight { IsWeightOrder (design_tree design.now) weight.now }
+    requires sound { IsSound (design_tree design.now) }
+    requires of_text { IsOfText (design_tree design.now).spec }
+    requires exact { IsExactOf (design_tree design.now) game }
+    requires sized { IsSized game }
+    requires known { KnowsAll (exact_ids game) iterates.now }
+    requires ranks { MeetsRanks (design_tree design.now) (solution.driver_sets (exact_ids game) iterates.now) }
+    ensures { IfOk result (IsFound (design_tree design.now)) }
+{
+    let made = certify(alloc, design, game, iterates)?;
+    match judge_driver(alloc, design, &made.blocks, &made.cert)? {
+        Verdict::Accepted => {
+            let files = files_of(alloc, design, &made, weight)?;
+            Ok(Synthesis::Driver(files))
+        }
+        Verdict::Refused {
+            condition,
+            goal,
+            state,
+        } => Ok(Synthesis::Unproved {
+            kind: Kind::Driver,
+            condition,
+            goal,
+            state,
+        }),
+    }
+}
