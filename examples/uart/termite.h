@@ -4,7 +4,7 @@
 
 #include <stdint.h>
 
-/* what the layer asks: 0 nothing, 1 open, 2 send, 3 sent; and the divisor or the word */
+/* the call: 0 none, 1 open, 2 send, 3 where THR was written in it and LSR 6 is up again; the divisor or the word */
 extern uint64_t v0_os_call, v1_os_arg;
 /* a word has come, and no handler has returned with it: in the handler 1, else LSR 0 */
 extern uint64_t v2_os_fresh;
