@@ -15,7 +15,7 @@ use Rattle.tm_cir.specs.Tree.{BlockTree, NumTree, call, idle, test}
 use Rattle.tm_cir.specs.View.{block_tree, block_trees, num_tree, trees_of, truth_tree}
 use Rattle.tm_strat.specs.declared.numbers.Counts.{Counts}
 use Rattle.tm_strat.specs.Fitting.{AreSpelled, FitAnywhere, FitsCounts, IsSpelled}
-use Rattle.tm_strat_drafts.specs.Drafts.{AreLater, FitsLater}
+use Rattle.tm_strat_drafts.specs.Blocks.{AreLater, FitsLater}
 use Rattle.tm_strat_drafts.specs.declared.drafts.MoveChoice.{MoveChoice}
 use Rattle.tm_strat_drafts.specs.declared.drafts.DraftBlock.{DraftBlock}
 use Rattle.tm_strat_drafts.specs.declared.drafts.DraftBlock.TheVariants as drafts

@@ -1,2 +1,7 @@
 mod Carrying
+mod Choices
+mod Chosen
+mod Constants
+mod Meeting
+mod Parts
 mod Fitted

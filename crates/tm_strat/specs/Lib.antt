@@ -1,2 +1,6 @@
+pub mod Choice
+pub mod Chosen
+pub mod Constants
 pub mod Fitting
+pub mod Meeting
 pub mod Targets

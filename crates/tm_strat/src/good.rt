@@ -2,6 +2,7 @@
 ghost use Rattle.std.specs.Prelude.{◌≡◌, ◌<◌, true, IfOk, length};
 ghost use Rattle.tm_game.specs.Game.{GameData, IsSet};
 ghost use Rattle.tm_game.specs.Moves.{HasTask};
+ghost use Rattle.tm_strat.specs.Choice.{id_in};
 ghost use Rattle.tm_strat.specs.Targets.{AreSets, AreSetsOf, HasSets};
 ghost use Rattle.tm_strat_drafts.specs.Growth.{Carried};
 
@@ -204,7 +205,9 @@ fn falling_to(waits: &[NewStates], index: usize) -> NodeId
 }
 
 /// The id of a number in a list, or `FALSE` where there is none.
-pub(crate) fn id_at(ids: &[NodeId], index: usize) -> NodeId {
+pub(crate) fn id_at(ids: &[NodeId], index: usize) -> NodeId
+    ensures { result ≡ id_in ids.now index }
+{
     if index < ids.len() { ids[index] } else { FALSE }
 }
 

@@ -6,9 +6,11 @@ ghost use Rattle.tm_cir.specs.View.{trees_of};
 ghost use Rattle.tm_game.specs.Game.{Grows, IsOf};
 ghost use Rattle.tm_solve.specs.Iterates.{KnowsAll};
 ghost use Rattle.tm_solve_exact.specs.Exact.{exact_ids};
+ghost use Rattle.tm_strat.specs.Choice.{IsChoice};
+ghost use Rattle.tm_strat.specs.Chosen.{AreChosen};
 ghost use Rattle.tm_strat.specs.Fitting.{FitsCounts};
 ghost use Rattle.tm_strat.specs.Targets.{AreSetsOf};
-ghost use Rattle.tm_strat_drafts.specs.Drafts.{AreLater};
+ghost use Rattle.tm_strat_drafts.specs.Blocks.{AreLater};
 ghost use Rattle.tm_strat_drafts.specs.Growth.{Carried};
 ghost use Rattle.tm_syntax.specs.Design.View.{design_tree};
 
@@ -93,6 +95,7 @@ fn prepare(
     requires sets { AreSetsOf game.old iterates.now }
     ensures grows { Carried game.old game.new }
     ensures counts { IfOk result (λ p. FitsCounts (design_tree design.now) p.spelling.counts) }
+    ensures choice { IfOk result (λ p. IsChoice game.new p.tests.holds.items p.goals.items) }
 {
     let counts = counts_of(design);
     let chooser = chooser_of(alloc, game, design)?;
@@ -366,6 +369,7 @@ fn build(
     prepared: Prepared,
 ) -> Result<Driven, AllocError>
     requires counts { FitsCounts (design_tree design.now) prepared.spelling.counts }
+    requires choice { IsChoice game prepared.tests.holds.items prepared.goals.items }
     ensures grows { IfOk result (λ made. Carried game made.game) }
     ensures fits { IfOk result (λ made. FitBlocks (design_tree design.now) (trees_of made.blocks)) }
 {
@@ -417,6 +421,8 @@ fn spelled_driver(
 
 // Drafted blocks over so many tests of states.
 fn make_drafts(alloc: Global, mut choosing: Choosing, states: u32) -> Result<Drafted, AllocError>
+    ensures good { IfOk result (λ made. AreChosen choosing.game choosing.tests.holds.items choosing.goals.items
+        states made.blocks.items) }
     ensures grows { IfOk result (λ made. Carried choosing.game made.game) }
     ensures later { IfOk result (λ made. (tests : ℕ) × AreLater tests made.blocks.items) }
 {
@@ -436,9 +442,13 @@ fn drafted_blocks(
 ) -> Result<Vec<DraftBlock>, AllocError>
     ensures grows { Carried choosing.old.game choosing.new.game }
     ensures later { IfOk result (λ bs. (tests : ℕ) × AreLater tests bs.items) }
+    ensures good { IfOk result (λ bs. AreChosen choosing.old.game choosing.old.tests.holds.items
+        choosing.old.goals.items states bs.items) }
 {
     let goals = narrow(choosing.goals.len());
-    if goals == 0 || goals > u32::MAX - states {
+    let counted = choosing.goals.len() == goals as usize
+        && choosing.tests.holds.len() == states as usize;
+    if !counted || goals == 0 || goals > u32::MAX - states {
         return idle_block(alloc);
     }
     let blocks = strategies(alloc, choosing, states, goals)?;

@@ -1,5 +1,5 @@
 //! The numbers of a state, as blocks name them.
-ghost use Rattle.std.specs.Prelude.{IfOk};
+ghost use Rattle.std.specs.Prelude.{◌≡◌, ◌<◌, ◌^◌, IfOk};
 ghost use Rattle.tm_cir.specs.Fit.{FitsNum};
 ghost use Rattle.tm_cir.specs.View.{num_tree};
 
@@ -61,7 +61,9 @@ pub(crate) fn number_at(counts: Counts, index: u32) -> Number {
 }
 
 /// A number of 32 bits, or the greatest of these where it is above them.
-pub(crate) fn narrow(number: usize) -> u32 {
+pub(crate) fn narrow(number: usize) -> u32
+    ensures { number < 2 ^ 32 → result ≡ number }
+{
     if number < u32::MAX as usize {
         number as u32
     } else {

@@ -37,3 +37,6 @@ pub returns-clause-grows : goal.returns-clause-grows
 returns-clause-grows c =
     λ base b.
     c.goal_moves.ensures base (c.all_tests.ensures base (c.candidates.ensures base (c.good_moves.ensures base b)))
+
+pub returns-clause-choice : goal.returns-clause-choice
+returns-clause-choice c = ?
