@@ -1,10 +1,17 @@
 //! Where moves are good for the ranked sets of a solution.
-ghost use Rattle.std.specs.Prelude.{◌≡◌, ◌<◌, true, IfOk, length};
-ghost use Rattle.tm_game.specs.Game.{GameData, IsSet};
+ghost use Rattle.std.specs.Prelude.{◌≡◌, ◌+◌, ◌<◌, ◌↔◌, ◌&&◌, ℕ, true, not, suc, IfOk, OnOk, length};
+ghost use Rattle.tm_dd.specs.Table.{Table};
+ghost use Rattle.tm_ddops.specs.Manager.{IsFunction};
+ghost use Rattle.tm_game.specs.Game.{GameData, IsOf, IsSet};
 ghost use Rattle.tm_game.specs.Moves.{HasTask};
+ghost use Rattle.tm_game_bits.specs.Functions.{Function};
 ghost use Rattle.tm_strat.specs.Choice.{id_in};
 ghost use Rattle.tm_strat.specs.Targets.{AreSets, AreSetsOf, HasSets};
+ghost use Rattle.tm_strat.specs.Zones.{AreGoodMoves, AreMovesBelow, AreMovesFrom, AreMovesOf, AreNew};
+ghost use Rattle.tm_strat.specs.Zones.{AreTargets, AreWaits, AreZones, failing as fails, falling, ranks_in};
+ghost use Rattle.tm_strat.specs.Zones.{Tells, Zoning};
 ghost use Rattle.tm_strat_drafts.specs.Growth.{Carried};
+ghost use Rattle.tm_syntax.specs.Design.{DesignTree};
 
 use crate::sets::{both, either, rest, somewhere};
 use std::alloc::{AllocError, Global};
@@ -58,7 +65,9 @@ pub(crate) fn good_moves(
     levels: &[u32],
 ) -> Result<Vec<GoodMoves>, AllocError>
     requires sets { AreSetsOf game.old iterates.now }
-    ensures { Carried game.old game.new }
+    ensures grows { Carried game.old game.new }
+    ensures moves { IfOk result (λ all. (d : DesignTree) → IsOf d game.old → AreGoodMoves d game.old
+        game.new.diagrams.table iterates.now shapes.now levels.now (length iterates.now.ranks.items) all.items) }
 {
     let mut all = Vec::new(alloc);
     for goal in 0..iterates.ranks.len() {
@@ -72,7 +81,8 @@ pub(crate) fn good_moves(
 // The ranked sets of a goal.
 fn ranks_at(iterates: &Iterates, goal: usize) -> &[RankSet]
     requires { goal < length iterates.now.ranks.items }
-    ensures { (g : GameData) → AreSetsOf g iterates.now → HasSets g result.now }
+    ensures sets { (g : GameData) → AreSetsOf g iterates.now → HasSets g result.now }
+    ensures are { result.now ≡ ranks_in iterates.now goal }
 {
     iterates.ranks[goal].sets.as_slice()
 }
@@ -89,7 +99,10 @@ fn goal_moves(
 ) -> Result<GoodMoves, AllocError>
     requires region { IsSet game.old region }
     requires ranks { HasSets game.old ranks.now }
-    ensures { Carried game.old game.new }
+    ensures grows { Carried game.old game.new }
+    ensures moves { IfOk result (λ m. (d : DesignTree) (z : Zoning) → IsOf d game.old
+        → Tells game.old region ranks.now goal z → AreMovesOf d game.old.order game.old.flat
+        game.new.diagrams.table shapes.now levels.now z (length shapes.now) m.pairs.items m.care) }
 {
     let ends = targets(alloc, region, ranks)?;
     let states = zones(alloc, game, region, ranks, goal)?;
@@ -100,7 +113,9 @@ fn goal_moves(
 // The sets in which moves are to end: the region, and each ranked set.
 #[tactic(auto, using(crate::proofs::Carrying::one_set, crate::proofs::Carrying::ranked_more))]
 fn targets(alloc: Global, region: NodeId, ranks: &[RankSet]) -> Result<Vec<NodeId>, AllocError>
-    ensures { IfOk result (λ ids. (g : GameData) → IsSet g region → HasSets g ranks.now → AreSets g ids.items) }
+    ensures sets { IfOk result (λ ids. (g : GameData) → IsSet g region → HasSets g ranks.now → AreSets g ids.items) }
+    ensures are { IfOk result (λ ids. (g : GameData) (goal : ℕ) (z : Zoning) → Tells g region ranks.now goal z
+        → AreTargets g.diagrams.table z (suc (length ranks.now)) ids.items) }
 {
     let mut targets = Vec::new(alloc);
     targets.push(region)?;
@@ -120,7 +135,9 @@ fn zones(
     ranks: &[RankSet],
     goal: usize,
 ) -> Result<Vec<NodeId>, AllocError>
-    ensures { Carried game.old game.new }
+    ensures grows { Carried game.old game.new }
+    ensures are { IfOk result (λ ids. (z : Zoning) → Tells game.old region ranks.now goal z
+        → AreZones game.new.diagrams.table z (suc (length ranks.now)) ids.items) }
 {
     let holds = id_at(game.goals(), goal);
     let turn = game.turn();
@@ -148,7 +165,10 @@ fn waits(
     failing: NodeId,
     ranks: &[RankSet],
 ) -> Result<Vec<NewStates>, AllocError>
-    ensures { Carried game.old game.new }
+    ensures grows { Carried game.old game.new }
+    ensures are { IfOk result (λ waits. (region : NodeId) (goal : ℕ) (z : Zoning)
+        → Tells game.old region ranks.now goal z → IsFunction game.old.diagrams.table failing (fails z)
+        → AreWaits game.new.diagrams.table z (length ranks.now) waits.items) }
 {
     let mut waits = Vec::new(alloc);
     let mut before = FALSE;
@@ -167,7 +187,11 @@ fn new_states(
     before: NodeId,
     rank: RankSet,
 ) -> Result<NewStates, AllocError>
-    ensures { Carried game.old game.new }
+    ensures grows { Carried game.old game.new }
+    ensures are { IfOk result (λ n. (f b set fair : Function) → IsFunction game.old.diagrams.table failing f
+        → IsFunction game.old.diagrams.table before b → IsFunction game.old.diagrams.table rank.set set
+        → IsFunction game.old.diagrams.table (id_in game.old.fairs rank.fair) fair
+        → AreNew game.new.diagrams.table (λ v. (f v && set v) && not (b v)) fair n) }
 {
     let fair = id_at(game.fairs(), rank.fair as usize);
     let inside = both(game, failing, rank.set)?;
@@ -183,7 +207,10 @@ fn push_zones(
     zones: &mut Vec<NodeId>,
     waits: &[NewStates],
 ) -> Result<(), AllocError>
-    ensures { Carried game.old game.new }
+    ensures grows { Carried game.old game.new }
+    ensures are { OnOk result ((z : Zoning) → AreZones game.old.diagrams.table z 1 zones.old.items
+        → AreWaits game.old.diagrams.table z (length z.ranks) waits.now
+        → AreZones game.new.diagrams.table z (suc (length waits.now)) zones.new.items) }
 {
     for index in 0..waits.len() {
         let falling = falling_to(waits, index);
@@ -196,6 +223,8 @@ fn push_zones(
 // The states that fall to a rank from the next one.
 fn falling_to(waits: &[NewStates], index: usize) -> NodeId
     requires { index < length waits.now }
+    ensures { (t : Table) (z : Zoning) → AreWaits t z (length z.ranks) waits.now
+        → IsFunction t result (falling z (suc index)) }
 {
     if index + 1 < waits.len() {
         waits[index + 1].falling
@@ -221,7 +250,12 @@ fn moves_of(
     levels: &[u32],
 ) -> Result<GoodMoves, AllocError>
     requires sets { AreSets game.old targets.now }
-    ensures { Carried game.old game.new }
+    ensures grows { Carried game.old game.new }
+    ensures moves { IfOk result (λ m. (d : DesignTree) (z : Zoning) → IsOf d game.old
+        → AreZones game.old.diagrams.table z (suc (length z.ranks)) zones.now
+        → AreTargets game.old.diagrams.table z (suc (length z.ranks)) targets.now
+        → AreMovesOf d game.old.order game.old.flat game.new.diagrams.table shapes.now levels.now z
+        (length shapes.now) m.pairs.items m.care) }
 {
     let mut pairs = Vec::new(alloc);
     let mut care = FALSE;
@@ -242,7 +276,11 @@ fn shape_moves(
     shape: MoveShape,
 ) -> Result<NodeId, AllocError>
     requires sets { AreSets game.old targets.now }
-    ensures { Carried game.old game.new }
+    ensures grows { Carried game.old game.new }
+    ensures moves { IfOk result (λ id. (d : DesignTree) (z : Zoning) → IsOf d game.old
+        → AreZones game.old.diagrams.table z (suc (length z.ranks)) zones.now
+        → AreTargets game.old.diagrams.table z (suc (length z.ranks)) targets.now
+        → AreMovesBelow d game.old.order game.old.flat game.new.diagrams.table shape z (suc (length z.ranks)) id) }
 {
     let mut good = FALSE;
     for index in 0..targets.len() {
@@ -257,7 +295,8 @@ fn shape_moves(
 #[tactic(auto, using(crate::proofs::Carrying::set_at))]
 fn target_at(targets: &[NodeId], index: usize) -> NodeId
     requires { index < length targets.now }
-    ensures { (g : GameData) → AreSets g targets.now → IsSet g result }
+    ensures sets { (g : GameData) → AreSets g targets.now → IsSet g result }
+    ensures is { result ≡ id_in targets.now index }
 {
     targets[index]
 }
@@ -271,7 +310,10 @@ fn zone_moves(
     shape: MoveShape,
 ) -> Result<NodeId, AllocError>
     requires target { IsSet game.old target }
-    ensures { Carried game.old game.new }
+    ensures grows { Carried game.old game.new }
+    ensures moves { IfOk result (λ id. (d : DesignTree) (from within : Function) → IsOf d game.old
+        → IsFunction game.old.diagrams.table states from → IsFunction game.old.diagrams.table target within
+        → AreMovesFrom d game.old.order game.old.flat game.new.diagrams.table shape from within id) }
 {
     if states == FALSE || target == FALSE || !has_task(game, shape) {
         return Ok(FALSE);
@@ -284,7 +326,7 @@ fn zone_moves(
 // Whether the task of a shape is there.
 #[tactic(auto, using(crate::proofs::Carrying::task_there))]
 fn has_task(game: &Game, shape: MoveShape) -> bool
-    ensures { result ≡ true → HasTask game.now.flat shape }
+    ensures { (result ≡ true) ↔ HasTask game.now.flat shape }
 {
     match shape {
         MoveShape::Idle => true,
