@@ -1,17 +1,14 @@
 //! Where moves are good for the ranked sets of a solution.
-ghost use Rattle.std.specs.Prelude.{◌≡◌, ◌+◌, ◌<◌, ◌↔◌, ◌&&◌, ℕ, true, not, suc, IfOk, OnOk, length};
+ghost use Rattle.std.specs.Prelude.{◌≡◌, ◌<◌, ◌&&◌, ℕ, true, not, suc, IfOk, OnOk, length};
 ghost use Rattle.tm_dd.specs.Table.{Table};
 ghost use Rattle.tm_ddops.specs.Manager.{IsFunction};
-ghost use Rattle.tm_game.specs.Game.{GameData, IsOf, IsSet};
+ghost use Rattle.tm_game.specs.Game.{GameData, IsSet};
 ghost use Rattle.tm_game.specs.Moves.{HasTask};
 ghost use Rattle.tm_game_bits.specs.Functions.{Function};
 ghost use Rattle.tm_strat.specs.Choice.{id_in};
 ghost use Rattle.tm_strat.specs.Targets.{AreSets, AreSetsOf, HasSets};
-ghost use Rattle.tm_strat.specs.Zones.{AreGoodMoves, AreMovesBelow, AreMovesFrom, AreMovesOf, AreNew};
-ghost use Rattle.tm_strat.specs.Zones.{AreTargets, AreWaits, AreZones, failing as fails, falling, ranks_in};
-ghost use Rattle.tm_strat.specs.Zones.{Tells, Zoning};
+ghost use Rattle.tm_strat.specs.Zones.{AreNew, AreTargets, AreWaits, AreZones, failing as fails, falling, Tells, Zoning};
 ghost use Rattle.tm_strat_drafts.specs.Growth.{Carried};
-ghost use Rattle.tm_syntax.specs.Design.{DesignTree};
 
 use crate::sets::{both, either, rest, somewhere};
 use std::alloc::{AllocError, Global};
@@ -65,9 +62,7 @@ pub(crate) fn good_moves(
     levels: &[u32],
 ) -> Result<Vec<GoodMoves>, AllocError>
     requires sets { AreSetsOf game.old iterates.now }
-    ensures grows { Carried game.old game.new }
-    ensures moves { IfOk result (λ all. (d : DesignTree) → IsOf d game.old → AreGoodMoves d game.old
-        game.new.diagrams.table iterates.now shapes.now levels.now (length iterates.now.ranks.items) all.items) }
+    ensures { Carried game.old game.new }
 {
     let mut all = Vec::new(alloc);
     for goal in 0..iterates.ranks.len() {
@@ -81,8 +76,7 @@ pub(crate) fn good_moves(
 // The ranked sets of a goal.
 fn ranks_at(iterates: &Iterates, goal: usize) -> &[RankSet]
     requires { goal < length iterates.now.ranks.items }
-    ensures sets { (g : GameData) → AreSetsOf g iterates.now → HasSets g result.now }
-    ensures are { result.now ≡ ranks_in iterates.now goal }
+    ensures { (g : GameData) → AreSetsOf g iterates.now → HasSets g result.now }
 {
     iterates.ranks[goal].sets.as_slice()
 }
@@ -99,10 +93,7 @@ fn goal_moves(
 ) -> Result<GoodMoves, AllocError>
     requires region { IsSet game.old region }
     requires ranks { HasSets game.old ranks.now }
-    ensures grows { Carried game.old game.new }
-    ensures moves { IfOk result (λ m. (d : DesignTree) (z : Zoning) → IsOf d game.old
-        → Tells game.old region ranks.now goal z → AreMovesOf d game.old.order game.old.flat
-        game.new.diagrams.table shapes.now levels.now z (length shapes.now) m.pairs.items m.care) }
+    ensures { Carried game.old game.new }
 {
     let ends = targets(alloc, region, ranks)?;
     let states = zones(alloc, game, region, ranks, goal)?;
@@ -250,12 +241,7 @@ fn moves_of(
     levels: &[u32],
 ) -> Result<GoodMoves, AllocError>
     requires sets { AreSets game.old targets.now }
-    ensures grows { Carried game.old game.new }
-    ensures moves { IfOk result (λ m. (d : DesignTree) (z : Zoning) → IsOf d game.old
-        → AreZones game.old.diagrams.table z (suc (length z.ranks)) zones.now
-        → AreTargets game.old.diagrams.table z (suc (length z.ranks)) targets.now
-        → AreMovesOf d game.old.order game.old.flat game.new.diagrams.table shapes.now levels.now z
-        (length shapes.now) m.pairs.items m.care) }
+    ensures { Carried game.old game.new }
 {
     let mut pairs = Vec::new(alloc);
     let mut care = FALSE;
@@ -276,11 +262,7 @@ fn shape_moves(
     shape: MoveShape,
 ) -> Result<NodeId, AllocError>
     requires sets { AreSets game.old targets.now }
-    ensures grows { Carried game.old game.new }
-    ensures moves { IfOk result (λ id. (d : DesignTree) (z : Zoning) → IsOf d game.old
-        → AreZones game.old.diagrams.table z (suc (length z.ranks)) zones.now
-        → AreTargets game.old.diagrams.table z (suc (length z.ranks)) targets.now
-        → AreMovesBelow d game.old.order game.old.flat game.new.diagrams.table shape z (suc (length z.ranks)) id) }
+    ensures { Carried game.old game.new }
 {
     let mut good = FALSE;
     for index in 0..targets.len() {
@@ -295,8 +277,7 @@ fn shape_moves(
 #[tactic(auto, using(crate::proofs::Carrying::set_at))]
 fn target_at(targets: &[NodeId], index: usize) -> NodeId
     requires { index < length targets.now }
-    ensures sets { (g : GameData) → AreSets g targets.now → IsSet g result }
-    ensures is { result ≡ id_in targets.now index }
+    ensures { (g : GameData) → AreSets g targets.now → IsSet g result }
 {
     targets[index]
 }
@@ -310,10 +291,7 @@ fn zone_moves(
     shape: MoveShape,
 ) -> Result<NodeId, AllocError>
     requires target { IsSet game.old target }
-    ensures grows { Carried game.old game.new }
-    ensures moves { IfOk result (λ id. (d : DesignTree) (from within : Function) → IsOf d game.old
-        → IsFunction game.old.diagrams.table states from → IsFunction game.old.diagrams.table target within
-        → AreMovesFrom d game.old.order game.old.flat game.new.diagrams.table shape from within id) }
+    ensures { Carried game.old game.new }
 {
     if states == FALSE || target == FALSE || !has_task(game, shape) {
         return Ok(FALSE);
@@ -326,7 +304,7 @@ fn zone_moves(
 // Whether the task of a shape is there.
 #[tactic(auto, using(crate::proofs::Carrying::task_there))]
 fn has_task(game: &Game, shape: MoveShape) -> bool
-    ensures { (result ≡ true) ↔ HasTask game.now.flat shape }
+    ensures { result ≡ true → HasTask game.now.flat shape }
 {
     match shape {
         MoveShape::Idle => true,
