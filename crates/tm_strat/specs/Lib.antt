@@ -4,3 +4,4 @@ pub mod Constants
 pub mod Fitting
 pub mod Meeting
 pub mod Targets
+pub mod Trees
