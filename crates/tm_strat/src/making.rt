@@ -1,9 +1,12 @@
 //! A driver's blocks from the solution of a game.
 ghost use Rattle.std.specs.Prelude.{ℕ, IfOk};
 ghost use Rattle.tm_check.specs.Reads.{IsSized};
+ghost use Rattle.tm_cir.specs.Answer.{Answers};
 ghost use Rattle.tm_cir.specs.Fit.{FitBlocks};
 ghost use Rattle.tm_cir.specs.View.{trees_of};
 ghost use Rattle.tm_game.specs.Game.{Grows, IsOf};
+ghost use Rattle.tm_sem.specs.Certificates.{MeetsDriver, MeetsMoveForm};
+ghost use Rattle.tm_solve.specs.Iterates as solution;
 ghost use Rattle.tm_solve.specs.Iterates.{KnowsAll};
 ghost use Rattle.tm_solve_exact.specs.Exact.{exact_ids};
 ghost use Rattle.tm_strat.specs.Choice.{IsChoice};
@@ -13,6 +16,7 @@ ghost use Rattle.tm_strat.specs.Targets.{AreSetsOf};
 ghost use Rattle.tm_strat_drafts.specs.Blocks.{AreLater};
 ghost use Rattle.tm_strat_drafts.specs.Growth.{Carried};
 ghost use Rattle.tm_syntax.specs.Design.View.{design_tree};
+ghost use Rattle.tm_syntax.specs.Faults.{IsSound};
 
 use crate::candidates::Candidate;
 use crate::choosing::{Choosing, GoalMoves, TestTable};
@@ -48,8 +52,8 @@ pub struct Driven {
 ///
 /// A set of states is served by a block that is there where one is good at all of it, else by a candidate move, else it
 /// is split by the test that leaves the least mixture of candidates on its two sides. The game is taken and given back,
-/// since what builds the blocks owns it; its ids mean what they meant. `AllocError` is want of memory; no driver has
-/// 2^32 blocks.
+/// since what builds the blocks owns it; its ids mean what they meant. Where the design is well-formed
+/// and the ranked sets are a certificate of some strategy, they are one of these blocks. `AllocError` is want of memory; no driver has 2^32 blocks.
 pub fn driver(
     alloc: Global,
     mut game: Game,
@@ -61,6 +65,10 @@ pub fn driver(
     requires known { KnowsAll (exact_ids game) iterates.now }
     ensures grows { IfOk result (λ made. Grows game made.game) }
     ensures fits { IfOk result (λ made. FitBlocks (design_tree design.now) (trees_of made.blocks)) }
+    ensures meets { IfOk result (λ made. IsSound (design_tree design.now)
+        → MeetsMoveForm (design_tree design.now) (solution.driver_sets (exact_ids game) iterates.now)
+        → MeetsDriver (design_tree design.now) (Answers (trees_of made.blocks))
+        (solution.driver_sets (exact_ids game) iterates.now)) }
 {
     let prepared = prepare(alloc, &mut game, design, iterates)?;
     let made = build(alloc, game, design, prepared)?;
