@@ -70,7 +70,8 @@ spelled_more d drafted bs cs n x b spelled there is items = record {
         let count = spelled.count in
         spelled.each k y c (omega (arith, within, count)) here before
     by k y c here (inr last) =
-        let same : x ≡ y = some_same (sym there ∙ ap (λ (j : ℕ). slice_get drafted j) (sym (last.0 ∙ spelled.count)) ∙ here) in
+        let place = ap (λ (j : ℕ). slice_get drafted j) (sym (last.0 ∙ spelled.count)) in
+        let same : x ≡ y = some_same (sym there ∙ place ∙ here) in
         subst (λ (z : DraftBlock). IsSpelled d z c) same (subst (λ (z : Block). IsSpelled d x z) last.1 is)
 
 pub all_fit : (d : DesignTree) (tests : ℕ) (drafted : List DraftBlock) (bs : List Block) → AreLater tests drafted →

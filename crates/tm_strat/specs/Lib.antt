@@ -4,4 +4,5 @@ pub mod Constants
 pub mod Fitting
 pub mod Meeting
 pub mod Targets
+pub mod Trees
 pub mod Zones

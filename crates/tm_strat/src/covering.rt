@@ -77,7 +77,7 @@ fn cover(
     ensures { Carried game.old game.new }
 {
     let mut left = left;
-    'adding: for _added in 0..MOST {
+    for _added in 0..MOST {
         let found = best_move(chooser, game, masses, goal, left)?;
         match found {
             None => return Ok(()),

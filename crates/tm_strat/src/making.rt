@@ -404,7 +404,7 @@ fn build(
 #[derive(Drop)]
 struct Drafted {
     game: Game,
-    blocks: Vec<DraftBlock>,
+    made: Vec<DraftBlock>,
 }
 
 // The blocks of C of drafted ones.
@@ -415,11 +415,11 @@ fn spelled_driver(
     drafted: Drafted,
 ) -> Result<Driven, AllocError>
     requires counts { FitsCounts (design_tree design.now) spelling.now.counts }
-    requires later { (tests : ℕ) × AreLater tests drafted.blocks.items }
+    requires later { (tests : ℕ) × AreLater tests drafted.made.items }
     ensures grows { IfOk result (λ made. Carried drafted.game made.game) }
     ensures fits { IfOk result (λ made. FitBlocks (design_tree design.now) (trees_of made.blocks)) }
 {
-    let list = spelled(alloc, design, spelling, &drafted.blocks)?;
+    let list = spelled(alloc, design, spelling, &drafted.made)?;
     let blocks = fitting(design, list);
     Ok(Driven {
         game: drafted.game,
@@ -429,15 +429,15 @@ fn spelled_driver(
 
 // Drafted blocks over so many tests of states.
 fn make_drafts(alloc: Global, mut choosing: Choosing, states: u32) -> Result<Drafted, AllocError>
-    ensures good { IfOk result (λ made. AreChosen choosing.game choosing.tests.holds.items choosing.goals.items
-        states made.blocks.items) }
-    ensures grows { IfOk result (λ made. Carried choosing.game made.game) }
-    ensures later { IfOk result (λ made. (tests : ℕ) × AreLater tests made.blocks.items) }
+    ensures good { IfOk result (λ drafted. AreChosen choosing.game choosing.tests.holds.items choosing.goals.items
+        states drafted.made.items) }
+    ensures grows { IfOk result (λ drafted. Carried choosing.game drafted.game) }
+    ensures later { IfOk result (λ drafted. (tests : ℕ) × AreLater tests drafted.made.items) }
 {
-    let blocks = drafted_blocks(alloc, &mut choosing, states)?;
+    let made = drafted_blocks(alloc, &mut choosing, states)?;
     Ok(Drafted {
         game: choosing.game,
-        blocks,
+        made,
     })
 }
 

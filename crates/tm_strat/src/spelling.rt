@@ -1,15 +1,15 @@
 //! Drafted blocks as blocks of C.
 ghost use Rattle.std.specs.Prelude.{◌≡◌, ℕ, IfOk, length};
-ghost use Rattle.tm_cir.specs.Fit.{FitBlocks, FitsBlock};
-ghost use Rattle.tm_cir.specs.View.{block_tree, block_trees, trees_of};
+ghost use Rattle.tm_cir.specs.Fit.{FitBlocks, FitsBlock, FitsTruth};
+ghost use Rattle.tm_cir.specs.View.{block_tree, block_trees, trees_of, truth_tree};
 ghost use Rattle.tm_strat.specs.Fitting.{AreSpelled, FitsCounts, IsSpelled};
 ghost use Rattle.tm_syntax.specs.Design.View.{design_tree};
 
 use crate::candidates::{Candidate, constants, move_block, shape_at};
 use crate::numbers::{Counts, narrow};
-use crate::predicates::Predicate;
+use crate::predicates::{Predicate, pending};
 use std::alloc::{AllocError, Global};
-use tm_cir::{Block, Blocks};
+use tm_cir::{Block, Blocks, Truth};
 use tm_game::MoveShape;
 use tm_strat_drafts::{DraftBlock, MoveChoice};
 use tm_syntax::design::Design;
@@ -57,8 +57,7 @@ fn spelled_block(
 {
     match block {
         DraftBlock::Test(test, first, second) => {
-            let predicate = predicate_at(&spelling.predicates, test);
-            let truth = predicate.truth(alloc, spelling.counts)?;
+            let truth = spelled_test(alloc, spelling, test)?;
             Ok(Block::Test(truth, first, second))
         }
         DraftBlock::Move(choice) => {
@@ -98,12 +97,15 @@ pub(crate) fn fitting(design: &Design, list: Vec<Block>) -> Blocks
 }
 
 // The test of a number; behind those of states come those whether a goal is pending.
-fn predicate_at(predicates: &[Predicate], test: u32) -> Predicate {
+fn spelled_test(alloc: Global, spelling: &Spelling, test: u32) -> Result<Truth, AllocError>
+    ensures { IfOk result (λ t. FitsTruth spelling.now.counts.vars spelling.now.counts.processes (truth_tree t)) }
+{
     let index = test as usize;
-    if index < predicates.len() {
-        return predicates[index];
+    let count = spelling.predicates.len();
+    if index < count {
+        return spelling.predicates[index].truth(alloc, spelling.counts);
     }
-    Predicate::Pending(narrow(index - predicates.len()))
+    Ok(pending(narrow(index - count)))
 }
 
 // The block of the candidate of a number, which is to idle where there is none.

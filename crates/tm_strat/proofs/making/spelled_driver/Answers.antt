@@ -4,5 +4,5 @@ use Rattle.tm_syntax.specs.Design.View.{design_tree}
 
 pub fitting-blocks-requires : goal.fitting-blocks-requires
 fitting-blocks-requires c =
-    spelled_fits (design_tree c.args.design.now) c.args.drafted.blocks.items c.deref.result.now c.in_ok-list.list.items
+    spelled_fits (design_tree c.args.design.now) c.args.drafted.made.items c.deref.result.now c.in_ok-list.list.items
     c.requires.later c.deref.ensures.value c.in_ok-list.ensures
