@@ -2,6 +2,9 @@ mod Carrying
 mod Choices
 mod Chosen
 mod Constants
-mod Meeting
-mod Parts
 mod Fitted
+mod Meeting
+mod MeetingAnswers
+mod MeetingTurns
+mod Parts
+mod Zoning

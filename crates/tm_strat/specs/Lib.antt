@@ -3,6 +3,7 @@ pub mod Chosen
 pub mod Constants
 pub mod Fitting
 pub mod Meeting
+pub mod Spelled
 pub mod Targets
 pub mod Trees
 pub mod Zones
