@@ -5,6 +5,9 @@ mod Constants
 mod Fitted
 mod Meeting
 mod MeetingAnswers
+mod MeetingDriver
+mod MeetingGoals
 mod MeetingTurns
+mod MeetingZones
 mod Parts
 mod Zoning

@@ -73,8 +73,8 @@ module _ (g h : GameData) (carried : Carried g h) where
       AreWaits h.diagrams.table z n waits
   waits_kept z n waits are = record {
     count = are.count;
-    waiting = λ k w there. function_kept w.waiting (waiting z k) (are.waiting k w there);
-    falling = λ k w there. function_kept w.falling (falling z k) (are.falling k w there);
+    waiting_is = λ k w there. function_kept w.waiting (waiting z k) (are.waiting_is k w there);
+    falling_is = λ k w there. function_kept w.falling (falling z k) (are.falling_is k w there);
   }
 
   pub targets_kept : (z : Zoning) (n : ℕ) (ids : List NodeId) → AreTargets g.diagrams.table z n ids →
@@ -91,6 +91,13 @@ nothing_of t = record { known = omega arith; meaning = λ v. means-FALSE t v; }
 pub function_same : (t : Table) (id : NodeId) (f k : Function) → ((v : Assignment) → f v ≡ k v) → IsFunction t id f →
     IsFunction t id k
 function_same t id f k same is = record { known = is.known; meaning = λ v. is.meaning v ∙ same v; }
+
+-- past the last rank there is none
+pub past : (rs : List Rank) (k : ℕ) → length rs ≤ k →
+    get_or rs k (record { set = nothing; fair = nothing }) ≡ record { set = nothing; fair = nothing }
+past [] k above = refl
+past (r ∷ rs) zero above = absurd (omega arith)
+past (r ∷ rs) (suc k) above = past rs k (omega (arith, above))
 
 -- ---- one more
 module _ (t : Table) (z : Zoning) where
@@ -128,8 +135,8 @@ module _ (t : Table) (z : Zoning) where
   waits_push n waits more w are is items = record {
     count = ap (λ (l : List NewStates). length l) items
         ∙ (let long = length_push waits w in let count = are.count in omega (arith, long, count));
-    waiting = λ k x there. (by k x (place k x there)).0;
-    falling = λ k x there. (by k x (place k x there)).1;
+    waiting_is = λ k x there. (by k x (place k x there)).0;
+    falling_is = λ k x there. (by k x (place k x there)).1;
   }
     where
       place : (k : ℕ) (x : NewStates) → slice_get more k ≡ Some x →
@@ -138,7 +145,7 @@ module _ (t : Table) (z : Zoning) where
 
       by : (k : ℕ) (x : NewStates) → (slice_get waits k ≡ Some x) ⊎ ((k ≡ length waits) × (w ≡ x)) →
           IsFunction t x.waiting (waiting z k) × IsFunction t x.falling (falling z k)
-      by k x (inl early) = (are.waiting k x early, are.falling k x early)
+      by k x (inl early) = (are.waiting_is k x early, are.falling_is k x early)
       by k x (inr last) =
           subst (λ (y : NewStates). IsFunction t y.waiting (waiting z k) × IsFunction t y.falling (falling z k)) last.1
           (subst (λ (j : ℕ). IsFunction t w.waiting (waiting z j) × IsFunction t w.falling (falling z j))
@@ -147,7 +154,7 @@ module _ (t : Table) (z : Zoning) where
   pub no_waits : (waits : List NewStates) → waits ≡ [] → AreWaits t z 0 waits
   no_waits waits none =
       subst (AreWaits t z 0) (sym none)
-      (record { count = refl; waiting = λ k w there. absurd (cc); falling = λ k w there. absurd (cc); })
+      (record { count = refl; waiting_is = λ k w there. absurd (cc); falling_is = λ k w there. absurd (cc); })
 
   pub first_zone : (ids none : List NodeId) (id : NodeId) → none ≡ [] → ids ≡ none ++ id ∷ [] →
       IsFunction t id (met z) → AreZones t z 1 ids
@@ -160,13 +167,6 @@ module _ (t : Table) (z : Zoning) where
   first_target ids none id empty items is =
       targets_push 0 none ids id
       (subst (AreTargets t z 0) (sym empty) (record { count = refl; each = λ k x there. absurd (cc); })) is items
-
-  -- past the last rank nothing falls
-  past : (rs : List Rank) (k : ℕ) → length rs ≤ k →
-      get_or rs k (record { set = nothing; fair = nothing }) ≡ record { set = nothing; fair = nothing }
-  past [] k above = refl
-  past (r ∷ rs) zero above = absurd (omega arith)
-  past (r ∷ rs) (suc k) above = past rs k (omega (arith, above))
 
   and_false : (b : Bool) → false ≡ (b && false)
   and_false true = refl

@@ -1,9 +1,9 @@
 -- From which states moves are to end in which sets while a goal is pending, as functions of values of levels. Here z is
 -- what zones are made of, and t are diagrams.
-use Rattle.std.specs.Prelude.{◌≡◌, ℕ, zero, suc, ◌&&◌, ◌||◌, false, not, List, Some, length, slice_get, slice_index_or, take}
+use Rattle.std.specs.Prelude.{◌≡◌, ℕ, zero, suc, ◌&&◌, ◌||◌, false, not, List, Some, length, map, slice_get, slice_index_or, take}
 use Rattle.std.specs.List.{list_any}
 use Rattle.tm_dd.specs.declared.node.NodeId.{NodeId}
-use Rattle.tm_dd.specs.Table.{Table}
+use Rattle.tm_dd.specs.Table.{Table, means}
 use Rattle.tm_ddops.specs.Manager.{IsFunction}
 use Rattle.tm_game.specs.Game.{GameData}
 use Rattle.tm_game_bits.specs.Functions.{Function}
@@ -59,24 +59,36 @@ falling z k v = added z k v && (rank_at z k).fair v
 
 -- from where moves are to end in the target of an index
 abbrev pub zone : Zoning → ℕ → Function
-zone z zero = met z
+zone z zero v = met z v
 zone z (suc k) v = waiting z k v || falling z (suc k) v
 
--- the region, and behind it each ranked set
+-- the region, and behind it for each rank the states of no higher one
 abbrev pub target : Zoning → ℕ → Function
 target z zero = z.region
-target z (suc k) = (rank_at z k).set
+target z (suc k) = before z (suc k)
 
 -- ---- as ids
+-- what ids of a game mean as a zoning
+abbrev pub zoning_of : GameData → NodeId → List RankSet → ℕ → Zoning
+zoning_of g region ranks goal = record {
+  region = means g.diagrams.table region;
+  turn = means g.diagrams.table g.turn;
+  goal = means g.diagrams.table (id_in g.goals goal);
+  ranks = map (λ (r : RankSet). record {
+    set = means g.diagrams.table r.set;
+    fair = means g.diagrams.table (id_in g.fairs r.fair);
+  }) ranks;
+}
+
 -- ids of a game mean the parts of a zoning
 pub record Tells (g : GameData) (region : NodeId) (ranks : List RankSet) (goal : ℕ) (z : Zoning) : Type 0 where
-  pub region : IsFunction g.diagrams.table region z.region
-  pub turn : IsFunction g.diagrams.table g.turn z.turn
-  pub goal : IsFunction g.diagrams.table (id_in g.goals goal) z.goal
+  pub region_is : IsFunction g.diagrams.table region z.region
+  pub turn_is : IsFunction g.diagrams.table g.turn z.turn
+  pub goal_is : IsFunction g.diagrams.table (id_in g.goals goal) z.goal
   pub count : length z.ranks ≡ length ranks
-  pub set : (k : ℕ) (r : RankSet) → slice_get ranks k ≡ Some r →
+  pub set_is : (k : ℕ) (r : RankSet) → slice_get ranks k ≡ Some r →
       IsFunction g.diagrams.table r.set (rank_at z k).set
-  pub fair : (k : ℕ) (r : RankSet) → slice_get ranks k ≡ Some r →
+  pub fair_is : (k : ℕ) (r : RankSet) → slice_get ranks k ≡ Some r →
       IsFunction g.diagrams.table (id_in g.fairs r.fair) (rank_at z k).fair
 
 -- new states of a rank at which its condition fails, and at which it holds
@@ -87,8 +99,8 @@ pub record AreNew (t : Table) (added fair : Function) (n : NewStates) : Type 0 w
 -- the new states of the first so many ranks
 pub record AreWaits (t : Table) (z : Zoning) (n : ℕ) (waits : List NewStates) : Type 0 where
   pub count : length waits ≡ n
-  pub waiting : (k : ℕ) (w : NewStates) → slice_get waits k ≡ Some w → IsFunction t w.waiting (waiting z k)
-  pub falling : (k : ℕ) (w : NewStates) → slice_get waits k ≡ Some w → IsFunction t w.falling (falling z k)
+  pub waiting_is : (k : ℕ) (w : NewStates) → slice_get waits k ≡ Some w → IsFunction t w.waiting (waiting z k)
+  pub falling_is : (k : ℕ) (w : NewStates) → slice_get waits k ≡ Some w → IsFunction t w.falling (falling z k)
 
 -- the first so many zones
 pub record AreZones (t : Table) (z : Zoning) (n : ℕ) (ids : List NodeId) : Type 0 where

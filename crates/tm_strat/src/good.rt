@@ -95,23 +95,32 @@ fn goal_moves(
     requires ranks { HasSets game.old ranks.now }
     ensures { Carried game.old game.new }
 {
-    let ends = targets(alloc, region, ranks)?;
     let states = zones(alloc, game, region, ranks, goal)?;
+    let ends = targets(alloc, game, region, ranks)?;
     let good = moves_of(alloc, game, &states, &ends, shapes, levels)?;
     Ok(good)
 }
 
-// The sets in which moves are to end: the region, and each ranked set.
-#[tactic(auto, using(crate::proofs::Carrying::one_set, crate::proofs::Carrying::ranked_more))]
-fn targets(alloc: Global, region: NodeId, ranks: &[RankSet]) -> Result<Vec<NodeId>, AllocError>
-    ensures sets { IfOk result (λ ids. (g : GameData) → IsSet g region → HasSets g ranks.now → AreSets g ids.items) }
-    ensures are { IfOk result (λ ids. (g : GameData) (goal : ℕ) (z : Zoning) → Tells g region ranks.now goal z
-        → AreTargets g.diagrams.table z (suc (length ranks.now)) ids.items) }
+// The sets in which moves are to end: the region, and for each rank the states of no higher one.
+fn targets(
+    alloc: Global,
+    game: &mut Game,
+    region: NodeId,
+    ranks: &[RankSet],
+) -> Result<Vec<NodeId>, AllocError>
+    requires region { IsSet game.old region }
+    requires ranks { HasSets game.old ranks.now }
+    ensures grows { Carried game.old game.new }
+    ensures sets { IfOk result (λ ids. AreSets game.new ids.items) }
+    ensures are { IfOk result (λ ids. (goal : ℕ) (z : Zoning) → Tells game.old region ranks.now goal z
+        → AreTargets game.new.diagrams.table z (suc (length ranks.now)) ids.items) }
 {
     let mut targets = Vec::new(alloc);
     targets.push(region)?;
+    let mut within = FALSE;
     for rank in ranks {
-        targets.push(rank.set)?;
+        within = either(game, within, rank.set)?;
+        targets.push(within)?;
     }
     Ok(targets)
 }

@@ -12,11 +12,11 @@ ghost use Rattle.tm_solve_exact.specs.Exact.{exact_ids};
 ghost use Rattle.tm_strat.specs.Choice.{IsChoice};
 ghost use Rattle.tm_strat.specs.Chosen.{AreChosen};
 ghost use Rattle.tm_strat.specs.Fitting.{FitsCounts};
+ghost use Rattle.tm_strat.specs.Meeting.{CanCall};
 ghost use Rattle.tm_strat.specs.Targets.{AreSetsOf};
 ghost use Rattle.tm_strat_drafts.specs.Blocks.{AreLater};
 ghost use Rattle.tm_strat_drafts.specs.Growth.{Carried};
 ghost use Rattle.tm_syntax.specs.Design.View.{design_tree};
-ghost use Rattle.tm_syntax.specs.Faults.{IsSound};
 ghost use Rattle.tm_verdict.specs.Regular.{IsRegular};
 
 use crate::candidates::Candidate;
@@ -53,8 +53,8 @@ pub struct Driven {
 ///
 /// A set of states is served by a block that is there where one is good at all of it, else by a candidate move, else it
 /// is split by the test that leaves the least mixture of candidates on its two sides. The game is taken and given back,
-/// since what builds the blocks owns it; its ids mean what they meant. Where the design is well-formed and the ranked
-/// sets are a certificate of some strategy, they are one of these blocks. `AllocError` is want of memory; no driver has
+/// since what builds the blocks owns it; its ids mean what they meant. Where the design is that of a text and the
+/// ranked sets are a certificate of some strategy, they are one of these blocks. `AllocError` is want of memory; no driver has
 /// 2^32 blocks.
 pub fn driver(
     alloc: Global,
@@ -67,7 +67,7 @@ pub fn driver(
     requires known { KnowsAll (exact_ids game) iterates.now }
     ensures grows { IfOk result (λ made. Grows game made.game) }
     ensures fits { IfOk result (λ made. FitBlocks (design_tree design.now) (trees_of made.blocks)) }
-    ensures meets { IfOk result (λ made. IsSound (design_tree design.now) → IsRegular (design_tree design.now)
+    ensures meets { IfOk result (λ made. IsRegular (design_tree design.now) → CanCall (design_tree design.now)
         → MeetsMoveForm (design_tree design.now) (solution.driver_sets (exact_ids game) iterates.now)
         → MeetsDriver (design_tree design.now) (Answers (trees_of made.blocks))
         (solution.driver_sets (exact_ids game) iterates.now)) }
