@@ -7,6 +7,7 @@ mod Meeting
 mod MeetingAnswers
 mod MeetingDriver
 mod MeetingGoals
+mod MeetingMoves
 mod MeetingTurns
 mod MeetingZones
 mod Parts

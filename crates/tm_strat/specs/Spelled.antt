@@ -1,6 +1,8 @@
 -- What drafted blocks are in C, as plain data. Here sp says what their numbers stand for.
 use Rattle.std.specs.Prelude.{ℕ, ◌+◌, ◌-◌, Bool, false, List, [], ◌∷◌, length, map, min, nat_lt, slice_get, slice_index_or, if◌then◌else◌}
+use Rattle.std.specs.declared.vec.Vec.{Vec}
 use Rattle.std.specs.Option.{option_map_or}
+use Rattle.std.specs.declared.alloc.Global.{Global}
 use Rattle.tm_base.specs.Bits.{bits_of}
 use Rattle.tm_cir.specs.declared.block.Comparison.TheVariants as comparisons
 use Rattle.tm_cir.specs.Tree.{BlockTree, TruthTree, compare, constant, goal, idle, test}
@@ -30,9 +32,13 @@ constants_from bits k [] = []
 constants_from bits k (w ∷ ws) =
     expressions.Constant (number_at (bit_in bits) k (min w 64)) ∷ constants_from bits (min (k + w) 64) ws
 
--- the widths of the parameters of the task that a shape calls
+-- the widths of the parameters of each task
+abbrev pub widths_of : Spelling → List (List ℕ)
+widths_of sp = map (λ (widths : Vec ℕ Global). widths.items) sp.widths.items
+
+-- those of the task that a shape calls
 abbrev pub widths_in : Spelling → MoveShape → List ℕ
-widths_in sp (shapes.Call n) = option_map_or (λ widths. widths.items) (slice_get sp.widths.items n) []
+widths_in sp (shapes.Call n) = slice_index_or (widths_of sp) n []
 widths_in sp _ = []
 
 -- ---- blocks

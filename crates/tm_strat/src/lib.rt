@@ -1,10 +1,10 @@
 //! A driver's blocks, made from the solution of a game: tests of the state that lead to moves that are good there.
 #![tactic(auto)]
 
+mod arguments;
 mod atoms;
 mod candidates;
 mod choosing;
-mod constants;
 mod covering;
 mod expressions;
 mod good;

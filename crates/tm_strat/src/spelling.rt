@@ -9,8 +9,8 @@ ghost use Rattle.tm_strat.specs.Spelled.{choice_tree, constants_from, draft_tree
 ghost use Rattle.tm_strat.specs.Trees.{candidate_tree, move_tree, shape_in};
 ghost use Rattle.tm_syntax.specs.Design.View.{design_tree};
 
+use crate::arguments::constants;
 use crate::candidates::{Candidate, move_block, shape_at};
-use crate::constants::constants;
 use crate::numbers::{Counts, narrow};
 use crate::predicates::{Predicate, pending};
 use std::alloc::{AllocError, Global};
