@@ -1,7 +1,13 @@
+mod Bits
 mod Carrying
 mod Choices
 mod Chosen
 mod Constants
 mod Meeting
 mod Parts
+mod Zoning
+mod Gathering
+mod Goods
+mod Distinct
+mod Serving
 mod Fitted

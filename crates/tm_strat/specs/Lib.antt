@@ -2,6 +2,12 @@ pub mod Choice
 pub mod Chosen
 pub mod Constants
 pub mod Fitting
+pub mod Goods
 pub mod Meeting
+pub mod Prepared
+pub mod Served
+pub mod Shapes
 pub mod Targets
+pub mod Tested
 pub mod Trees
+pub mod Zoned
