@@ -27,7 +27,7 @@ use Rattle.tm_game_bits.proofs.Sets.{some_true, true_first, true_second}
 use Rattle.tm_solve_exact.specs.Exact.{IsExactOf, IsStateSet, valid_set}
 use Rattle.tm_solve_exact.proofs.Growing.{state_same, valid_told}
 use Rattle.tm_solve_exact.proofs.Staying.{iff_same}
-use Rattle.tm_strat.proofs.Zoning.{in_set_kept, pairs_read}
+use Rattle.tm_strat.proofs.ZonePairs.{in_set_kept, pairs_read}
 use Rattle.tm_strat.specs.Choice.{HasPair, IsPairs, id_in}
 use Rattle.tm_strat.specs.Targets.{AreSets}
 use Rattle.tm_strat.specs.Zoned.{AreArgumentLevels, AreShapePairs, AreZonePairs, IsCareOf, IsMoveFrom, IsZonePair}

@@ -23,7 +23,7 @@ use Rattle.tm_solve_exact.specs.Exact.{IsExactOf, IsStateSet, coding, valid_set}
 use Rattle.tm_solve_exact.proofs.Growing.{coding_told, state_same, valid_told}
 use Rattle.tm_solve_exact.proofs.Staying.{iff_same, valid_reads}
 use Rattle.tm_strat.proofs.Gathering.{set_in}
-use Rattle.tm_strat.proofs.Zoning.{in_set_kept, pairs_read}
+use Rattle.tm_strat.proofs.ZonePairs.{in_set_kept, pairs_read}
 use Rattle.tm_strat.specs.Choice.{HasPair, IsPairs, id_in}
 use Rattle.tm_strat.specs.Targets.{AreSets}
 use Rattle.tm_strat.specs.Zoned.{AreShapePairs, AreZonePairs, IsCareOf, IsMoveFrom, IsZonePair}

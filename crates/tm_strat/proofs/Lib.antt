@@ -5,7 +5,7 @@ mod Chosen
 mod Constants
 mod Meeting
 mod Parts
-mod Zoning
+mod ZonePairs
 mod Gathering
 mod Goods
 mod Distinct

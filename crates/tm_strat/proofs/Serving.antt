@@ -31,7 +31,7 @@ use Rattle.tm_solve_exact.specs.Listed.{and_both}
 use Rattle.tm_solve_exact.proofs.Growing.{kept_exact, order_told, state_same, valid_told}
 use Rattle.tm_solve_exact.proofs.Staying.{iff_same}
 use Rattle.tm_strat.proofs.Gathering.{set_in}
-use Rattle.tm_strat.proofs.Zoning.{in_set_kept}
+use Rattle.tm_strat.proofs.ZonePairs.{in_set_kept}
 use Rattle.tm_strat.specs.Choice.{id_in}
 use Rattle.tm_strat.specs.Served.{IsGivenMove, IsServed, ServesOne}
 use Rattle.tm_strat.specs.Targets.{AreSets}

@@ -1,6 +1,6 @@
 use Rattle.tm_strat.proofs.Goods.{care_kept}
 use Rattle.tm_strat.proofs.Gathering.{care_more}
-use Rattle.tm_strat.proofs.Zoning.{pairs_read}
+use Rattle.tm_strat.proofs.ZonePairs.{pairs_read}
 use Rattle.std.proofs.Common.{◌≡◌, ℕ, ◌^◌, ◌<◌, ◌≤◌, arith}
 use Rattle.tm_strat.proofs.Bits.{bits_all, bits_below, bits_more, bits_none}
 use Rattle.tm_strat.proofs.choosing.bits_from.Goals as goal
