@@ -7,7 +7,9 @@ pub mod Meeting
 pub mod Prepared
 pub mod Served
 pub mod Shapes
+pub mod Spelled
 pub mod Targets
 pub mod Tested
 pub mod Trees
 pub mod Zoned
+pub mod Zones

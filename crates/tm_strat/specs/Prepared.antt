@@ -4,6 +4,7 @@ use Rattle.std.specs.declared.alloc.Global.{Global}
 use Rattle.tm_dd.specs.declared.node.NodeId.{NodeId}
 use Rattle.tm_game.specs.Game.{GameData}
 use Rattle.tm_game.specs.declared.moves.MoveShape.{MoveShape}
+use Rattle.tm_solve.specs.declared.iterates.Iterates.{Iterates}
 use Rattle.tm_strat.specs.Served.{AreMadeFor, candidate_trees}
 use Rattle.tm_strat.specs.Shapes.{all_shapes}
 use Rattle.tm_strat.specs.Tested.{AreTestSets}
@@ -20,11 +21,11 @@ AreShapesOf d shapes =
 abbrev pub AreWidthsOf : GameData → List (Vec ℕ Global) → Type 0
 AreWidthsOf g rows = map (λ row. row.items) rows ≡ g.flat.parameters
 
--- tests and moves of so many goals are sets over the game, and are spelled as they were read
-pub record IsPrepared (d : DesignTree) (g : GameData) (s : Spelling) (tests : List NodeId) (goals : List GoalMoves)
-    (count : ℕ) : Type 0 where
+-- tests and moves of the goals of a solution are sets over the game, and are spelled as they were read
+pub record IsPrepared (d : DesignTree) (g : GameData) (it : Iterates) (s : Spelling) (tests : List NodeId)
+    (goals : List GoalMoves) : Type 0 where
   pub tests_are : AreTestSets d g s.counts s.predicates.items tests
   pub shapes : AreShapesOf d s.shapes.items
   pub widths : AreWidthsOf g s.widths.items
-  pub moves : AreMadeFor d g s.shapes.items (candidate_trees d s.counts s.shapes.items s.candidates.items) goals
-  pub count_is : length goals ≡ count
+  pub moves : AreMadeFor d g it s.shapes.items (candidate_trees d s.counts s.shapes.items s.candidates.items) goals
+  pub count_is : length goals ≡ length it.ranks.items

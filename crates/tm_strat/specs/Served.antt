@@ -12,7 +12,10 @@ use Rattle.tm_game.specs.declared.moves.MoveShape.{MoveShape}
 use Rattle.tm_sem.specs.State.{StateData}
 use Rattle.tm_sem.specs.Step.{IsState}
 use Rattle.tm_solve_exact.specs.Exact.{IsExactOf, IsStateSet}
+use Rattle.tm_solve.specs.declared.iterates.Iterates.{Iterates}
+use Rattle.tm_solve.specs.declared.iterates.RankSet.{RankSet}
 use Rattle.tm_strat.specs.Choice.{id_in}
+use Rattle.tm_strat.specs.Goods.{AreZonesFor, ranks_in}
 use Rattle.tm_strat.specs.Targets.{AreSets}
 use Rattle.tm_strat.specs.Trees.{candidate_tree, shape_in}
 use Rattle.tm_strat.specs.Zoned.{AreShapePairs, AreZonePairs, IsCareOf, IsZoneMove}
@@ -80,20 +83,20 @@ pub record ServesFrom (d : DesignTree) (g : GameData) (zones targets : List Node
 
 -- ---- goals
 -- moves of each shape and candidates that are good for the zones and targets of a goal
-pub record IsMadeFor (d : DesignTree) (g : GameData) (shapes : List MoveShape) (blocks : List BlockTree)
-    (made : GoalMoves) : Type 0 where
+pub record IsMadeFor (d : DesignTree) (g : GameData) (region : NodeId) (ranks : List RankSet) (goal : ℕ)
+    (shapes : List MoveShape) (blocks : List BlockTree) (made : GoalMoves) : Type 0 where
   pub zones : List NodeId
   pub targets : List NodeId
-  pub zone_sets : AreSets g zones
-  pub target_sets : AreSets g targets
+  pub zoned : AreZonesFor g region ranks goal zones targets
   pub pairs : AreShapePairs d g zones targets g.diagrams.table shapes made.pairs.items (length shapes)
   pub care : IsCareOf g g.diagrams.table made.pairs.items made.care
   pub served : AreServed d g zones targets blocks made.candidates.items (length blocks)
 
--- those of each goal
-pub record AreMadeFor (d : DesignTree) (g : GameData) (shapes : List MoveShape) (blocks : List BlockTree)
-    (made : List GoalMoves) : Type 0 where
-  pub each : (j : ℕ) (m : GoalMoves) → slice_get made j ≡ Some m → IsMadeFor d g shapes blocks m
+-- those of each goal of a solution
+pub record AreMadeFor (d : DesignTree) (g : GameData) (it : Iterates) (shapes : List MoveShape)
+    (blocks : List BlockTree) (made : List GoalMoves) : Type 0 where
+  pub each : (j : ℕ) (m : GoalMoves) → slice_get made j ≡ Some m →
+      IsMadeFor d g it.region (ranks_in it j) j shapes blocks m
 
 -- the blocks of candidates
 abbrev pub candidate_trees : DesignTree → Counts → List MoveShape → List Candidate → List BlockTree

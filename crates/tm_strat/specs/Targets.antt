@@ -5,7 +5,6 @@ use Rattle.tm_game.specs.Game.{GameData, IsSet}
 use Rattle.tm_solve.specs.declared.iterates.Iterates.{Iterates}
 use Rattle.tm_solve.specs.declared.iterates.RankSet.{RankSet}
 use Rattle.tm_solve.specs.declared.iterates.Ranking.{Ranking}
-use Rattle.tm_strat.specs.declared.good.NewStates.{NewStates}
 
 -- each id is a set of a game
 pub record AreSets (g : GameData) (ids : List NodeId) : Type 0 where
@@ -14,10 +13,6 @@ pub record AreSets (g : GameData) (ids : List NodeId) : Type 0 where
 -- each ranked set is one
 pub record HasSets (g : GameData) (ranks : List RankSet) : Type 0 where
   pub each : (k : ℕ) (r : RankSet) → slice_get ranks k ≡ Some r → IsSet g r.set
-
--- the new states of each rank are some
-pub record HasNewSets (g : GameData) (waits : List NewStates) : Type 0 where
-  pub each : (k : ℕ) (w : NewStates) → slice_get waits k ≡ Some w → IsSet g w.waiting × IsSet g w.falling
 
 -- the region of a solution and each of its ranked sets are
 pub record AreSetsOf (g : GameData) (it : Iterates) : Type 0 where

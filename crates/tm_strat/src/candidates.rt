@@ -116,38 +116,3 @@ fn nums_of(
     }
     Ok(nums)
 }
-
-/// The constants that bits have in widths, one behind the other: the bits of all, the first one the most significant of
-/// 64.
-pub(crate) fn constants(
-    alloc: Global,
-    widths: &[u8],
-    bits: u64,
-) -> Result<Vec<Expression>, AllocError> {
-    let mut found = Vec::new(alloc);
-    let mut rest = bits;
-    for width in widths {
-        found.push(Expression::Constant(upper(rest, *width)))?;
-        rest = behind(rest, *width);
-    }
-    Ok(found)
-}
-
-// The first bits of some.
-fn upper(bits: u64, width: u8) -> u64 {
-    if width == 0 {
-        return 0;
-    }
-    if width >= 64 {
-        return bits;
-    }
-    bits >> (64 - width)
-}
-
-// The bits behind the first ones.
-fn behind(bits: u64, width: u8) -> u64 {
-    if width >= 64 {
-        return 0;
-    }
-    bits << width
-}

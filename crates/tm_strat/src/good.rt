@@ -1,15 +1,19 @@
 //! Where moves are good for the ranked sets of a solution.
-ghost use Rattle.std.specs.Prelude.{◌≡◌, ◌≤◌, ◌<◌, ◌+◌, ◌∷◌, [], true, false, IfOk, length};
+ghost use Rattle.std.specs.Prelude.{◌≡◌, ◌≤◌, ◌<◌, ◌+◌, ◌∷◌, ◌&&◌, [], ℕ, true, false, not, suc, IfOk, OnOk, length};
+ghost use Rattle.tm_dd.specs.Table.{Table};
 ghost use Rattle.tm_dd.specs.declared.node.TheConstants.{FALSE as NOTHING};
+ghost use Rattle.tm_ddops.specs.Manager.{IsFunction};
 ghost use Rattle.tm_game.specs.Game.{GameData, IsSet};
 ghost use Rattle.tm_game.specs.Moves.{HasTask};
 ghost use Rattle.tm_game_bits.specs.Diagrams.{IsSetOf};
+ghost use Rattle.tm_game_bits.specs.Functions.{Function};
 ghost use Rattle.tm_solve_exact.specs.Exact.{IsExactOf};
 ghost use Rattle.tm_strat.specs.Choice.{id_in};
-ghost use Rattle.tm_strat.specs.Goods.{AreGoodMoves, IsGoodFor};
+ghost use Rattle.tm_strat.specs.Goods.{AreGoodMoves, IsGoodFor, ranks_in};
 ghost use Rattle.tm_strat.specs.Shapes.{all_shapes, AreBehind, calls_of, leaves_of};
-ghost use Rattle.tm_strat.specs.Targets.{AreSets, AreSetsOf, HasNewSets, HasSets};
+ghost use Rattle.tm_strat.specs.Targets.{AreSets, AreSetsOf, HasSets};
 ghost use Rattle.tm_strat.specs.Zoned.{AreArgumentLevels, AreShapePairs, AreZonePairs, IsCareOf, IsPairFrom};
+ghost use Rattle.tm_strat.specs.Zones.{AreNew, AreTargets, AreWaits, AreZones, failing as fails, falling, Tells, Zoning};
 ghost use Rattle.tm_syntax.specs.Design.{DesignTree};
 ghost use Rattle.tm_strat_drafts.specs.Growth.{Carried};
 
@@ -93,7 +97,7 @@ pub(crate) fn good_moves(
     ensures grows { Carried game.old game.new }
     ensures count { IfOk result (λ all. length all.items ≡ length iterates.now.ranks.items) }
     ensures good { IfOk result (λ all. (d : DesignTree) → IsExactOf d game.old
-        → AreGoodMoves d game.new shapes.now all.items) }
+        → AreGoodMoves d game.new iterates.now shapes.now all.items) }
 {
     let mut all = Vec::new(alloc);
     for goal in 0..iterates.ranks.len() {
@@ -107,7 +111,8 @@ pub(crate) fn good_moves(
 // The ranked sets of a goal.
 fn ranks_at(iterates: &Iterates, goal: usize) -> &[RankSet]
     requires { goal < length iterates.now.ranks.items }
-    ensures { (g : GameData) → AreSetsOf g iterates.now → HasSets g result.now }
+    ensures sets { (g : GameData) → AreSetsOf g iterates.now → HasSets g result.now }
+    ensures same { result.now ≡ ranks_in iterates.now goal }
 {
     iterates.ranks[goal].sets.as_slice()
 }
@@ -128,23 +133,35 @@ fn goal_moves(
     requires levels { AreArgumentLevels game.old levels.now }
     ensures grows { Carried game.old game.new }
     ensures good { IfOk result (λ good. (d : DesignTree) → IsExactOf d game.old
-        → IsGoodFor d game.new shapes.now good) }
+        → IsGoodFor d game.new region ranks.now goal shapes.now good) }
 {
-    let ends = targets(alloc, region, ranks)?;
+    let _turn = game.turn();
     let states = zones(alloc, game, region, ranks, goal)?;
+    let ends = targets(alloc, game, region, ranks)?;
     let good = moves_of(alloc, game, &states, &ends, shapes, levels)?;
     Ok(good)
 }
 
-// The sets in which moves are to end: the region, and each ranked set.
-#[tactic(auto, using(crate::proofs::Carrying::one_set, crate::proofs::Carrying::ranked_more))]
-fn targets(alloc: Global, region: NodeId, ranks: &[RankSet]) -> Result<Vec<NodeId>, AllocError>
-    ensures { IfOk result (λ ids. (g : GameData) → IsSet g region → HasSets g ranks.now → AreSets g ids.items) }
+// The sets in which moves are to end: the region, and for each rank the states of no higher one.
+fn targets(
+    alloc: Global,
+    game: &mut Game,
+    region: NodeId,
+    ranks: &[RankSet],
+) -> Result<Vec<NodeId>, AllocError>
+    requires region { IsSet game.old region }
+    requires ranks { HasSets game.old ranks.now }
+    ensures grows { Carried game.old game.new }
+    ensures sets { IfOk result (λ ids. AreSets game.new ids.items) }
+    ensures are { IfOk result (λ ids. (goal : ℕ) (z : Zoning) → Tells game.old region ranks.now goal z
+        → AreTargets game.new.diagrams.table z (suc (length ranks.now)) ids.items) }
 {
     let mut targets = Vec::new(alloc);
     targets.push(region)?;
+    let mut within = FALSE;
     for rank in ranks {
-        targets.push(rank.set)?;
+        within = either(game, within, rank.set)?;
+        targets.push(within)?;
     }
     Ok(targets)
 }
@@ -159,11 +176,9 @@ fn zones(
     ranks: &[RankSet],
     goal: usize,
 ) -> Result<Vec<NodeId>, AllocError>
-    requires of { (d : DesignTree) × IsExactOf d game.old }
-    requires region { IsSet game.old region }
-    requires ranks { HasSets game.old ranks.now }
     ensures grows { Carried game.old game.new }
-    ensures sets { IfOk result (λ zones. AreSets game.new zones.items) }
+    ensures are { IfOk result (λ ids. (z : Zoning) → Tells game.old region ranks.now goal z
+        → AreZones game.new.diagrams.table z (suc (length ranks.now)) ids.items) }
 {
     let holds = id_at(game.goals(), goal);
     let turn = game.turn();
@@ -191,11 +206,10 @@ fn waits(
     failing: NodeId,
     ranks: &[RankSet],
 ) -> Result<Vec<NewStates>, AllocError>
-    requires of { (d : DesignTree) × IsExactOf d game.old }
-    requires failing { IsSet game.old failing }
-    requires ranks { HasSets game.old ranks.now }
     ensures grows { Carried game.old game.new }
-    ensures sets { IfOk result (λ waits. HasNewSets game.new waits.items) }
+    ensures are { IfOk result (λ waits. (region : NodeId) (goal : ℕ) (z : Zoning)
+        → Tells game.old region ranks.now goal z → IsFunction game.old.diagrams.table failing (fails z)
+        → AreWaits game.new.diagrams.table z (length ranks.now) waits.items) }
 {
     let mut waits = Vec::new(alloc);
     let mut before = FALSE;
@@ -214,12 +228,11 @@ fn new_states(
     before: NodeId,
     rank: RankSet,
 ) -> Result<NewStates, AllocError>
-    requires of { (d : DesignTree) × IsExactOf d game.old }
-    requires failing { IsSet game.old failing }
-    requires before { IsSet game.old before }
-    requires rank { IsSet game.old rank.set }
     ensures grows { Carried game.old game.new }
-    ensures sets { IfOk result (λ states. IsSet game.new states.waiting × IsSet game.new states.falling) }
+    ensures are { IfOk result (λ n. (f b set fair : Function) → IsFunction game.old.diagrams.table failing f
+        → IsFunction game.old.diagrams.table before b → IsFunction game.old.diagrams.table rank.set set
+        → IsFunction game.old.diagrams.table (id_in game.old.fairs rank.fair) fair
+        → AreNew game.new.diagrams.table (λ v. (f v && set v) && not (b v)) fair n) }
 {
     let fair = id_at(game.fairs(), rank.fair as usize);
     let inside = both(game, failing, rank.set)?;
@@ -235,10 +248,10 @@ fn push_zones(
     zones: &mut Vec<NodeId>,
     waits: &[NewStates],
 ) -> Result<(), AllocError>
-    requires zones { AreSets game.old zones.old.items }
-    requires waits { HasNewSets game.old waits.now }
     ensures grows { Carried game.old game.new }
-    ensures sets { IfOk result (λ done. AreSets game.new zones.new.items) }
+    ensures are { OnOk result ((z : Zoning) → AreZones game.old.diagrams.table z 1 zones.old.items
+        → AreWaits game.old.diagrams.table z (length z.ranks) waits.now
+        → AreZones game.new.diagrams.table z (suc (length waits.now)) zones.new.items) }
 {
     for index in 0..waits.len() {
         let falling = falling_to(waits, index);
@@ -251,7 +264,8 @@ fn push_zones(
 // The states that fall to a rank from the next one.
 fn falling_to(waits: &[NewStates], index: usize) -> NodeId
     requires { index < length waits.now }
-    ensures { (g : GameData) → HasNewSets g waits.now → IsSet g result }
+    ensures { (t : Table) (z : Zoning) → AreWaits t z (length z.ranks) waits.now
+        → IsFunction t result (falling z (suc index)) }
 {
     if index + 1 < waits.len() {
         waits[index + 1].falling
@@ -283,7 +297,8 @@ fn moves_of(
     ensures pairs { IfOk result (λ good. (d : DesignTree) → IsExactOf d game.old
         → AreShapePairs d game.old zones.now targets.now game.new.diagrams.table shapes.now good.pairs.items
         (length shapes.now)) }
-    ensures care { IfOk result (λ good. IsCareOf game.old game.new.diagrams.table good.pairs.items good.care) }
+    ensures care { IfOk result (λ good. (d : DesignTree) → IsExactOf d game.old
+        → IsCareOf game.old game.new.diagrams.table good.pairs.items good.care) }
 {
     let mut pairs = Vec::new(alloc);
     let mut care = FALSE;

@@ -4,6 +4,7 @@
 mod atoms;
 mod candidates;
 mod choosing;
+mod constants;
 mod covering;
 mod expressions;
 mod good;

@@ -8,8 +8,10 @@ ghost use Rattle.tm_cir.specs.Tree.{BlockTree};
 ghost use Rattle.tm_cir.specs.View.{trees_of};
 ghost use Rattle.tm_flat.specs.Inputs.{room};
 ghost use Rattle.tm_game.specs.Game.{Grows, IsOf};
+ghost use Rattle.tm_dd.specs.declared.node.NodeId.{NodeId};
 ghost use Rattle.tm_game.specs.declared.moves.MoveShape.{MoveShape};
 ghost use Rattle.tm_sem.specs.Certificates.{MeetsDriver, MeetsMoveForm};
+ghost use Rattle.tm_solve.specs.declared.iterates.RankSet.{RankSet};
 ghost use Rattle.tm_solve.specs.Iterates as solution;
 ghost use Rattle.tm_solve.specs.Iterates.{KnowsAll};
 ghost use Rattle.tm_solve_exact.specs.Exact.{IsExactOf, exact_ids};
@@ -17,6 +19,7 @@ ghost use Rattle.tm_strat.specs.Choice.{IsChoice};
 ghost use Rattle.tm_strat.specs.Chosen.{AreChosen};
 ghost use Rattle.tm_strat.specs.Fitting.{FitsCounts};
 ghost use Rattle.tm_strat.specs.Goods.{AreGoodMoves, IsGoodFor};
+ghost use Rattle.tm_strat.specs.Meeting.{CanCall};
 ghost use Rattle.tm_strat.specs.Prepared.{AreShapesOf, AreWidthsOf, IsPrepared};
 ghost use Rattle.tm_strat.specs.Served.{AreGivenFor, AreMadeFor, IsMadeFor, candidate_trees};
 ghost use Rattle.tm_strat.specs.Targets.{AreSetsOf};
@@ -25,7 +28,7 @@ ghost use Rattle.tm_strat_drafts.specs.Blocks.{AreLater};
 ghost use Rattle.tm_strat_drafts.specs.Growth.{Carried};
 ghost use Rattle.tm_syntax.specs.Design.{DesignTree};
 ghost use Rattle.tm_syntax.specs.Design.View.{design_tree};
-ghost use Rattle.tm_syntax.specs.Faults.{IsSound};
+ghost use Rattle.tm_verdict.specs.Regular.{IsRegular};
 
 use crate::candidates::Candidate;
 use crate::choosing::{Choosing, GoalMoves, TestTable};
@@ -57,9 +60,9 @@ pub struct Driven {
 ///
 /// A set of states is served by a block that is there where one is good at all of it, else by a candidate move, else it
 /// is split by the test that leaves the least mixture of candidates on its two sides. The game is taken and given back,
-/// since what builds the blocks owns it; its ids mean what they meant. Where the design is well-formed and the ranked
-/// sets are a certificate of some strategy, they are one of these blocks. `AllocError` is want of memory; no driver has
-/// 2^32 blocks.
+/// since what builds the blocks owns it; its ids mean what they meant. Where the design is that of a text and the
+/// ranked sets are a certificate of some strategy, they are one of these blocks. `AllocError` is want of memory; no
+/// driver has 2^32 blocks.
 pub fn driver(
     alloc: Global,
     mut game: Game,
@@ -71,7 +74,7 @@ pub fn driver(
     requires known { KnowsAll (exact_ids game) iterates.now }
     ensures grows { IfOk result (λ made. Grows game made.game) }
     ensures fits { IfOk result (λ made. FitBlocks (design_tree design.now) (trees_of made.blocks)) }
-    ensures meets { IfOk result (λ made. IsSound (design_tree design.now)
+    ensures meets { IfOk result (λ made. IsRegular (design_tree design.now) → CanCall (design_tree design.now)
         → MeetsMoveForm (design_tree design.now) (solution.driver_sets (exact_ids game) iterates.now)
         → MeetsDriver (design_tree design.now) (Answers (trees_of made.blocks))
         (solution.driver_sets (exact_ids game) iterates.now)) }
@@ -103,8 +106,8 @@ fn prepare(
     ensures grows { Carried game.old game.new }
     ensures counts { IfOk result (λ p. FitsCounts (design_tree design.now) p.spelling.counts) }
     ensures choice { IfOk result (λ p. IsChoice game.new p.tests.holds.items p.goals.items) }
-    ensures made { IfOk result (λ p. IsPrepared (design_tree design.now) game.new p.spelling p.tests.holds.items
-        p.goals.items (length iterates.now.ranks.items)) }
+    ensures made { IfOk result (λ p. IsPrepared (design_tree design.now) game.new iterates.now p.spelling
+        p.tests.holds.items p.goals.items) }
 {
     tell(game);
     let counts = counts_of(design);
@@ -118,6 +121,7 @@ fn prepare(
         game,
         design,
         counts,
+        iterates,
         &chooser.shapes,
         &candidates,
         goods,
@@ -209,6 +213,7 @@ fn goal_moves(
     game: &mut Game,
     design: &Design,
     counts: Counts,
+    iterates: &Iterates,
     shapes: &[MoveShape],
     candidates: &[Candidate],
     goods: Vec<GoodMoves>,
@@ -216,10 +221,10 @@ fn goal_moves(
     requires exact { IsExactOf (design_tree design.now) game.old }
     requires sized { IsSized game.old }
     requires counts { FitsCounts (design_tree design.now) counts }
-    requires goods { AreGoodMoves (design_tree design.now) game.old shapes.now goods.items }
+    requires goods { AreGoodMoves (design_tree design.now) game.old iterates.now shapes.now goods.items }
     ensures grows { Carried game.old game.new }
     ensures count { IfOk result (λ goals. length goals.items ≡ length goods.items) }
-    ensures made { IfOk result (λ goals. AreMadeFor (design_tree design.now) game.new shapes.now
+    ensures made { IfOk result (λ goals. AreMadeFor (design_tree design.now) game.new iterates.now shapes.now
         (candidate_trees (design_tree design.now) counts shapes.now candidates.now) goals.items) }
 {
     let given = read_candidates(alloc, design, game, counts, shapes, candidates)?;
@@ -239,10 +244,11 @@ fn goal_move(
     good: GoodMoves,
 ) -> Result<GoalMoves, AllocError>
     ensures grows { Carried game.old game.new }
-    ensures made { IfOk result (λ made. (d : DesignTree) (shapes : List MoveShape) (blocks : List BlockTree)
-        → IsExactOf d game.old → IsGoodFor d game.old shapes good
+    ensures made { IfOk result (λ made. (d : DesignTree) (region : NodeId) (ranks : List RankSet) (goal : ℕ)
+        (shapes : List MoveShape) (blocks : List BlockTree) → IsExactOf d game.old
+        → IsGoodFor d game.old region ranks goal shapes good
         → AreGivenFor d game.old shapes blocks given.now (length blocks)
-        → IsMadeFor d game.new shapes blocks made) }
+        → IsMadeFor d game.new region ranks goal shapes blocks made) }
 {
     let candidates = candidate_states(alloc, game, given, &good.pairs)?;
     Ok(GoalMoves {

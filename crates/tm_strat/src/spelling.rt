@@ -1,11 +1,16 @@
 //! Drafted blocks as blocks of C.
-ghost use Rattle.std.specs.Prelude.{◌≡◌, ℕ, IfOk, length};
+ghost use Rattle.std.specs.Option.{option_map_or};
+ghost use Rattle.std.specs.Prelude.{◌≡◌, ℕ, IfOk, length, map, slice_get};
 ghost use Rattle.tm_cir.specs.Fit.{FitBlocks, FitsBlock, FitsTruth};
+ghost use Rattle.tm_cir.specs.Tree.{idle};
 ghost use Rattle.tm_cir.specs.View.{block_tree, block_trees, trees_of, truth_tree};
 ghost use Rattle.tm_strat.specs.Fitting.{AreSpelled, FitsCounts, IsSpelled};
+ghost use Rattle.tm_strat.specs.Spelled.{choice_tree, constants_from, draft_tree, test_tree, widths_in};
+ghost use Rattle.tm_strat.specs.Trees.{candidate_tree, move_tree, shape_in};
 ghost use Rattle.tm_syntax.specs.Design.View.{design_tree};
 
-use crate::candidates::{Candidate, constants, move_block, shape_at};
+use crate::candidates::{Candidate, move_block, shape_at};
+use crate::constants::constants;
 use crate::numbers::{Counts, narrow};
 use crate::predicates::{Predicate, pending};
 use std::alloc::{AllocError, Global};
@@ -34,7 +39,10 @@ pub(crate) fn spelled(
     drafted: &[DraftBlock],
 ) -> Result<Vec<Block>, AllocError>
     requires { FitsCounts (design_tree design.now) spelling.now.counts }
-    ensures { IfOk result (λ bs. AreSpelled (design_tree design.now) drafted.now bs.items (length drafted.now)) }
+    ensures fits { IfOk result (λ bs. AreSpelled (design_tree design.now) drafted.now bs.items
+        (length drafted.now)) }
+    ensures trees { IfOk result (λ bs. block_trees bs.items
+        ≡ map (draft_tree (design_tree design.now) spelling.now) drafted.now) }
 {
     let mut blocks = Vec::new(alloc);
     for block in drafted {
@@ -53,7 +61,8 @@ fn spelled_block(
     block: DraftBlock,
 ) -> Result<Block, AllocError>
     requires { FitsCounts (design_tree design.now) spelling.now.counts }
-    ensures { IfOk result (IsSpelled (design_tree design.now) block) }
+    ensures fits { IfOk result (IsSpelled (design_tree design.now) block) }
+    ensures tree { IfOk result (λ b. block_tree b ≡ draft_tree (design_tree design.now) spelling.now block) }
 {
     match block {
         DraftBlock::Test(test, first, second) => {
@@ -75,7 +84,8 @@ fn spelled_move(
     choice: MoveChoice,
 ) -> Result<Block, AllocError>
     requires { FitsCounts (design_tree design.now) spelling.now.counts }
-    ensures { IfOk result (λ b. (count at : ℕ) → FitsBlock (design_tree design.now) count at (block_tree b)) }
+    ensures fits { IfOk result (λ b. (count at : ℕ) → FitsBlock (design_tree design.now) count at (block_tree b)) }
+    ensures tree { IfOk result (λ b. block_tree b ≡ choice_tree (design_tree design.now) spelling.now choice) }
 {
     match choice {
         MoveChoice::Candidate(number) => candidate_block(alloc, design, spelling, number),
@@ -98,7 +108,8 @@ pub(crate) fn fitting(design: &Design, list: Vec<Block>) -> Blocks
 
 // The test of a number; behind those of states come those whether a goal is pending.
 fn spelled_test(alloc: Global, spelling: &Spelling, test: u32) -> Result<Truth, AllocError>
-    ensures { IfOk result (λ t. FitsTruth spelling.now.counts.vars spelling.now.counts.processes (truth_tree t)) }
+    ensures fits { IfOk result (λ t. FitsTruth spelling.now.counts.vars spelling.now.counts.processes (truth_tree t)) }
+    ensures tree { IfOk result (λ t. truth_tree t ≡ test_tree spelling.now test) }
 {
     let index = test as usize;
     let count = spelling.predicates.len();
@@ -116,7 +127,10 @@ fn candidate_block(
     number: u32,
 ) -> Result<Block, AllocError>
     requires { FitsCounts (design_tree design.now) spelling.now.counts }
-    ensures { IfOk result (λ b. (count at : ℕ) → FitsBlock (design_tree design.now) count at (block_tree b)) }
+    ensures fits { IfOk result (λ b. (count at : ℕ) → FitsBlock (design_tree design.now) count at (block_tree b)) }
+    ensures tree { IfOk result (λ b. block_tree b ≡ option_map_or
+        (candidate_tree (design_tree design.now) spelling.now.counts spelling.now.shapes.items)
+        (slice_get spelling.now.candidates.items number) idle) }
 {
     match spelling.candidates.get(number as usize) {
         Some(candidate) => {
@@ -136,7 +150,10 @@ fn constant_block(
     bits: u64,
 ) -> Result<Block, AllocError>
     requires { FitsCounts (design_tree design.now) spelling.now.counts }
-    ensures { IfOk result (λ b. (count at : ℕ) → FitsBlock (design_tree design.now) count at (block_tree b)) }
+    ensures fits { IfOk result (λ b. (count at : ℕ) → FitsBlock (design_tree design.now) count at (block_tree b)) }
+    ensures tree { IfOk result (λ b. block_tree b ≡ move_tree (design_tree design.now) spelling.now.counts
+        (shape_in spelling.now.shapes.items shape)
+        (constants_from bits 0 (widths_in spelling.now (shape_in spelling.now.shapes.items shape)))) }
 {
     let shape = shape_at(&spelling.shapes, shape);
     let arguments = constants(alloc, widths_of(spelling, shape), bits)?;
@@ -144,7 +161,9 @@ fn constant_block(
 }
 
 // The widths of the parameters of the task that a shape calls.
-fn widths_of(spelling: &Spelling, shape: MoveShape) -> &[u8] {
+fn widths_of(spelling: &Spelling, shape: MoveShape) -> &[u8]
+    ensures { result.now ≡ widths_in spelling.now shape }
+{
     match shape {
         MoveShape::Idle => &[],
         MoveShape::Leave(_) => &[],
