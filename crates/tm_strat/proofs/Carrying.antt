@@ -24,7 +24,7 @@ use Rattle.tm_strat.specs.Targets.{AreSets, AreSetsOf, HasSets}
 use Rattle.tm_syntax.specs.Design.{DesignTree}
 use Rattle.tm_strat_drafts.specs.Growth.{Carried}
 
-some_same : {A : Type 0} {x y : A} → Some x ≡ Some y → x ≡ y
+pub some_same : {A : Type 0} {x y : A} → Some x ≡ Some y → x ≡ y
 some_same {A = A} {x = x} {y = y} e = ap (λ (o : Option A). or_else o) e
   where
     or_else : Option A → A

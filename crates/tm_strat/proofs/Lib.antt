@@ -1,8 +1,12 @@
+mod Bits
 mod Carrying
 mod Choices
 mod Chosen
 mod Constants
+mod Distinct
 mod Fitted
+mod Gathering
+mod Goods
 mod Meeting
 mod MeetingAnswers
 mod MeetingDriver
@@ -11,4 +15,6 @@ mod MeetingMoves
 mod MeetingTurns
 mod MeetingZones
 mod Parts
+mod Serving
+mod ZonePairs
 mod Zoning

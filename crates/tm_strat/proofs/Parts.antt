@@ -38,7 +38,7 @@ constant_means t true v = means-TRUE t v
 constant_means t false v = means-FALSE t v
 
 -- the bit of a number of a weight
-bit_is : (w n k : ℕ) → k < w → get_or (bits_of w n) k false ≡ (n / 2 ^ (w - 1 - k) % 2 == 1)
+pub bit_is : (w n k : ℕ) → k < w → get_or (bits_of w n) k false ≡ (n / 2 ^ (w - 1 - k) % 2 == 1)
 bit_is zero n k below = absurd (omega (arith, below))
 bit_is (suc w) n zero below =
     let same : w ≡ suc w - 1 - 0 = omega arith in ap (λ e. n / 2 ^ e % 2 == 1) same

@@ -4,7 +4,7 @@ use Rattle.std.specs.Prelude.{◌≡◌, ℕ, ◌+◌, ◌-◌, ◌<◌, ◌≤�
 use Rattle.tm_base.specs.Bits.{bits_of}
 use Rattle.tm_dd.specs.declared.node.NodeId.{NodeId}
 use Rattle.tm_dd.specs.declared.node.TheConstants.{FALSE}
-use Rattle.tm_dd.specs.Table.{Knows, means}
+use Rattle.tm_dd.specs.Table.{Knows, Table, means}
 use Rattle.tm_flat.specs.Inputs.{room}
 use Rattle.tm_game.specs.Game.{GameData}
 use Rattle.tm_game_bits.specs.Functions.{Assignment}
@@ -81,13 +81,17 @@ pub record IsPairs (g : GameData) (id : NodeId) : Type 0 where
   pub reads : ReadsState (length g.order + room) (means g.diagrams.table id)
   pub valid : (v : Assignment) → means g.diagrams.table id v ≡ true → valid_set g v ≡ true
 
--- arguments with which a move of some shape is good at a state
-pub record PairAt (g : GameData) (o : Option GoalMoves) (v : Assignment) : Type 0 where
+-- values of levels of the same state, by so many levels, at which the pairs of some shape hold
+pub record HasPair (count : ℕ) (t : Table) (pairs : List NodeId) (v : Assignment) : Type 0 where
   pub shape : ℕ
   pub values : Assignment
-  pub below : shape < length (pairs_of o)
-  pub same : AreOneState (length g.order) values v
-  pub good : means g.diagrams.table (id_in (pairs_of o) shape) values ≡ true
+  pub below : shape < length pairs
+  pub same : AreOneState count values v
+  pub good : means t (id_in pairs shape) values ≡ true
+
+-- arguments with which a move of some shape is good at a state
+abbrev pub PairAt : GameData → Option GoalMoves → Assignment → Type 0
+PairAt g o v = HasPair (length g.order) g.diagrams.table (pairs_of o) v
 
 -- a goal's moves are sets over the game, of so many shapes that 32 bits number them, and at each state of the region
 -- some move is good

@@ -1,5 +1,5 @@
 -- Moves with constant arguments that are good at some state of a set. Here pairs are those of one shape, or of each.
-use Rattle.std.specs.Prelude.{◌≡◌, ℕ, ◌+◌, ◌<◌, ◌&&◌, Bool, true, false, List, Option, None, Some, length, map, slice_index_or}
+use Rattle.std.specs.Prelude.{◌≡◌, ℕ, ◌+◌, ◌<◌, ◌^◌, ◌&&◌, Bool, true, false, List, Option, None, Some, length, map, slice_index_or}
 use Rattle.std.specs.List.{range_with_len}
 use Rattle.tm_base.specs.Bits.{bits_of}
 use Rattle.tm_dd.specs.declared.node.NodeId.{NodeId}
@@ -19,6 +19,11 @@ use Rattle.tm_strat_drafts.specs.declared.drafts.MoveChoice.TheVariants.{Candida
 -- 64 bits are those of a list from one on, false where there is none
 pub record AreBitsFrom (values : List Bool) (first bits : ℕ) : Type 0 where
   pub each : (k : ℕ) → k < 64 → slice_index_or (bits_of 64 bits) k false ≡ slice_index_or values (first + k) false
+
+-- a number has so many bits, which are those of a list from one on
+pub record AreFirstBits (values : List Bool) (first n bits : ℕ) : Type 0 where
+  pub below : bits < 2 ^ n
+  pub each : (k : ℕ) → k < n → slice_index_or (bits_of n bits) k false ≡ slice_index_or values (first + k) false
 
 -- a function is true at values of levels that have these bits for the arguments
 pub record HasBits (g : GameData) (id : NodeId) (bits : ℕ) : Type 0 where

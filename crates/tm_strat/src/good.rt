@@ -1,13 +1,20 @@
 //! Where moves are good for the ranked sets of a solution.
-ghost use Rattle.std.specs.Prelude.{◌≡◌, ◌<◌, ◌&&◌, ℕ, true, not, suc, IfOk, OnOk, length};
+ghost use Rattle.std.specs.Prelude.{◌≡◌, ◌≤◌, ◌<◌, ◌+◌, ◌∷◌, ◌&&◌, [], ℕ, true, false, not, suc, IfOk, OnOk, length};
 ghost use Rattle.tm_dd.specs.Table.{Table};
+ghost use Rattle.tm_dd.specs.declared.node.TheConstants.{FALSE as NOTHING};
 ghost use Rattle.tm_ddops.specs.Manager.{IsFunction};
 ghost use Rattle.tm_game.specs.Game.{GameData, IsSet};
 ghost use Rattle.tm_game.specs.Moves.{HasTask};
+ghost use Rattle.tm_game_bits.specs.Diagrams.{IsSetOf};
 ghost use Rattle.tm_game_bits.specs.Functions.{Function};
+ghost use Rattle.tm_solve_exact.specs.Exact.{IsExactOf};
 ghost use Rattle.tm_strat.specs.Choice.{id_in};
+ghost use Rattle.tm_strat.specs.Goods.{AreGoodMoves, IsGoodFor, ranks_in};
+ghost use Rattle.tm_strat.specs.Shapes.{all_shapes, AreBehind, calls_of, leaves_of};
 ghost use Rattle.tm_strat.specs.Targets.{AreSets, AreSetsOf, HasSets};
+ghost use Rattle.tm_strat.specs.Zoned.{AreArgumentLevels, AreShapePairs, AreZonePairs, IsCareOf, IsPairFrom};
 ghost use Rattle.tm_strat.specs.Zones.{AreNew, AreTargets, AreWaits, AreZones, failing as fails, falling, Tells, Zoning};
+ghost use Rattle.tm_syntax.specs.Design.{DesignTree};
 ghost use Rattle.tm_strat_drafts.specs.Growth.{Carried};
 
 use crate::sets::{both, either, rest, somewhere};
@@ -24,12 +31,18 @@ pub(crate) struct GoodMoves {
     pub(crate) care: NodeId,
 }
 
+/// The most shapes of moves, which are numbered in 32 bits.
+const MOST_SHAPES: usize = 4294967295;
+
 /// The shapes of the driver's moves: to idle, to leave each process, and to call each task.
 pub(crate) fn shapes(
     alloc: Global,
     processes: u32,
     tasks: u32,
-) -> Result<Vec<MoveShape>, AllocError> {
+) -> Result<Vec<MoveShape>, AllocError>
+    ensures few { IfOk result (λ all. length all.items ≤ 4294967295) }
+    ensures all { IfOk result (λ all. 1 + processes + tasks ≤ 4294967295 → all.items ≡ all_shapes processes tasks) }
+{
     let mut shapes = Vec::new(alloc);
     shapes.push(MoveShape::Idle)?;
     push_leaves(&mut shapes, processes)?;
@@ -38,17 +51,34 @@ pub(crate) fn shapes(
 }
 
 // Puts the leaves of processes behind other shapes.
-fn push_leaves(shapes: &mut Vec<MoveShape>, processes: u32) -> Result<(), AllocError> {
+fn push_leaves(shapes: &mut Vec<MoveShape>, processes: u32) -> Result<(), AllocError>
+    requires { length shapes.old.items ≤ 4294967295 }
+    ensures { IfOk result (λ done. AreBehind shapes.old.items (leaves_of processes) shapes.new.items) }
+{
     for process in 0..processes {
-        shapes.push(MoveShape::Leave(process))?;
+        push_shape(shapes, MoveShape::Leave(process))?;
     }
     Ok(())
 }
 
 // Puts the calls of tasks behind other shapes.
-fn push_calls(shapes: &mut Vec<MoveShape>, tasks: u32) -> Result<(), AllocError> {
+fn push_calls(shapes: &mut Vec<MoveShape>, tasks: u32) -> Result<(), AllocError>
+    requires { length shapes.old.items ≤ 4294967295 }
+    ensures { IfOk result (λ done. AreBehind shapes.old.items (calls_of tasks) shapes.new.items) }
+{
     for task in 0..tasks {
-        shapes.push(MoveShape::Call(task))?;
+        push_shape(shapes, MoveShape::Call(task))?;
+    }
+    Ok(())
+}
+
+// Puts a shape behind others, while 32 bits number them.
+fn push_shape(shapes: &mut Vec<MoveShape>, shape: MoveShape) -> Result<(), AllocError>
+    requires { length shapes.old.items ≤ 4294967295 }
+    ensures { IfOk result (λ done. AreBehind shapes.old.items (shape ∷ []) shapes.new.items) }
+{
+    if shapes.len() < MOST_SHAPES {
+        shapes.push(shape)?;
     }
     Ok(())
 }
@@ -61,8 +91,13 @@ pub(crate) fn good_moves(
     shapes: &[MoveShape],
     levels: &[u32],
 ) -> Result<Vec<GoodMoves>, AllocError>
+    requires of { (d : DesignTree) × IsExactOf d game.old }
     requires sets { AreSetsOf game.old iterates.now }
-    ensures { Carried game.old game.new }
+    requires levels { AreArgumentLevels game.old levels.now }
+    ensures grows { Carried game.old game.new }
+    ensures count { IfOk result (λ all. length all.items ≡ length iterates.now.ranks.items) }
+    ensures good { IfOk result (λ all. (d : DesignTree) → IsExactOf d game.old
+        → AreGoodMoves d game.new iterates.now shapes.now all.items) }
 {
     let mut all = Vec::new(alloc);
     for goal in 0..iterates.ranks.len() {
@@ -76,7 +111,8 @@ pub(crate) fn good_moves(
 // The ranked sets of a goal.
 fn ranks_at(iterates: &Iterates, goal: usize) -> &[RankSet]
     requires { goal < length iterates.now.ranks.items }
-    ensures { (g : GameData) → AreSetsOf g iterates.now → HasSets g result.now }
+    ensures sets { (g : GameData) → AreSetsOf g iterates.now → HasSets g result.now }
+    ensures same { result.now ≡ ranks_in iterates.now goal }
 {
     iterates.ranks[goal].sets.as_slice()
 }
@@ -91,10 +127,15 @@ fn goal_moves(
     shapes: &[MoveShape],
     levels: &[u32],
 ) -> Result<GoodMoves, AllocError>
+    requires of { (d : DesignTree) × IsExactOf d game.old }
     requires region { IsSet game.old region }
     requires ranks { HasSets game.old ranks.now }
-    ensures { Carried game.old game.new }
+    requires levels { AreArgumentLevels game.old levels.now }
+    ensures grows { Carried game.old game.new }
+    ensures good { IfOk result (λ good. (d : DesignTree) → IsExactOf d game.old
+        → IsGoodFor d game.new region ranks.now goal shapes.now good) }
 {
+    let _turn = game.turn();
     let states = zones(alloc, game, region, ranks, goal)?;
     let ends = targets(alloc, game, region, ranks)?;
     let good = moves_of(alloc, game, &states, &ends, shapes, levels)?;
@@ -249,8 +290,15 @@ fn moves_of(
     shapes: &[MoveShape],
     levels: &[u32],
 ) -> Result<GoodMoves, AllocError>
-    requires sets { AreSets game.old targets.now }
-    ensures { Carried game.old game.new }
+    requires zones { AreSets game.old zones.now }
+    requires targets { AreSets game.old targets.now }
+    requires levels { AreArgumentLevels game.old levels.now }
+    ensures grows { Carried game.old game.new }
+    ensures pairs { IfOk result (λ good. (d : DesignTree) → IsExactOf d game.old
+        → AreShapePairs d game.old zones.now targets.now game.new.diagrams.table shapes.now good.pairs.items
+        (length shapes.now)) }
+    ensures care { IfOk result (λ good. (d : DesignTree) → IsExactOf d game.old
+        → IsCareOf game.old game.new.diagrams.table good.pairs.items good.care) }
 {
     let mut pairs = Vec::new(alloc);
     let mut care = FALSE;
@@ -270,13 +318,17 @@ fn shape_moves(
     targets: &[NodeId],
     shape: MoveShape,
 ) -> Result<NodeId, AllocError>
-    requires sets { AreSets game.old targets.now }
-    ensures { Carried game.old game.new }
+    requires zones { AreSets game.old zones.now }
+    requires targets { AreSets game.old targets.now }
+    ensures grows { Carried game.old game.new }
+    ensures pairs { IfOk result (λ id. (d : DesignTree) → IsExactOf d game.old
+        → AreZonePairs d game.old zones.now targets.now (length targets.now) game.new.diagrams.table shape id) }
 {
     let mut good = FALSE;
     for index in 0..targets.len() {
         let target = target_at(targets, index);
-        let here = zone_moves(game, id_at(zones, index), target, shape)?;
+        let states = id_at(zones, index);
+        let here = zone_moves(game, states, target, shape)?;
         good = either(game, good, here)?;
     }
     Ok(good)
@@ -286,7 +338,8 @@ fn shape_moves(
 #[tactic(auto, using(crate::proofs::Carrying::set_at))]
 fn target_at(targets: &[NodeId], index: usize) -> NodeId
     requires { index < length targets.now }
-    ensures { (g : GameData) → AreSets g targets.now → IsSet g result }
+    ensures sets { (g : GameData) → AreSets g targets.now → IsSet g result }
+    ensures same { result ≡ id_in targets.now index }
 {
     targets[index]
 }
@@ -299,10 +352,13 @@ fn zone_moves(
     target: NodeId,
     shape: MoveShape,
 ) -> Result<NodeId, AllocError>
+    requires states { IsSet game.old states }
     requires target { IsSet game.old target }
-    ensures { Carried game.old game.new }
+    ensures grows { Carried game.old game.new }
+    ensures pairs { IfOk result (λ id. (d : DesignTree) → IsExactOf d game.old
+        → IsSetOf game.new.diagrams.table (IsPairFrom d game.old states target shape) id) }
 {
-    if states == FALSE || target == FALSE || !has_task(game, shape) {
+    if !may_move(game, states, target, shape) {
         return Ok(FALSE);
     }
     let legal = game.legal_move(shape, target)?;
@@ -310,10 +366,20 @@ fn zone_moves(
     Ok(here)
 }
 
+// Whether neither set is empty, and the task of a shape is there.
+fn may_move(game: &Game, states: NodeId, target: NodeId, shape: MoveShape) -> bool
+    ensures may { result ≡ true → (¬ (states ≡ NOTHING)) × (¬ (target ≡ NOTHING)) × HasTask game.now.flat shape }
+    ensures never { result ≡ false → ¬ ((¬ (states ≡ NOTHING)) × (¬ (target ≡ NOTHING))
+        × HasTask game.now.flat shape) }
+{
+    states != FALSE && target != FALSE && has_task(game, shape)
+}
+
 // Whether the task of a shape is there.
 #[tactic(auto, using(crate::proofs::Carrying::task_there))]
 fn has_task(game: &Game, shape: MoveShape) -> bool
-    ensures { result ≡ true → HasTask game.now.flat shape }
+    ensures there { result ≡ true → HasTask game.now.flat shape }
+    ensures gone { result ≡ false → ¬ HasTask game.now.flat shape }
 {
     match shape {
         MoveShape::Idle => true,

@@ -19,6 +19,7 @@ mod reading;
 mod sets;
 mod spelling;
 mod splits;
+mod tables;
 mod tests;
 
 pub use making::{Driven, driver};

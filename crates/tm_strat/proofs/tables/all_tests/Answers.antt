@@ -1,5 +1,5 @@
 use Rattle.tm_strat.proofs.Carrying.{of_stays, sized_stays}
-use Rattle.tm_strat.proofs.making.all_tests.Goals as goal
+use Rattle.tm_strat.proofs.tables.all_tests.Goals as goal
 use Rattle.tm_syntax.specs.Design.View.{design_tree}
 
 pub push_bits-requires-clause-of : goal.push_bits-requires-clause-of
