@@ -12,6 +12,7 @@ mod MeetingAnswers
 mod MeetingDriver
 mod MeetingGoals
 mod MeetingMoves
+mod MeetingPrepared
 mod MeetingTurns
 mod MeetingZones
 mod Parts
