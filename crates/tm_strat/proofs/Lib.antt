@@ -11,11 +11,13 @@ mod Meeting
 mod MeetingAnswers
 mod MeetingDriver
 mod MeetingGoals
+mod MeetingGrown
 mod MeetingMoves
 mod MeetingPrepared
 mod MeetingTurns
 mod MeetingZones
 mod Parts
 mod Serving
+mod Written
 mod ZonePairs
 mod Zoning
