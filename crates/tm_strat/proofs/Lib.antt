@@ -1,3 +1,4 @@
+mod Behind
 mod Bits
 mod Carrying
 mod Choices
@@ -6,7 +7,9 @@ mod Constants
 mod Distinct
 mod Fitted
 mod Gathering
+mod Giving
 mod Goods
+mod Made
 mod Meeting
 mod MeetingAnswers
 mod MeetingDriver
@@ -15,6 +18,9 @@ mod MeetingMoves
 mod MeetingTurns
 mod MeetingZones
 mod Parts
+mod Prepared
 mod Serving
+mod Testing
 mod ZonePairs
+mod ZoneSets
 mod Zoning

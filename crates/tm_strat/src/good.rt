@@ -51,6 +51,7 @@ pub(crate) fn shapes(
 }
 
 // Puts the leaves of processes behind other shapes.
+#[tactic(auto, using(crate::proofs::Behind::behind_none, crate::proofs::Behind::leaves_more))]
 fn push_leaves(shapes: &mut Vec<MoveShape>, processes: u32) -> Result<(), AllocError>
     requires { length shapes.old.items ≤ 4294967295 }
     ensures { IfOk result (λ done. AreBehind shapes.old.items (leaves_of processes) shapes.new.items) }
@@ -62,6 +63,7 @@ fn push_leaves(shapes: &mut Vec<MoveShape>, processes: u32) -> Result<(), AllocE
 }
 
 // Puts the calls of tasks behind other shapes.
+#[tactic(auto, using(crate::proofs::Behind::behind_none, crate::proofs::Behind::calls_more))]
 fn push_calls(shapes: &mut Vec<MoveShape>, tasks: u32) -> Result<(), AllocError>
     requires { length shapes.old.items ≤ 4294967295 }
     ensures { IfOk result (λ done. AreBehind shapes.old.items (calls_of tasks) shapes.new.items) }
@@ -73,6 +75,7 @@ fn push_calls(shapes: &mut Vec<MoveShape>, tasks: u32) -> Result<(), AllocError>
 }
 
 // Puts a shape behind others, while 32 bits number them.
+#[tactic(auto, using(crate::proofs::Behind::behind_pushed, crate::proofs::Behind::behind_full))]
 fn push_shape(shapes: &mut Vec<MoveShape>, shape: MoveShape) -> Result<(), AllocError>
     requires { length shapes.old.items ≤ 4294967295 }
     ensures { IfOk result (λ done. AreBehind shapes.old.items (shape ∷ []) shapes.new.items) }

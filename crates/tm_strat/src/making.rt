@@ -1,6 +1,6 @@
 //! A driver's blocks from the solution of a game.
 ghost use Rattle.std.specs.List.{range_with_len};
-ghost use Rattle.std.specs.Prelude.{◌≡◌, ◌+◌, ◌<◌, ◌≤◌, ◌^◌, ℕ, IfOk, List, length};
+ghost use Rattle.std.specs.Prelude.{◌≡◌, ◌+◌, ◌<◌, ◌≤◌, ◌^◌, ℕ, IfOk, List, None, Some, length};
 ghost use Rattle.tm_check.specs.Reads.{IsSized};
 ghost use Rattle.tm_cir.specs.Answer.{Answers};
 ghost use Rattle.tm_cir.specs.Fit.{FitBlocks};
@@ -16,7 +16,7 @@ ghost use Rattle.tm_solve.specs.Iterates as solution;
 ghost use Rattle.tm_solve.specs.Iterates.{KnowsAll};
 ghost use Rattle.tm_solve_exact.specs.Exact.{IsExactOf, exact_ids};
 ghost use Rattle.tm_strat.specs.Choice.{IsChoice};
-ghost use Rattle.tm_strat.specs.Chosen.{AreChosen};
+ghost use Rattle.tm_strat.specs.Chosen.{AreChosen, AreCounted};
 ghost use Rattle.tm_strat.specs.Fitting.{FitsCounts};
 ghost use Rattle.tm_strat.specs.Goods.{AreGoodMoves, IsGoodFor};
 ghost use Rattle.tm_strat.specs.Meeting.{CanCall};
@@ -124,7 +124,7 @@ fn prepare(
         iterates,
         &chooser.shapes,
         &candidates,
-        goods,
+        &goods,
     )?;
     let widths = widths_of(alloc, game)?;
     Ok(Prepared {
@@ -199,9 +199,10 @@ fn argument_levels(alloc: Global, first: u32) -> Result<Vec<u32>, AllocError>
 fn widths_of(alloc: Global, game: &Game) -> Result<Vec<Vec<u8>>, AllocError>
     ensures { IfOk result (λ rows. AreWidthsOf game.now rows.items) }
 {
+    let rows = game.flat().parameters.as_slice();
     let mut all = Vec::new(alloc);
-    for row in &game.flat().parameters {
-        let widths = Vec::from_slice(alloc, row.as_slice())?;
+    for index in 0..rows.len() {
+        let widths = Vec::from_slice(alloc, rows[index].as_slice())?;
         all.push(widths)?;
     }
     Ok(all)
@@ -216,21 +217,21 @@ fn goal_moves(
     iterates: &Iterates,
     shapes: &[MoveShape],
     candidates: &[Candidate],
-    goods: Vec<GoodMoves>,
+    goods: &[GoodMoves],
 ) -> Result<Vec<GoalMoves>, AllocError>
     requires exact { IsExactOf (design_tree design.now) game.old }
     requires sized { IsSized game.old }
     requires counts { FitsCounts (design_tree design.now) counts }
-    requires goods { AreGoodMoves (design_tree design.now) game.old iterates.now shapes.now goods.items }
+    requires goods { AreGoodMoves (design_tree design.now) game.old iterates.now shapes.now goods.now }
     ensures grows { Carried game.old game.new }
-    ensures count { IfOk result (λ goals. length goals.items ≡ length goods.items) }
+    ensures count { IfOk result (λ goals. length goals.items ≡ length goods.now) }
     ensures made { IfOk result (λ goals. AreMadeFor (design_tree design.now) game.new iterates.now shapes.now
         (candidate_trees (design_tree design.now) counts shapes.now candidates.now) goals.items) }
 {
     let given = read_candidates(alloc, design, game, counts, shapes, candidates)?;
     let mut goals = Vec::new(alloc);
-    for good in goods {
-        let made = goal_move(alloc, game, &given, good)?;
+    for index in 0..goods.len() {
+        let made = goal_move(alloc, game, &given, &goods[index])?;
         goals.push(made)?;
     }
     Ok(goals)
@@ -241,18 +242,19 @@ fn goal_move(
     alloc: Global,
     game: &mut Game,
     given: &[Given],
-    good: GoodMoves,
+    good: &GoodMoves,
 ) -> Result<GoalMoves, AllocError>
     ensures grows { Carried game.old game.new }
     ensures made { IfOk result (λ made. (d : DesignTree) (region : NodeId) (ranks : List RankSet) (goal : ℕ)
         (shapes : List MoveShape) (blocks : List BlockTree) → IsExactOf d game.old
-        → IsGoodFor d game.old region ranks goal shapes good
+        → IsGoodFor d game.old region ranks goal shapes good.now
         → AreGivenFor d game.old shapes blocks given.now (length blocks)
         → IsMadeFor d game.new region ranks goal shapes blocks made) }
 {
     let candidates = candidate_states(alloc, game, given, &good.pairs)?;
+    let pairs = Vec::from_slice(alloc, &good.pairs)?;
     Ok(GoalMoves {
-        pairs: good.pairs,
+        pairs,
         candidates,
         care: good.care,
     })
@@ -342,14 +344,29 @@ fn drafted_blocks(
     ensures good { IfOk result (λ bs. AreChosen choosing.old.game choosing.old.tests.holds.items
         choosing.old.goals.items states bs.items) }
 {
-    let goals = narrow(choosing.goals.len());
-    let counted = choosing.goals.len() == goals as usize
-        && choosing.tests.holds.len() == states as usize;
-    if !counted || goals == 0 || goals > u32::MAX - states {
-        return idle_block(alloc);
+    let counted = counted_goals(choosing, states);
+    match counted {
+        None => idle_block(alloc),
+        Some(goals) => {
+            let blocks = strategies(alloc, choosing, states, goals)?;
+            Ok(blocks)
+        }
     }
-    let blocks = strategies(alloc, choosing, states, goals)?;
-    Ok(blocks)
+}
+
+// How many goals there are, where there is one, so many tests of states are there, and 32 bits number all tests.
+fn counted_goals(choosing: &Choosing, states: u32) -> Option<u32>
+    ensures some { (n : ℕ) → result ≡ Some n → AreCounted states (length choosing.now.tests.holds.items)
+        (length choosing.now.goals.items) × (n ≡ length choosing.now.goals.items) }
+    ensures none { result ≡ None → ¬ AreCounted states (length choosing.now.tests.holds.items)
+        (length choosing.now.goals.items) }
+{
+    let goals = choosing.goals.len();
+    let tests = choosing.tests.holds.len();
+    if goals == 0 || tests != states as usize || goals > (u32::MAX - states) as usize {
+        return None;
+    }
+    Some(goals as u32)
 }
 
 // One block, which idles.
