@@ -20,6 +20,7 @@ mod MeetingZones
 mod Parts
 mod Prepared
 mod Serving
+mod StateWidths
 mod Testing
 mod ZonePairs
 mod ZoneSets
