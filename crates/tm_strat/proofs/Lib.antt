@@ -15,6 +15,7 @@ mod MeetingAnswers
 mod MeetingDriver
 mod MeetingGoals
 mod MeetingMoves
+mod MeetingPrepared
 mod MeetingTurns
 mod MeetingZones
 mod Parts

@@ -1,5 +1,5 @@
 -- Answers that are good moves. Here c are the sets of a certificate in its move form.
-use Rattle.std.specs.Prelude.{◌≡◌, ℕ, ◌<◌, ◌≤◌, ◌^◌, true, List, Some, length, slice_get}
+use Rattle.std.specs.Prelude.{◌≡◌, ℕ, ◌+◌, ◌<◌, ◌≤◌, true, List, Some, length, slice_get}
 use Rattle.tm_check.specs.Replies.{move_of}
 use Rattle.tm_cir.specs.Fit.{parameter_count}
 use Rattle.tm_cir.specs.Meaning.{holds}
@@ -21,10 +21,10 @@ use Rattle.tm_syntax.specs.Design.Cells.{Called}
 use Rattle.tm_syntax.specs.Faults.Limits.{limit_of}
 use Rattle.tm_syntax.specs.declared.fault.Quantity.TheVariants as quantity
 
--- the controllable tasks are numbered in 32 bits, and each has the parameters that it declares, no more than a call can
--- have arguments
+-- the driver's moves but for their arguments are numbered in 32 bits, and each controllable task has the parameters that
+-- it declares, no more than a call can have arguments
 pub record CanCall (d : DesignTree) : Type 0 where
-  pub few : length d.tasks < 2 ^ 32
+  pub few : 1 + length d.processes + length d.tasks ≤ 4294967295
   pub declared : (n : ℕ) (callee : Called) → task_of d n ≡ Some callee →
       parameter_count d n ≡ Some (length callee.params)
   pub fits : (n : ℕ) (callee : Called) → task_of d n ≡ Some callee →

@@ -1,5 +1,5 @@
 //! Arguments that are constants.
-ghost use Rattle.std.specs.Prelude.{◌≡◌, ◌<◌, ◌≤◌, IfOk, min};
+ghost use Rattle.std.specs.Prelude.{◌≡◌, ◌+◌, ◌≤◌, IfOk, min};
 ghost use Rattle.tm_flat.specs.BitRun.{number_at};
 ghost use Rattle.tm_strat.specs.Spelled.{bit_in, constants_from};
 
