@@ -1,11 +1,13 @@
 -- The bits of a number that is made of bits, the most significant first.
-use Rattle.std.proofs.Common.{◌≡◌, inl, inr, ℕ, zero, suc, ◌+◌, ◌-◌, ◌*◌, ◌/◌, ◌%◌, ◌^◌, ◌<◌, ◌≤◌, ◌==◌, Bool, true, false, List, get_or, refl, sym, ap, ◌∙◌, subst, arith}
+use Rattle.std.proofs.Common.{◌≡◌, ◌⊎◌, inl, inr, ℕ, zero, suc, ◌+◌, ◌-◌, ◌*◌, ◌/◌, ◌%◌, ◌^◌, ◌<◌, ◌≤◌, ◌==◌, Bool, true, false, List, get_or, refl, sym, ap, ◌∙◌, subst, arith}
 use Rattle.std.proofs.Math.Nat.{div-div-eq-div-mul, div-one, pow-le-pow_right, pow-suc}
 use Rattle.std.proofs.lemmas.Bool.{cases_lt}
 use Rattle.tm_base.specs.Arithmetic.{bit}
 use Rattle.tm_base.specs.Bits.{bits_of}
 use Rattle.tm_strat.proofs.Parts.{bit_is}
+use Rattle.tm_game.proofs.Reading.{bit_of}
 use Rattle.tm_strat.specs.Constants.{AreBitsFrom, AreFirstBits}
+use mir.Val.{bool_byte}
 
 bit_back : (b : Bool) → (bit b == 1) ≡ b
 bit_back true = refl
@@ -14,6 +16,13 @@ bit_back false = refl
 bit_small : (b : Bool) → bit b < 2
 bit_small true = omega arith
 bit_small false = omega arith
+
+-- a bit as the code has it
+pub byte_is : (b : Bool) (n : ℕ) → n ≡ bool_byte b → n ≡ bit b
+byte_is b n is = is ∙ bit_of b
+
+pub byte_small : (b : Bool) (n : ℕ) → n ≡ bool_byte b → n < 2
+byte_small b n is = let small = bit_small b in let same = byte_is b n is in omega (arith, small, same)
 
 -- one bit more moves all weights
 moved : (bits e : ℕ) (b : Bool) → (bits * 2 + bit b) / 2 ^ suc e ≡ bits / 2 ^ e
@@ -30,7 +39,8 @@ moved bits e b =
 
 -- fewer than 64 bits leave room for one more
 pub bits_below : (n : ℕ) → n < 64 → 2 ^ n ≤ 2 ^ 63
-bits_below n below = let two : 0 < 2 = omega arith in pow-le-pow_right two (omega (arith, below))
+bits_below n below =
+    let two : 0 < 2 = omega arith in let fits : n ≤ 63 = omega (arith, below) in pow-le-pow_right two fits
 
 pub bits_none : (values : List Bool) (first : ℕ) → AreFirstBits values first 0 0
 bits_none values first = record { below = omega arith; each = λ k under. absurd (omega arith) }

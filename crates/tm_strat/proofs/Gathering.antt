@@ -1,5 +1,5 @@
 -- The pairs of all shapes, and the states at which some move is good.
-use Rattle.std.proofs.Common.{◌≡◌, ◌⊎◌, inl, inr, ℕ, ◌+◌, ◌<◌, ◌≤◌, Bool, true, false, ◌||◌, List, [], ◌∷◌, ◌++◌, Option, None, Some, length, nat_lt, refl, sym, ap, ◌∙◌, subst, arith}
+use Rattle.std.proofs.Common.{◌≡◌, ◌⊎◌, inl, inr, ℕ, ◌+◌, ◌-◌, ◌<◌, ◌≤◌, Bool, true, false, ◌||◌, List, [], ◌∷◌, ◌++◌, Option, None, Some, length, nat_lt, refl, sym, ap, ◌∙◌, subst, arith}
 use Rattle.std.proofs.lemmas.Bool.{cases_lt, true≢false}
 use Rattle.std.proofs.lemmas.Bool.Decides.{nat_tests}
 use Rattle.std.proofs.lemmas.List.{get_or_append_left, get_or_at, get_or_past, length_push}
@@ -24,27 +24,23 @@ use Rattle.tm_game_bits.specs.States.{AreOneState, ReadsState}
 use Rattle.tm_game_bits.proofs.Bits.{range_within}
 use Rattle.tm_game_bits.proofs.Extended.{IsSetOf-Extends, Knows-Extends, means-Extends}
 use Rattle.tm_game_bits.proofs.Sets.{some_true, true_first, true_second}
-use Rattle.tm_solve_exact.specs.Exact.{IsExactOf, IsStateSet, valid_set}
-use Rattle.tm_solve_exact.proofs.Growing.{state_same, valid_told}
-use Rattle.tm_solve_exact.proofs.Staying.{iff_same}
-use Rattle.tm_strat.proofs.ZonePairs.{in_set_kept, pairs_read}
-use Rattle.tm_strat.specs.Choice.{HasPair, IsPairs, id_in}
+use Rattle.tm_strat.specs.Choice.{HasPair, id_in}
 use Rattle.tm_strat.specs.Targets.{AreSets}
 use Rattle.tm_strat.specs.Zoned.{AreArgumentLevels, AreShapePairs, AreZonePairs, IsCareOf, IsMoveFrom, IsZonePair}
 use Rattle.tm_syntax.specs.Design.{DesignTree}
 
 -- ---- lists
 -- an id of a list behind which another was put
-id_before : (ids : List NodeId) (id : NodeId) (more : List NodeId) → more ≡ ids ++ id ∷ [] → (k : ℕ) → k < length ids →
+pub id_before : (ids : List NodeId) (id : NodeId) (more : List NodeId) → more ≡ ids ++ id ∷ [] → (k : ℕ) → k < length ids →
     id_in more k ≡ id_in ids k
 id_before ids id more items k below =
     ap (λ (l : List NodeId). id_in l k) items ∙ get_or_append_left ids (id ∷ []) FALSE k below
 
-id_last : (ids : List NodeId) (id : NodeId) (more : List NodeId) → more ≡ ids ++ id ∷ [] → (k : ℕ) → length ids ≡ k →
+pub id_last : (ids : List NodeId) (id : NodeId) (more : List NodeId) → more ≡ ids ++ id ∷ [] → (k : ℕ) → length ids ≡ k →
     id_in more k ≡ id
 id_last ids id more items k same = ap (λ (l : List NodeId). id_in l k) items ∙ get_or_at ids id [] FALSE k same
 
-long_more : (ids : List NodeId) (id : NodeId) (more : List NodeId) → more ≡ ids ++ id ∷ [] →
+pub long_more : (ids : List NodeId) (id : NodeId) (more : List NodeId) → more ≡ ids ++ id ∷ [] →
     length more ≡ length ids + 1
 long_more ids id more items =
     let long = length_push ids id in ap (λ (l : List NodeId). length l) items ∙ omega (arith, long)

@@ -14,13 +14,14 @@ use Rattle.tm_game.specs.Moves.{HasTask, move_at}
 use Rattle.tm_game.specs.declared.moves.MoveShape.{MoveShape}
 use Rattle.tm_game.specs.declared.moves.MoveShape.TheVariants.{Idle}
 use Rattle.tm_game_bits.specs.AssignedStates.{state_of}
+use Rattle.tm_game_bits.specs.Coding.{Coding}
 use Rattle.tm_game_bits.specs.Diagrams.{IsSetOf}
 use Rattle.tm_game_bits.specs.Functions.{Assignment}
 use Rattle.tm_game_bits.specs.States.{AreOneState}
 use Rattle.tm_game_bits.proofs.Extended.{IsSetOf-Extends, Knows-Extends, means-Extends}
 use Rattle.tm_sem.specs.Step.{IsState}
 use Rattle.tm_solve_exact.specs.Exact.{IsExactOf, IsStateSet, coding, valid_set}
-use Rattle.tm_solve_exact.proofs.Growing.{coding_told, state_same, valid_told}
+use Rattle.tm_solve_exact.proofs.Growing.{coding_same, coding_told, valid_told}
 use Rattle.tm_solve_exact.proofs.Staying.{iff_same, valid_reads}
 use Rattle.tm_strat.proofs.Gathering.{set_in}
 use Rattle.tm_strat.proofs.ZonePairs.{in_set_kept, pairs_read}
@@ -71,19 +72,24 @@ module _ (d : DesignTree) (g h : GameData) (grows : Grows g h) (zones targets : 
       })
 
 -- ---- pairs are known, and read a state and arguments
+pub no_pairs : (g : GameData) → IsPairs g FALSE
+no_pairs g = record {
+  known = omega arith;
+  reads = λ v w one. means-FALSE g.diagrams.table v ∙ sym (means-FALSE g.diagrams.table w);
+  valid = λ v held. absurd (true≢false (sym held ∙ means-FALSE g.diagrams.table v));
+}
+
+-- the state that values of levels tell
+pub state_same : (d : DesignTree) (g : GameData) → IsExactOf d g → (v : Assignment) →
+    (coding g).state_of v ≡ state_of d g.order v
+state_same d g is v = ap (λ (c : Coding). c.state_of v) (coding_same d g is)
+
 module _ (d : DesignTree) (g : GameData) (is : IsExactOf d g) (zones targets : List NodeId)
     (shapes : List MoveShape) (pairs : List NodeId)
     (are : AreShapePairs d g zones targets g.diagrams.table shapes pairs (length shapes)) where
   pub one_pairs : (k : ℕ) → k < length shapes →
       AreZonePairs d g zones targets (length targets) g.diagrams.table (slice_index_or shapes k Idle) (id_in pairs k)
   one_pairs k below = are.each k (slice_index_or shapes k Idle) below (slice_get-get_or shapes k Idle below)
-
-  no_pairs : IsPairs g FALSE
-  no_pairs = record {
-    known = omega arith;
-    reads = λ v w one. means-FALSE g.diagrams.table v ∙ sym (means-FALSE g.diagrams.table w);
-    valid = λ v held. absurd (true≢false (sym held ∙ means-FALSE g.diagrams.table v));
-  }
 
   pub are_pairs : (k : ℕ) → IsPairs g (id_in pairs k)
   are_pairs k =
@@ -100,7 +106,7 @@ module _ (d : DesignTree) (g : GameData) (is : IsExactOf d g) (zones targets : L
             }
         | inr past ↦
             let count = are.count_is in
-            subst (IsPairs g) (sym (get_or_past pairs k FALSE (omega (arith, count, past)))) no_pairs
+            subst (IsPairs g) (sym (get_or_past pairs k FALSE (omega (arith, count, past)))) (no_pairs g)
       ]
 
   -- ---- the states at which some move is good

@@ -1,3 +1,4 @@
+mod Behind
 mod Bits
 mod Carrying
 mod Choices
@@ -6,7 +7,9 @@ mod Constants
 mod Distinct
 mod Fitted
 mod Gathering
+mod Giving
 mod Goods
+mod Made
 mod Meeting
 mod MeetingAnswers
 mod MeetingDriver
@@ -17,7 +20,11 @@ mod MeetingPrepared
 mod MeetingTurns
 mod MeetingZones
 mod Parts
+mod Prepared
 mod Serving
+mod StateWidths
+mod Testing
 mod Written
 mod ZonePairs
+mod ZoneSets
 mod Zoning

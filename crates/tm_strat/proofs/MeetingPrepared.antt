@@ -41,9 +41,10 @@ use Rattle.tm_solve.specs.Iterates.{driver_sets, ranked_set, ranked_sets}
 use Rattle.tm_solve.specs.declared.iterates.Iterates.{Iterates}
 use Rattle.tm_solve.specs.declared.iterates.RankSet.{RankSet}
 use Rattle.tm_solve.specs.declared.iterates.Ranking.{Ranking}
-use Rattle.tm_solve_exact.proofs.Growing.{coding_same, coding_told, state_same, states_iff}
+use Rattle.tm_solve_exact.proofs.Growing.{coding_same, coding_told, states_iff}
 use Rattle.tm_solve_exact.proofs.Staying.{iff_same}
 use Rattle.tm_solve_exact.specs.Exact.{IsExactOf, coding, exact_ids, set_of}
+use Rattle.tm_strat.proofs.Goods.{state_same}
 use Rattle.tm_strat.proofs.MeetingGoals.{move_same, test_same}
 use Rattle.tm_strat.proofs.MeetingMoves.{constant_move_is, given_state}
 use Rattle.tm_strat.proofs.MeetingZones.{EndsInZone, good_zone, zone_good}
@@ -126,7 +127,7 @@ module _ (d : DesignTree) (g : GameData) (is : IsExactOf d g) (regular : IsRegul
   abbrev values : StateData → Assignment
   values s = (coding g).assignment_of s
 
-  abbrev blocks : List BlockTree
+  abbrev pub blocks : List BlockTree
   blocks = candidate_trees d sp.counts sp.shapes.items sp.candidates.items
 
   -- a set by the values that a state has

@@ -464,7 +464,7 @@ module _ (d : DesignTree) (g : GameData) (is : IsExactOf d g) (regular : IsRegul
 
           by : (n : ℕ) → rank ranked s ≡ n → EndsInZone s move
           by zero same = absurd (omega (arith, same))
-          by (suc k) same = fairly k same ((rank_at z k).fair (values s)) refl
+          by (suc k) same = fairly k (same ∙ sym (one_more k)) ((rank_at z k).fair (values s)) refl
 
     pub good_zone : EndsInZone s move
     good_zone = by (goal_holds d s j) refl

@@ -1,8 +1,7 @@
 -- The states that a candidate serves, from the pairs of its shape and from its arguments.
 use Rattle.std.proofs.Common.{◌≡◌, ◌⊎◌, inl, inr, ℕ, ◌+◌, ◌<◌, ◌≤◌, Bool, true, false, ◌&&◌, List, length, map, refl, sym, ap, ◌∙◌, subst, arith}
 use Rattle.std.proofs.lemmas.Bool.{true≢false}
-use Rattle.std.proofs.lemmas.List.{get_or-map, length-map}
-use Rattle.std.specs.Prelude.{All, Contains, slice_index_or}
+use Rattle.std.specs.Prelude.{All, Contains}
 use Rattle.tm_check.specs.Replies.{IsMove, move_of, shape_of}
 use Rattle.tm_check.proofs.Growth.{substituted_kept}
 use Rattle.tm_cir.specs.Tree.{BlockTree}
@@ -28,9 +27,10 @@ use Rattle.tm_sem.specs.Step.{IsState}
 use Rattle.tm_sem.specs.declared.state.Move.{Move}
 use Rattle.tm_solve_exact.specs.Exact.{IsExactOf, IsStateSet, valid_set}
 use Rattle.tm_solve_exact.specs.Listed.{and_both}
-use Rattle.tm_solve_exact.proofs.Growing.{kept_exact, order_told, state_same, valid_told}
+use Rattle.tm_solve_exact.proofs.Growing.{kept_exact, order_told, valid_told}
 use Rattle.tm_solve_exact.proofs.Staying.{iff_same}
 use Rattle.tm_strat.proofs.Gathering.{set_in}
+use Rattle.tm_strat.proofs.Goods.{state_same}
 use Rattle.tm_strat.proofs.ZonePairs.{in_set_kept}
 use Rattle.tm_strat.specs.Choice.{id_in}
 use Rattle.tm_strat.specs.Served.{IsGivenMove, IsServed, ServesOne}

@@ -3,13 +3,13 @@
 use Rattle.std.specs.Option.{option_map_or}
 use Rattle.std.specs.Prelude.{◌≡◌, ℕ, suc, List, [], Some, length, slice_get}
 use Rattle.tm_dd.specs.declared.node.NodeId.{NodeId}
-use Rattle.tm_game.specs.Game.{GameData}
+use Rattle.tm_game.specs.Game.{GameData, IsSet}
 use Rattle.tm_game.specs.declared.moves.MoveShape.{MoveShape}
 use Rattle.tm_solve.specs.declared.iterates.Iterates.{Iterates}
 use Rattle.tm_solve.specs.declared.iterates.RankSet.{RankSet}
 use Rattle.tm_solve.specs.declared.iterates.Ranking.{Ranking}
 use Rattle.tm_strat.specs.declared.good.GoodMoves.{GoodMoves}
-use Rattle.tm_strat.specs.Targets.{AreSets}
+use Rattle.tm_strat.specs.Targets.{AreSets, HasSets}
 use Rattle.tm_strat.specs.Zoned.{AreShapePairs, IsCareOf}
 use Rattle.tm_strat.specs.Zones.{AreTargets, AreZones, zoning_of}
 use Rattle.tm_syntax.specs.Design.{DesignTree}
@@ -17,6 +17,9 @@ use Rattle.tm_syntax.specs.Design.{DesignTree}
 -- the zones and targets of a goal, as sets of a game
 pub record AreZonesFor (g : GameData) (region : NodeId) (ranks : List RankSet) (goal : ℕ)
     (zones targets : List NodeId) : Type 0 where
+  pub region_set : IsSet g region
+  pub rank_sets : HasSets g ranks
+  pub turn_set : IsSet g g.turn
   pub zone_sets : AreSets g zones
   pub target_sets : AreSets g targets
   pub zones_are : AreZones g.diagrams.table (zoning_of g region ranks goal) (suc (length ranks)) zones

@@ -1,5 +1,5 @@
 //! What a driver's blocks are chosen from.
-ghost use Rattle.std.specs.Prelude.{◌≡◌, ◌<◌, ◌≤◌, ℕ, false, IfOk, length, slice_get, slice_index_or};
+ghost use Rattle.std.specs.Prelude.{◌≡◌, ◌+◌, ◌<◌, ◌≤◌, ℕ, false, IfOk, length, slice_get, slice_index_or};
 ghost use Rattle.tm_dd.specs.Table.{Knows};
 ghost use Rattle.tm_dd.specs.declared.node.TheConstants.{FALSE as NOTHING};
 ghost use Rattle.tm_solve.specs.Ids.{Is};
@@ -108,17 +108,21 @@ fn bits_from(values: &[bool], first: usize) -> u64
 {
     let mut bits: u64 = 0;
     for index in 0..64 {
-        let here = value_at(values, first.saturating_add(index));
+        let here = value_at(values, first, index);
         bits = bits * 2 + u64::from(here);
     }
     bits
 }
 
-// The value of a level, false where there is none.
-fn value_at(values: &[bool], level: usize) -> bool
-    ensures { result ≡ slice_index_or values.now level false }
+// The value of an index from one on, false where there is none.
+fn value_at(values: &[bool], first: usize, index: usize) -> bool
+    ensures { result ≡ slice_index_or values.now (first + index) false }
 {
-    level < values.len() && values[level]
+    if index < values.len() && first < values.len() - index {
+        values[first + index]
+    } else {
+        false
+    }
 }
 
 // The states at which a move is good with constant arguments.

@@ -1,5 +1,5 @@
 //! Where moves are good for the ranked sets of a solution.
-ghost use Rattle.std.specs.Prelude.{◌≡◌, ◌≤◌, ◌<◌, ◌+◌, ◌∷◌, ◌&&◌, [], ℕ, true, false, not, suc, IfOk, OnOk, length};
+ghost use Rattle.std.specs.Prelude.{◌≡◌, ◌≤◌, ◌<◌, ◌+◌, ◌∷◌, ◌&&◌, [], ℕ, true, false, not, suc, IfOk, OnOk, length, Some, slice_get};
 ghost use Rattle.tm_dd.specs.Table.{Table};
 ghost use Rattle.tm_dd.specs.declared.node.TheConstants.{FALSE as NOTHING};
 ghost use Rattle.tm_ddops.specs.Manager.{IsFunction};
@@ -51,6 +51,7 @@ pub(crate) fn shapes(
 }
 
 // Puts the leaves of processes behind other shapes.
+#[tactic(auto, using(crate::proofs::Behind::behind_none, crate::proofs::Behind::leaves_more))]
 fn push_leaves(shapes: &mut Vec<MoveShape>, processes: u32) -> Result<(), AllocError>
     requires { length shapes.old.items ≤ 4294967295 }
     ensures { IfOk result (λ done. AreBehind shapes.old.items (leaves_of processes) shapes.new.items) }
@@ -62,6 +63,7 @@ fn push_leaves(shapes: &mut Vec<MoveShape>, processes: u32) -> Result<(), AllocE
 }
 
 // Puts the calls of tasks behind other shapes.
+#[tactic(auto, using(crate::proofs::Behind::behind_none, crate::proofs::Behind::calls_more))]
 fn push_calls(shapes: &mut Vec<MoveShape>, tasks: u32) -> Result<(), AllocError>
     requires { length shapes.old.items ≤ 4294967295 }
     ensures { IfOk result (λ done. AreBehind shapes.old.items (calls_of tasks) shapes.new.items) }
@@ -73,6 +75,7 @@ fn push_calls(shapes: &mut Vec<MoveShape>, tasks: u32) -> Result<(), AllocError>
 }
 
 // Puts a shape behind others, while 32 bits number them.
+#[tactic(auto, using(crate::proofs::Behind::behind_pushed, crate::proofs::Behind::behind_full))]
 fn push_shape(shapes: &mut Vec<MoveShape>, shape: MoveShape) -> Result<(), AllocError>
     requires { length shapes.old.items ≤ 4294967295 }
     ensures { IfOk result (λ done. AreBehind shapes.old.items (shape ∷ []) shapes.new.items) }
@@ -159,7 +162,8 @@ fn targets(
     let mut targets = Vec::new(alloc);
     targets.push(region)?;
     let mut within = FALSE;
-    for rank in ranks {
+    for index in 0..ranks.len() {
+        let rank = rank_in(ranks, index);
         within = either(game, within, rank.set)?;
         targets.push(within)?;
     }
@@ -213,8 +217,9 @@ fn waits(
 {
     let mut waits = Vec::new(alloc);
     let mut before = FALSE;
-    for rank in ranks {
-        let states = new_states(game, failing, before, *rank)?;
+    for index in 0..ranks.len() {
+        let rank = rank_in(ranks, index);
+        let states = new_states(game, failing, before, rank)?;
         waits.push(states)?;
         before = either(game, before, rank.set)?;
     }
@@ -254,8 +259,9 @@ fn push_zones(
         → AreZones game.new.diagrams.table z (suc (length waits.now)) zones.new.items) }
 {
     for index in 0..waits.len() {
+        let new = states_in(waits, index);
         let falling = falling_to(waits, index);
-        let states = either(game, waits[index].waiting, falling)?;
+        let states = either(game, new.waiting, falling)?;
         zones.push(states)?;
     }
     Ok(())
@@ -268,10 +274,26 @@ fn falling_to(waits: &[NewStates], index: usize) -> NodeId
         → IsFunction t result (falling z (suc index)) }
 {
     if index + 1 < waits.len() {
-        waits[index + 1].falling
-    } else {
-        FALSE
+        let next = states_in(waits, index + 1);
+        return next.falling;
     }
+    FALSE
+}
+
+// The new states of the rank of a number.
+fn states_in(waits: &[NewStates], index: usize) -> NewStates
+    requires { index < length waits.now }
+    ensures { slice_get waits.now index ≡ Some result }
+{
+    waits[index]
+}
+
+// The ranked set of a number.
+fn rank_in(ranks: &[RankSet], index: usize) -> RankSet
+    requires { index < length ranks.now }
+    ensures { slice_get ranks.now index ≡ Some result }
+{
+    ranks[index]
 }
 
 /// The id of a number in a list, or `FALSE` where there is none.

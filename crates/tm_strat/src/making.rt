@@ -127,7 +127,7 @@ fn prepare(
         iterates,
         &chooser.shapes,
         &candidates,
-        goods,
+        &goods,
     )?;
     let widths = widths_of(alloc, game)?;
     Ok(Prepared {
@@ -202,9 +202,10 @@ fn argument_levels(alloc: Global, first: u32) -> Result<Vec<u32>, AllocError>
 fn widths_of(alloc: Global, game: &Game) -> Result<Vec<Vec<u8>>, AllocError>
     ensures { IfOk result (λ rows. AreWidthsOf game.now rows.items) }
 {
+    let rows = game.flat().parameters.as_slice();
     let mut all = Vec::new(alloc);
-    for row in &game.flat().parameters {
-        let widths = Vec::from_slice(alloc, row.as_slice())?;
+    for index in 0..rows.len() {
+        let widths = Vec::from_slice(alloc, rows[index].as_slice())?;
         all.push(widths)?;
     }
     Ok(all)
@@ -219,21 +220,21 @@ fn goal_moves(
     iterates: &Iterates,
     shapes: &[MoveShape],
     candidates: &[Candidate],
-    goods: Vec<GoodMoves>,
+    goods: &[GoodMoves],
 ) -> Result<Vec<GoalMoves>, AllocError>
     requires exact { IsExactOf (design_tree design.now) game.old }
     requires sized { IsSized game.old }
     requires counts { FitsCounts (design_tree design.now) counts }
-    requires goods { AreGoodMoves (design_tree design.now) game.old iterates.now shapes.now goods.items }
+    requires goods { AreGoodMoves (design_tree design.now) game.old iterates.now shapes.now goods.now }
     ensures grows { Carried game.old game.new }
-    ensures count { IfOk result (λ goals. length goals.items ≡ length goods.items) }
+    ensures count { IfOk result (λ goals. length goals.items ≡ length goods.now) }
     ensures made { IfOk result (λ goals. AreMadeFor (design_tree design.now) game.new iterates.now shapes.now
         (candidate_trees (design_tree design.now) counts shapes.now candidates.now) goals.items) }
 {
     let given = read_candidates(alloc, design, game, counts, shapes, candidates)?;
     let mut goals = Vec::new(alloc);
-    for good in goods {
-        let made = goal_move(alloc, game, &given, good)?;
+    for index in 0..goods.len() {
+        let made = goal_move(alloc, game, &given, &goods[index])?;
         goals.push(made)?;
     }
     Ok(goals)
@@ -244,18 +245,19 @@ fn goal_move(
     alloc: Global,
     game: &mut Game,
     given: &[Given],
-    good: GoodMoves,
+    good: &GoodMoves,
 ) -> Result<GoalMoves, AllocError>
     ensures grows { Carried game.old game.new }
     ensures made { IfOk result (λ made. (d : DesignTree) (region : NodeId) (ranks : List RankSet) (goal : ℕ)
         (shapes : List MoveShape) (blocks : List BlockTree) → IsExactOf d game.old
-        → IsGoodFor d game.old region ranks goal shapes good
+        → IsGoodFor d game.old region ranks goal shapes good.now
         → AreGivenFor d game.old shapes blocks given.now (length blocks)
         → IsMadeFor d game.new region ranks goal shapes blocks made) }
 {
     let candidates = candidate_states(alloc, game, given, &good.pairs)?;
+    let pairs = Vec::from_slice(alloc, &good.pairs)?;
     Ok(GoalMoves {
-        pairs: good.pairs,
+        pairs,
         candidates,
         care: good.care,
     })

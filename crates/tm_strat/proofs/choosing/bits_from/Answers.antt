@@ -1,9 +1,17 @@
+use Rattle.std.proofs.Common.{◌≡◌, ℕ, ◌+◌, ◌*◌, ◌^◌, ◌<◌, ◌≤◌, ap, ◌∙◌, arith}
+use Rattle.tm_strat.proofs.Bits.{bits_all, bits_below, bits_more, bits_none, byte_is, byte_small}
+use Rattle.tm_strat.proofs.choosing.bits_from.Goals as goal
 use Rattle.tm_strat.proofs.Goods.{care_kept}
 use Rattle.tm_strat.proofs.Gathering.{care_more}
 use Rattle.tm_strat.proofs.ZonePairs.{pairs_read}
-use Rattle.std.proofs.Common.{◌≡◌, ℕ, ◌^◌, ◌<◌, ◌≤◌, arith}
-use Rattle.tm_strat.proofs.Bits.{bits_all, bits_below, bits_more, bits_none}
-use Rattle.tm_strat.proofs.choosing.bits_from.Goals as goal
+use Rattle.tm_strat.proofs.Serving.{served}
+use Rattle.tm_strat.proofs.Distinct.{told}
+use Rattle.tm_strat.proofs.Testing.{number_bits}
+use Rattle.tm_strat.proofs.ZoneSets.{zoned_kept}
+use Rattle.tm_strat.proofs.Prepared.{choice_made}
+use Rattle.tm_strat.proofs.StateWidths.{wide_states}
+use Rattle.tm_strat.proofs.Giving.{given_among}
+use Rattle.tm_strat.proofs.Made.{serves_one}
 
 pub loop-index-init : goal.loop-index-init
 loop-index-init c = bits_none c.args.values.now c.args.first
@@ -15,10 +23,17 @@ overflow_mul-bits c =
     omega (arith, room, below)
 
 pub overflow_add-bits : goal.overflow_add-bits
-overflow_add-bits c = ?
+overflow_add-bits c =
+    let room = bits_below c.loop-index.index c.loop-index-test.true in
+    let below = c.loop-index.invariant.below in
+    let small = byte_small c.value_at-here.result c.from.result c.from.ensures in
+    omega (arith, room, below, small)
 
 pub loop-index-preserved : goal.loop-index-preserved
-loop-index-preserved c = ?
+loop-index-preserved c =
+    bits_more c.args.values.now c.args.first c.loop-index.index c.loop-index.bits _ c.value_at-here.result
+    c.loop-index.invariant c.value_at-here.ensures
+    (ap (λ (n : ℕ). c.loop-index.bits * 2 + n) (byte_is c.value_at-here.result c.from.result c.from.ensures))
 
 pub returns : goal.returns
 returns c =

@@ -1,5 +1,5 @@
 use Rattle.std.proofs.Common.{◌≡◌, ℕ, suc, ◌+◌, Some, length, slice_get, sym, ap, ◌∙◌, subst, arith}
-use Rattle.std.proofs.lemmas.Option.{slice_get-get_or}
+
 use Rattle.tm_strat.specs.declared.good.NewStates.{NewStates}
 use Rattle.tm_strat.proofs.Zoning.{zones_step}
 use Rattle.tm_strat.specs.Zones.{AreZones}
@@ -13,9 +13,8 @@ loop-index-preserved c =
     let i = c.loop-index.index in
     let next : i + 1 ≡ suc i = omega arith in
     let begun = c.loop-index.invariant.grows in
-    let w = c.index-waits-index.result in
-    let there : slice_get c.args.waits.now i ≡ Some w =
-    slice_get-get_or c.args.waits.now i w (omega arith) ∙ ap (λ (x : NewStates). Some x) (sym c.index-waits-index.is) in
+    let w = c.states_in-new.result in
+    let there = c.states_in-new.ensures in
     record {
       grows = λ base b. c.either.ensures.grows base (begun base b);
       are = λ z zoned waits.
