@@ -244,19 +244,3 @@ nums_more vars processes nums more num all fits items =
     (subst (All (FitsNum vars processes)) (sym (map_more nums num))
     (All-append (FitsNum vars processes) (map num_tree nums) (num_tree num ∷ []) all
     (one_fits vars processes (num_tree num) fits)))
-
--- the same expressions with one more
-pub trees_more : (c : Counts) (es : List Expression) (k : ℕ) (e : Expression) (nums more : List Num64) (num : Num64) →
-    map num_tree nums ≡ map (expression_tree c) (take k es) → num_tree num ≡ expression_tree c e → k < length es →
-    e ≡ get_or es k e → more ≡ nums ++ num ∷ [] → map num_tree more ≡ map (expression_tree c) (take (k + 1) es)
-trees_more c es k e nums more num before here below is items =
-    ap (map num_tree) items
-    ∙ map-append num_tree nums (num ∷ [])
-    ∙ (λ i. before i ++ here i ∷ [])
-    ∙ sym (map-append (expression_tree c) (take k es) (e ∷ []))
-    ∙ ap (λ (x : Expression). map (expression_tree c) (take k es ++ x ∷ [])) is
-    ∙ ap (map (expression_tree c)) (sym (take_more es k e below))
-
-pub all_taken : (c : Counts) (es : List Expression) (k : ℕ) → k ≡ length es →
-    map (expression_tree c) (take k es) ≡ map (expression_tree c) es
-all_taken c es k is = ap (λ (n : ℕ). map (expression_tree c) (take n es)) is ∙ ap (map (expression_tree c)) (take_all es)

@@ -2,46 +2,72 @@
 use Rattle.std.proofs.Common.{◌≡◌, ℕ, zero, suc, ◌+◌, ◌*◌, ◌<◌, ◌≤◌, ◌/◌, ◌%◌, ◌^◌, ◌-◌, ◌==◌, Bool, true, false, List, [], ◌∷◌, ◌++◌, Option, None, Some, length, map, get_or, slice_get, take, drop, append_assoc, drop-cons, refl, sym, ap, ◌∙◌, subst, arith}
 use Rattle.std.proofs.lemmas.List.{map_more, map_push, get_or_past}
 use Rattle.std.proofs.lemmas.List.FromFn.{length-map-range_with_len, map-range_with_len_more}
+use Rattle.std.proofs.lemmas.Option.{get_or_from_slice_get, slice_get_within}
 use Rattle.std.specs.List.{range_with_len}
 use Rattle.std.specs.Prelude.{min}
 use Rattle.tm_base.proofs.BitLists.{number_of-append}
 use Rattle.tm_base.specs.Arithmetic.{bit}
 use Rattle.tm_base.specs.Bits.{bits_of, number_of}
 use Rattle.tm_cir.specs.declared.block.Block.{Block}
-use Rattle.tm_cir.specs.Tree.{BlockTree}
-use Rattle.tm_cir.specs.View.{block_tree, block_trees}
+use Rattle.tm_cir.specs.declared.block.Num64.{Num64}
+use Rattle.tm_cir.specs.View.{block_tree, block_trees, num_tree}
 use Rattle.tm_flat.specs.BitRun.{number_at}
 use Rattle.tm_game_bits.proofs.Numbers.{number_below}
 use Rattle.tm_strat.proofs.Constants.{bits_length}
 use Rattle.tm_strat.proofs.Parts.{bit_is}
 use Rattle.tm_strat.specs.Spelled.{bit_in, constants_from, draft_tree}
+use Rattle.tm_strat.specs.Trees.{expression_tree}
 use Rattle.tm_strat.specs.declared.expressions.Expression.{Expression}
 use Rattle.tm_strat.specs.declared.expressions.Expression.TheVariants as expressions
+use Rattle.tm_strat.specs.declared.numbers.Counts.{Counts}
 use Rattle.tm_strat.specs.declared.spelling.Spelling.{Spelling}
 use Rattle.tm_strat_drafts.specs.declared.drafts.DraftBlock.{DraftBlock}
 use Rattle.tm_syntax.specs.Design.{DesignTree}
 
+-- ---- lists
+-- one item more of a list that is seen through a function
+pub taken_more : {A B : Type 0} (f : A → B) (xs : List A) (i : ℕ) (x : A) → slice_get xs i ≡ Some x →
+    map f (take (i + 1) xs) ≡ map f (take i xs) ++ f x ∷ []
+taken_more f xs i x at =
+    map_more f xs i x (slice_get_within xs i x at)
+    ∙ ap (λ y. map f (take i xs) ++ f y ∷ []) (get_or_from_slice_get xs i x x at)
+
+pub all_taken : {A : Type 0} (xs : List A) (k : ℕ) → length xs ≤ k → take k xs ≡ xs
+all_taken [] zero above = refl
+all_taken [] (suc k) above = refl
+all_taken (x ∷ xs) zero above = absurd (omega arith)
+all_taken (x ∷ xs) (suc k) above = ap (λ ys. x ∷ ys) (all_taken xs k (omega (arith, above)))
+
 -- ---- blocks
 pub drafts_more : (d : DesignTree) (sp : Spelling) (drafted : List DraftBlock) (i : ℕ) (x : DraftBlock)
-    (bs cs : List Block) (b : Block) → i < length drafted → x ≡ get_or drafted i x →
+    (bs cs : List Block) (b : Block) → slice_get drafted i ≡ Some x →
     block_trees bs ≡ map (draft_tree d sp) (take i drafted) → block_tree b ≡ draft_tree d sp x →
     cs ≡ bs ++ b ∷ [] → block_trees cs ≡ map (draft_tree d sp) (take (i + 1) drafted)
-drafts_more d sp drafted i x bs cs b below is so_far same items =
+drafts_more d sp drafted i x bs cs b at so_far same items =
     ap block_trees items
     ∙ map_push block_tree bs b
-    ∙ (λ k. so_far k ++ (same ∙ ap (draft_tree d sp) is) k ∷ [])
-    ∙ sym (map_more (draft_tree d sp) drafted i x below)
+    ∙ (λ k. so_far k ++ same k ∷ [])
+    ∙ sym (taken_more (draft_tree d sp) drafted i x at)
 
 pub all_drafts : (d : DesignTree) (sp : Spelling) (drafted : List DraftBlock) (n : ℕ) (bs : List Block) →
     length drafted ≤ n → block_trees bs ≡ map (draft_tree d sp) (take n drafted) →
     block_trees bs ≡ map (draft_tree d sp) drafted
-all_drafts d sp drafted n bs all so_far = so_far ∙ ap (map (draft_tree d sp)) (whole drafted n all)
-  where
-    whole : {A : Type 0} (xs : List A) (k : ℕ) → length xs ≤ k → take k xs ≡ xs
-    whole [] zero above = refl
-    whole [] (suc k) above = refl
-    whole (x ∷ xs) zero above = absurd (omega arith)
-    whole (x ∷ xs) (suc k) above = ap (λ ys. x ∷ ys) (whole xs k (omega (arith, above)))
+all_drafts d sp drafted n bs all so_far = so_far ∙ ap (map (draft_tree d sp)) (all_taken drafted n all)
+
+-- ---- arguments
+pub arguments_more : (c : Counts) (given : List Expression) (i : ℕ) (x : Expression) (nums more : List Num64)
+    (n : Num64) → slice_get given i ≡ Some x → map num_tree nums ≡ map (expression_tree c) (take i given) →
+    num_tree n ≡ expression_tree c x → more ≡ nums ++ n ∷ [] →
+    map num_tree more ≡ map (expression_tree c) (take (i + 1) given)
+arguments_more c given i x nums more n at so_far same items =
+    ap (map num_tree) items
+    ∙ map_push num_tree nums n
+    ∙ (λ k. so_far k ++ same k ∷ [])
+    ∙ sym (taken_more (expression_tree c) given i x at)
+
+pub all_arguments : (c : Counts) (given : List Expression) (n : ℕ) (nums : List Num64) → length given ≤ n →
+    map num_tree nums ≡ map (expression_tree c) (take n given) → map num_tree nums ≡ map (expression_tree c) given
+all_arguments c given n nums all so_far = so_far ∙ ap (map (expression_tree c)) (all_taken given n all)
 
 -- ---- constants
 -- one bit more of a number

@@ -57,5 +57,5 @@ fn bit_at(bits: u64, place: u8) -> bool
     if place >= 64 {
         return false;
     }
-    (bits >> (63 - place)) & 1 == 1
+    (bits >> (63 - place)) % 2 == 1
 }

@@ -1,5 +1,5 @@
 //! Moves that blocks may make.
-ghost use Rattle.std.specs.Prelude.{◌≡◌, ◌≤◌, ℕ, true, All, IfOk, Some, if◌then◌else◌, length, map, nat_lt};
+ghost use Rattle.std.specs.Prelude.{◌≡◌, ◌≤◌, ℕ, true, All, IfOk, Some, if◌then◌else◌, length, map, nat_lt, ◌<◌, slice_get};
 ghost use Rattle.tm_cir.specs.Fit.{FitsBlock, FitsNum, parameter_count};
 ghost use Rattle.tm_cir.specs.Tree.{call, idle, leave};
 ghost use Rattle.tm_cir.specs.View.{block_tree, num_tree};
@@ -100,7 +100,6 @@ fn are_enough(design: &Design, task: u32, count: usize) -> bool
 }
 
 // Arguments as expressions of C.
-#[tactic(auto, using(crate::proofs::Fitted::nums_more))]
 fn nums_of(
     alloc: Global,
     counts: Counts,
@@ -110,9 +109,18 @@ fn nums_of(
     ensures trees { IfOk result (λ nums. map num_tree nums.items ≡ map (expression_tree counts) arguments.now) }
 {
     let mut nums = Vec::new(alloc);
-    for argument in arguments {
+    for index in 0..arguments.len() {
+        let argument = argument_in(arguments, index);
         let num = argument.num(alloc, counts)?;
         nums.push(num)?;
     }
     Ok(nums)
+}
+
+// The argument of a number.
+fn argument_in(arguments: &[Expression], index: usize) -> Expression
+    requires { index < length arguments.now }
+    ensures { slice_get arguments.now index ≡ Some result }
+{
+    arguments[index]
 }

@@ -1,6 +1,6 @@
 //! Drafted blocks as blocks of C.
 ghost use Rattle.std.specs.Option.{option_map_or};
-ghost use Rattle.std.specs.Prelude.{◌≡◌, ℕ, IfOk, length, map, slice_get};
+ghost use Rattle.std.specs.Prelude.{◌≡◌, ◌<◌, ℕ, IfOk, Some, length, map, slice_get};
 ghost use Rattle.tm_cir.specs.Fit.{FitBlocks, FitsBlock, FitsTruth};
 ghost use Rattle.tm_cir.specs.Tree.{idle};
 ghost use Rattle.tm_cir.specs.View.{block_tree, block_trees, trees_of, truth_tree};
@@ -31,7 +31,6 @@ pub(crate) struct Spelling {
 }
 
 /// The blocks of C, one for each drafted one.
-#[tactic(auto, using(crate::proofs::Fitted::none_spelled, crate::proofs::Fitted::spelled_more))]
 pub(crate) fn spelled(
     alloc: Global,
     design: &Design,
@@ -45,11 +44,20 @@ pub(crate) fn spelled(
         ≡ map (draft_tree (design_tree design.now) spelling.now) drafted.now) }
 {
     let mut blocks = Vec::new(alloc);
-    for block in drafted {
-        let spelled = spelled_block(alloc, design, spelling, *block)?;
+    for index in 0..drafted.len() {
+        let block = block_in(drafted, index);
+        let spelled = spelled_block(alloc, design, spelling, block)?;
         blocks.push(spelled)?;
     }
     Ok(blocks)
+}
+
+// The drafted block of a number.
+fn block_in(drafted: &[DraftBlock], index: usize) -> DraftBlock
+    requires { index < length drafted.now }
+    ensures { slice_get drafted.now index ≡ Some result }
+{
+    drafted[index]
 }
 
 // A block of C.

@@ -1,6 +1,8 @@
 use Rattle.std.proofs.Common.{◌≡◌, ℕ, ◌+◌, ◌*◌, ◌<◌, ◌^◌, sym, ap, ◌∙◌, subst, arith}
+use Rattle.tm_flat.specs.BitRun.{number_at}
 use Rattle.tm_strat.proofs.Bits.{bits_below, byte_is, byte_small}
 use Rattle.tm_strat.proofs.Written.{number_more, number_small}
+use Rattle.tm_strat.specs.Spelled.{bit_in}
 use Rattle.tm_strat.proofs.arguments.constant.Goals as goal
 
 pub overflow_mul-number : goal.overflow_mul-number
@@ -25,4 +27,8 @@ loop-index-preserved c =
     (ap (λ (n : ℕ). c.loop-index.number * 2 + n) (byte_is c.bit_at-here.result c.from.result c.from.ensures))
 
 pub returns : goal.returns
-returns c = ?
+returns c =
+    let ends = c.loop-index.auto.index-end in
+    let last = c.loop-index-test.false in
+    let all : c.loop-index.index ≡ c.args.width = omega (arith, ends, last) in
+    c.loop-index.invariant ∙ ap (λ (n : ℕ). number_at (bit_in c.args.bits) c.args.first n) all
