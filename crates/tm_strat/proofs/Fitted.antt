@@ -1,8 +1,8 @@
 -- Spelled blocks fit a design.
-use Rattle.std.proofs.Common.{◌≡◌, ◌⊎◌, inl, inr, true, false, ℕ, zero, suc, ◌+◌, ◌<◌, List, [], ◌∷◌, ◌++◌, Option, None, Some, length, map, get_or, slice_get, take, refl, sym, ap, ◌∙◌, subst, arith}
+use Rattle.std.proofs.Common.{◌≡◌, ◌⊎◌, inl, inr, true, false, ℕ, zero, suc, ◌+◌, ◌<◌, List, [], ◌∷◌, ◌++◌, Option, None, Some, length, map, slice_get, refl, sym, ap, ◌∙◌, subst, arith}
 use Rattle.tm_check.proofs.Pushed.{pushed_at}
 use Rattle.std.specs.Prelude.{◌↔◌, ◌≤◌, All, IfSome, IsSome}
-use Rattle.std.proofs.lemmas.List.{length_push, map-append, take_all, take_more}
+use Rattle.std.proofs.lemmas.List.{length_push}
 use Rattle.std.proofs.lemmas.List.Elements.{All-append}
 use Rattle.std.proofs.lemmas.Option.{slice_get_within}
 use Rattle.tm_cir.specs.declared.block.Block.{Block}
@@ -19,8 +19,6 @@ use Rattle.tm_strat_drafts.specs.Blocks.{AreLater, FitsLater}
 use Rattle.tm_strat_drafts.specs.declared.drafts.MoveChoice.{MoveChoice}
 use Rattle.tm_strat_drafts.specs.declared.drafts.DraftBlock.{DraftBlock}
 use Rattle.tm_strat_drafts.specs.declared.drafts.DraftBlock.TheVariants as drafts
-use Rattle.tm_strat.specs.Trees.{expression_tree}
-use Rattle.tm_strat.specs.declared.expressions.Expression.{Expression}
 use Rattle.tm_syntax.specs.Faults.Limits.{limit_of}
 use Rattle.tm_syntax.specs.declared.fault.Quantity.TheVariants as quantity
 use Rattle.tm_syntax.specs.Design.{DesignTree}

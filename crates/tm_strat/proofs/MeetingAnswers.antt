@@ -1,8 +1,8 @@
 -- Drafted blocks that lead to a move answer it in C.
-use Rattle.std.proofs.Common.{◌≡◌, ℕ, ◌+◌, ◌-◌, ◌<◌, ◌&&◌, Bool, true, false, List, [], ◌∷◌, Option, None, Some, length, map, slice_get, cond, refl, sym, ap, ◌∙◌, subst, arith}
+use Rattle.std.proofs.Common.{◌≡◌, ℕ, Bool, true, false, List, None, Some, length, map, slice_get, sym, ap, ◌∙◌}
 use Rattle.std.proofs.lemmas.Option.{slice_get-map}
 use Rattle.std.specs.Option.{option_map, option_map_or}
-use Rattle.std.specs.Prelude.{if◌then◌else◌, nat_le, nat_lt}
+use Rattle.std.specs.Prelude.{if◌then◌else◌, nat_lt}
 use Rattle.tm_check.specs.Replies.{move_of}
 use Rattle.tm_cir.specs.Answer.{AnswersFrom, calls, goes_first, goes_second, idles, leaves}
 use Rattle.tm_cir.specs.Meaning.{holds}

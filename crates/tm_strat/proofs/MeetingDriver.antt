@@ -1,8 +1,7 @@
 -- Blocks that are chosen from what serves a certificate answer good moves.
-use Rattle.std.proofs.Common.{◌≡◌, ◌⊎◌, inl, inr, ℕ, zero, suc, ◌+◌, ◌-◌, ◌<◌, ◌≤◌, ◌==◌, Bool, true, false, List, [], ◌∷◌, Option, None, Some, length, map, slice_get, nat_lt, refl, sym, ap, ◌∙◌, subst, arith}
+use Rattle.std.proofs.Common.{◌≡◌, inl, inr, ℕ, zero, suc, ◌+◌, ◌-◌, ◌<◌, ◌≤◌, ◌==◌, Bool, true, false, List, [], ◌∷◌, Option, None, length, map, slice_get, nat_lt, refl, sym, ap, ◌∙◌, subst, arith}
 use Rattle.std.proofs.lemmas.Bool.{cases_lt, eqb-true}
 use Rattle.std.proofs.lemmas.Bool.Decides.{nat_tests}
-use Rattle.std.proofs.lemmas.Option.{slice_get_within}
 use Rattle.std.specs.Option.{option_map_or}
 use Rattle.std.specs.Prelude.{if◌then◌else◌}
 use Rattle.tm_base.specs.Arithmetic as bits
@@ -18,15 +17,14 @@ use Rattle.tm_sem.specs.Certificates.{DriverSets, IsGoodMove, IsIn, MeetsDriver,
 use Rattle.tm_sem.specs.State.{StateData}
 use Rattle.tm_sem.specs.Step.{IsState, is_driver_turn}
 use Rattle.tm_sem.specs.declared.state.Move.{Move}
-use Rattle.tm_solve.specs.Sets.{IsAmong}
 use Rattle.tm_solve_exact.proofs.Growing.{coding_told, valid_told}
 use Rattle.tm_solve_exact.proofs.Staying.{iff_same, valid_among}
-use Rattle.tm_solve_exact.specs.Exact.{coding, exact_game, set_of, valid_set}
+use Rattle.tm_solve_exact.specs.Exact.{coding, set_of, valid_set}
 use Rattle.tm_strat.proofs.Meeting.{answered}
 use Rattle.tm_strat.proofs.MeetingAnswers.{answers}
 use Rattle.tm_strat.proofs.MeetingTurns.{steps_at_turn}
 use Rattle.tm_strat.specs.Choice.{care_in, choice, id_in}
-use Rattle.tm_strat.specs.Meeting.{AnswerWell, Serves}
+use Rattle.tm_strat.specs.Meeting.{Serves}
 use Rattle.tm_strat.specs.Spelled.{choice_tree, draft_tree, test_tree}
 use Rattle.tm_strat.specs.Trees.{predicate_tree}
 use Rattle.tm_strat.specs.declared.choosing.GoalMoves.{GoalMoves}

@@ -1,6 +1,5 @@
 -- Tests of states and moves do not ask which goal is pending.
-use Rattle.std.proofs.Common.{◌≡◌, ℕ, ◌^◌, ◌-◌, ◌==◌, ◌||◌, Bool, true, false, List, [], ◌∷◌, Option, None, Some, length, map, slice_get, refl, sym, ap, ◌∙◌}
-use Rattle.std.specs.Option.{option_map_or}
+use Rattle.std.proofs.Common.{◌≡◌, ℕ, ◌^◌, ◌-◌, ◌==◌, ◌||◌, Bool, true, false, List, [], ◌∷◌, length, map, refl, ap}
 use Rattle.std.specs.Prelude.{if◌then◌else◌, nat_le, nat_lt}
 use Rattle.tm_base.specs.Arithmetic as bits
 use Rattle.tm_base.specs.Shift.{shift as shifted}
@@ -13,7 +12,6 @@ use Rattle.tm_cir.specs.declared.block.NumOperator.TheVariants as operators
 use Rattle.tm_game.specs.declared.moves.MoveShape.{MoveShape}
 use Rattle.tm_game.specs.declared.moves.MoveShape.TheVariants as shapes
 use Rattle.tm_sem.specs.State.{StateData}
-use Rattle.tm_sem.specs.declared.state.Move.{Move}
 use Rattle.tm_sem.specs.declared.state.Move.TheVariants as moves
 use Rattle.tm_strat.specs.Trees.{expression_tree, lowered_tree, masked_tree, move_tree, number_tree, predicate_tree, takes, within_tree}
 use Rattle.tm_strat.specs.declared.expressions.Expression.{Expression}

@@ -1,21 +1,20 @@
 -- The sets of a solution stay while a game grows, so blocks that were made once it had grown meet them.
-use Rattle.std.proofs.Common.{◌≡◌, ℕ, true, List, [], ◌∷◌, length, map, refl, sym, ap, ◌∙◌, subst}
+use Rattle.std.proofs.Common.{◌≡◌, true, List, [], ◌∷◌, length, map, refl, sym, ◌∙◌, subst}
 use Rattle.std.specs.List.{range_with_len}
 use Rattle.std.proofs.lemmas.List.FromFn.{length-range_with_len}
 use Rattle.std.proofs.lemmas.Slice.Zip.{AllZip-long}
 use Rattle.tm_dd.specs.declared.node.NodeId.{NodeId}
 use Rattle.tm_flat.specs.Steps.{IsTaskStep}
 use Rattle.tm_game.proofs.Growing.{states_kept}
-use Rattle.tm_game.specs.Game.{GameData, Grows, IsOf, IsStates}
-use Rattle.tm_sem.specs.Certificates.{DriverSets, MeetsMoveForm, RankedSet}
-use Rattle.tm_sem.specs.State.{StateData}
+use Rattle.tm_game.specs.Game.{GameData, Grows, IsStates}
+use Rattle.tm_sem.specs.Certificates.{DriverSets, MeetsMoveForm}
 use Rattle.tm_sem.specs.Step.{is_driver_turn}
 use Rattle.tm_solve.specs.Iterates.{Each, KnowsAll, KnowsRanks, driver_sets, ranked_set, ranked_sets}
 use Rattle.tm_solve.specs.declared.iterates.Iterates.{Iterates}
 use Rattle.tm_solve.specs.declared.iterates.RankSet.{RankSet}
 use Rattle.tm_solve.specs.declared.iterates.Ranking.{Ranking}
 use Rattle.tm_solve_exact.proofs.Growing.{kept_exact}
-use Rattle.tm_solve_exact.specs.Exact.{HasDesign, IsExactOf, IsStateSet, exact_ids, set_of}
+use Rattle.tm_solve_exact.specs.Exact.{HasDesign, IsExactOf, exact_ids}
 use Rattle.tm_strat.proofs.Carrying.{grown}
 use Rattle.tm_strat.proofs.Choices.{means_kept}
 use Rattle.tm_strat.proofs.MeetingPrepared.{serves}

@@ -1,5 +1,5 @@
 -- A call with constant arguments is the move that the values of levels with these bits tell.
-use Rattle.std.proofs.Common.{◌≡◌, ◌≢◌, inl, inr, ℕ, zero, suc, ◌+◌, ◌-◌, ◌<◌, ◌≤◌, ◌==◌, ◌&&◌, Bool, true, false, List, [], ◌∷◌, Option, None, Some, length, map, nat_lt, get_or, slice_get, refl, sym, ap, ◌∙◌, subst, arith}
+use Rattle.std.proofs.Common.{◌≡◌, ℕ, zero, suc, ◌+◌, ◌-◌, ◌<◌, ◌≤◌, ◌==◌, ◌&&◌, Bool, true, false, List, [], ◌∷◌, Option, Some, length, map, nat_lt, get_or, refl, sym, ap, ◌∙◌, subst, arith}
 use Rattle.std.proofs.lemmas.Bool.Decides.{nat_tests}
 use Rattle.std.proofs.lemmas.List.{get_or_default, length-map}
 use Rattle.std.proofs.lemmas.List.FromFn.{get_or-map-range_with_len, length-range_with_len}
@@ -10,9 +10,8 @@ use Rattle.std.specs.Prelude.{if◌then◌else◌, min, nat_le}
 use Rattle.tm_base.specs.Arithmetic.{bit}
 use Rattle.tm_base.specs.Bits.{bits_of, number_of}
 use Rattle.tm_check.specs.Replies.{move_of}
-use Rattle.tm_cir.specs.Fit.{parameter_count}
 use Rattle.tm_cir.specs.Meaning.{num_value}
-use Rattle.tm_cir.specs.Tree.{BlockTree, call, idle, leave}
+use Rattle.tm_cir.specs.Tree.{call, idle, leave}
 use Rattle.tm_flat.proofs.Indices.{zipped_at}
 use Rattle.tm_flat.specs.BitRun.{number_at}
 use Rattle.tm_flat.specs.Fitting.{ArgumentsFit}
@@ -32,7 +31,6 @@ use Rattle.tm_game_bits.specs.Inputs.{arguments_at}
 use Rattle.tm_sem.specs.Run.{asked_by}
 use Rattle.tm_sem.specs.State.{StateData}
 use Rattle.tm_sem.specs.Step.{IsAllowed, IsState, task_of}
-use Rattle.tm_sem.specs.declared.state.Move.{Move}
 use Rattle.tm_sem.specs.declared.state.Move.TheVariants as moves
 use Rattle.tm_solve_exact.proofs.Growing.{coding_told}
 use Rattle.tm_solve_exact.specs.Exact.{IsExactOf, coding}
@@ -42,7 +40,6 @@ use Rattle.tm_strat.specs.Choice.{with_bits}
 use Rattle.tm_strat.specs.Meeting.{CanCall}
 use Rattle.tm_strat.specs.Spelled.{bit_in, constants_from, widths_in, widths_of}
 use Rattle.tm_strat.specs.Trees.{expression_tree, move_tree, takes}
-use Rattle.tm_strat.specs.declared.expressions.Expression.{Expression}
 use Rattle.tm_strat.specs.declared.numbers.Counts.{Counts}
 use Rattle.tm_strat.specs.declared.spelling.Spelling.{Spelling}
 use Rattle.tm_syntax.specs.Design.{DesignTree}

@@ -1,6 +1,6 @@
 -- What was prepared serves the sets of a solution where these have good moves at all.
-use Rattle.std.proofs.Common.{◌≡◌, ◌≢◌, ◌⊎◌, inl, inr, ℕ, zero, suc, ◌+◌, ◌-◌, ◌<◌, ◌≤◌, ◌==◌, ◌++◌, Bool, true, false, List, [], ◌∷◌, Option, None, Some, length, map, nat_lt, get_or, slice_get, refl, sym, ap, ◌∙◌, subst, arith, length-append}
-use Rattle.std.proofs.lemmas.Bool.{cases_lt, true≢false}
+use Rattle.std.proofs.Common.{◌≡◌, ◌≢◌, ◌⊎◌, inl, inr, ℕ, zero, suc, ◌+◌, ◌-◌, ◌<◌, ◌≤◌, ◌++◌, Bool, true, false, List, [], ◌∷◌, Option, None, Some, length, map, nat_lt, slice_get, refl, sym, ap, ◌∙◌, subst, arith}
+use Rattle.std.proofs.lemmas.Bool.{true≢false}
 use Rattle.std.proofs.lemmas.Bool.Decides.{nat_tests}
 use Rattle.std.proofs.lemmas.List.{get_or_past, length-map}
 use Rattle.std.proofs.lemmas.List.FromFn.{get_or-range_with_len, length-range_with_len}
@@ -19,27 +19,25 @@ use Rattle.tm_dd.specs.declared.node.TheConstants.{FALSE}
 use Rattle.tm_ddops.specs.Manager.{IsFunction}
 use Rattle.tm_game.proofs.Calling.{call_given, callable}
 use Rattle.tm_game.specs.Game.{GameData, IsStates, in_set}
-use Rattle.tm_game.specs.Inner.Called.{IsCallable}
 use Rattle.tm_game.specs.Moves as game
 use Rattle.tm_game.specs.declared.moves.MoveShape.{MoveShape}
 use Rattle.tm_game.specs.declared.moves.MoveShape.TheVariants as shapes
 use Rattle.tm_game_bits.proofs.Tables.{leaves_from}
-use Rattle.tm_game_bits.specs.AssignedStates.{coding_of, state_of}
+use Rattle.tm_game_bits.specs.AssignedStates.{state_of}
 use Rattle.tm_game_bits.specs.Coding.{Coding, IsIn as is_in}
-use Rattle.tm_game_bits.specs.Functions.{Assignment, Function}
+use Rattle.tm_game_bits.specs.Functions.{Assignment}
 use Rattle.tm_game_bits.specs.States.{AreOneState}
-use Rattle.tm_sem.specs.Certificates.{DriverSets, IsGoodMove, IsIn, MeetsMoveForm, RankedSet}
+use Rattle.tm_sem.specs.Certificates.{DriverSets, IsGoodMove, IsIn, MeetsMoveForm}
 use Rattle.tm_sem.specs.Forcing.{Keeps}
 use Rattle.tm_sem.specs.State.{StateData}
 use Rattle.tm_sem.specs.StateBits.{bits_of_numbers}
-use Rattle.tm_sem.specs.Step.{IsAllowed, IsState, Step, is_driver_move, is_driver_turn}
+use Rattle.tm_sem.specs.Step.{IsState, Step, is_driver_turn}
 use Rattle.tm_sem.specs.declared.state.Move.{Move}
 use Rattle.tm_sem.specs.declared.state.Move.TheVariants as moves
 use Rattle.tm_sem.specs.declared.state.Outcome.{Outcome}
 use Rattle.tm_sem.specs.declared.state.Outcome.TheVariants.{Error, Next, NoOutcome}
 use Rattle.tm_solve.specs.Iterates.{driver_sets, ranked_set, ranked_sets}
 use Rattle.tm_solve.specs.declared.iterates.Iterates.{Iterates}
-use Rattle.tm_solve.specs.declared.iterates.RankSet.{RankSet}
 use Rattle.tm_solve.specs.declared.iterates.Ranking.{Ranking}
 use Rattle.tm_solve_exact.proofs.Growing.{coding_same, coding_told, states_iff}
 use Rattle.tm_solve_exact.proofs.Staying.{iff_same}
@@ -48,16 +46,15 @@ use Rattle.tm_strat.proofs.Goods.{state_same}
 use Rattle.tm_strat.proofs.MeetingGoals.{move_same, test_same}
 use Rattle.tm_strat.proofs.MeetingMoves.{constant_move_is, given_state}
 use Rattle.tm_strat.proofs.MeetingZones.{EndsInZone, good_zone, zone_good}
-use Rattle.tm_strat.specs.Choice.{HasPair, candidates_of, care_in, constant_set, good_in, id_in, pairs_of, with_bits}
-use Rattle.tm_strat.specs.Goods.{AreZonesFor, ranks_in}
+use Rattle.tm_strat.specs.Choice.{HasPair, care_in, constant_set, good_in, id_in, with_bits}
 use Rattle.tm_strat.specs.Meeting.{CanCall, Serves}
-use Rattle.tm_strat.specs.Prepared.{AreShapesOf, AreWidthsOf, IsPrepared}
-use Rattle.tm_strat.specs.Served.{AreServed, IsMadeFor, candidate_trees}
+use Rattle.tm_strat.specs.Prepared.{IsPrepared}
+use Rattle.tm_strat.specs.Served.{IsMadeFor, candidate_trees}
 use Rattle.tm_strat.specs.Shapes.{all_shapes, calls_of, leaves_of}
 use Rattle.tm_strat.specs.Spelled.{choice_tree, constants_from, test_tree, widths_in}
 use Rattle.tm_strat.specs.Trees.{candidate_tree, move_tree, predicate_tree, shape_in}
-use Rattle.tm_strat.specs.Zoned.{AreShapePairs, AreZonePairs, IsMoveFrom, IsZoneMove}
-use Rattle.tm_strat.specs.Zones.{AreTargets, AreZones, Zoning, target, zone, zoning_of}
+use Rattle.tm_strat.specs.Zoned.{IsZoneMove}
+use Rattle.tm_strat.specs.Zones.{Zoning, target, zone, zoning_of}
 use Rattle.tm_strat.specs.declared.candidates.Candidate.{Candidate}
 use Rattle.tm_strat.specs.declared.choosing.GoalMoves.{GoalMoves}
 use Rattle.tm_strat.specs.declared.predicates.Predicate.{Predicate}

@@ -1,18 +1,17 @@
 -- Moves that end in the target of a zone are good, and good moves are such ones, where the sets have good moves at all.
-use Rattle.std.proofs.Common.{◌≡◌, ◌≢◌, ◌⊎◌, inl, inr, ℕ, zero, suc, ◌+◌, ◌<◌, ◌≤◌, Bool, true, false, ◌&&◌, ◌||◌, not, List, [], ◌∷◌, Option, None, Some, length, map, get_or, slice_get, take, refl, sym, ap, ◌∙◌, subst, arith}
+use Rattle.std.proofs.Common.{◌≡◌, ◌≢◌, ◌⊎◌, inl, inr, ℕ, zero, suc, ◌+◌, ◌<◌, ◌≤◌, Bool, true, false, ◌&&◌, ◌||◌, not, List, [], ◌∷◌, Option, None, Some, length, map, slice_get, take, refl, sym, ap, ◌∙◌, subst, arith}
 use Rattle.std.proofs.lemmas.Bool.{true≢false}
-use Rattle.std.proofs.lemmas.List.{length-map, get_or_default}
+use Rattle.std.proofs.lemmas.List.{length-map}
 use Rattle.std.proofs.lemmas.Option.{get_or_from_slice_get, slice_get-map, slice_get-get_or, slice_get_within}
 use Rattle.std.specs.List.{list_any}
 use Rattle.std.specs.Option.{option_map}
 use Rattle.tm_dd.specs.declared.node.NodeId.{NodeId}
-use Rattle.tm_dd.specs.declared.node.TheConstants.{FALSE, TRUE}
+use Rattle.tm_dd.specs.declared.node.TheConstants.{FALSE}
 use Rattle.tm_dd.specs.Table.{means}
 use Rattle.tm_game.specs.Game.{GameData, IsStates}
-use Rattle.tm_game.specs.Moves as game
-use Rattle.tm_game_bits.specs.Functions.{Assignment, Function}
+use Rattle.tm_game_bits.specs.Functions.{Assignment}
 use Rattle.tm_sem.specs.Certificates.{AreRanked, DriverSets, IsFairAtRank, IsGoodMove, IsIn, MeetsMoveForm, RankedSet, rank}
-use Rattle.tm_sem.specs.Fairness.{IsFair, conditions}
+use Rattle.tm_sem.specs.Fairness.{IsFair}
 use Rattle.tm_sem.specs.Forcing.{Keeps}
 use Rattle.tm_sem.specs.Play.{goal_holds}
 use Rattle.tm_sem.specs.State.{StateData}

@@ -1,5 +1,5 @@
 -- Drafted blocks in C, one more at a time, and constants by their bits.
-use Rattle.std.proofs.Common.{◌≡◌, ℕ, zero, suc, ◌+◌, ◌*◌, ◌<◌, ◌≤◌, ◌/◌, ◌%◌, ◌^◌, ◌-◌, ◌==◌, Bool, true, false, List, [], ◌∷◌, ◌++◌, Option, None, Some, length, map, get_or, slice_get, take, drop, append_assoc, drop-cons, refl, sym, ap, ◌∙◌, subst, arith}
+use Rattle.std.proofs.Common.{◌≡◌, ℕ, zero, suc, ◌+◌, ◌*◌, ◌<◌, ◌≤◌, ◌/◌, ◌%◌, ◌^◌, ◌-◌, ◌==◌, Bool, false, List, [], ◌∷◌, ◌++◌, Some, length, map, get_or, slice_get, take, drop, append_assoc, drop-cons, refl, sym, ap, ◌∙◌, subst, arith}
 use Rattle.std.proofs.lemmas.List.{map_more, map_push, get_or_past}
 use Rattle.std.proofs.lemmas.List.FromFn.{length-map-range_with_len, map-range_with_len_more}
 use Rattle.std.proofs.lemmas.Option.{get_or_from_slice_get, slice_get_within}
@@ -103,7 +103,7 @@ bit_past bits k above =
 
 -- one constant more
 pub constants_more : (bits first next i : ℕ) (widths : List ℕ) (w n : ℕ) (found more whole : List Expression) →
-    i < length widths → w ≡ get_or widths i w → n ≡ number_at (bit_in bits) first (min w 64) →
+    i < length widths → w ≡ get_or widths i 0 → n ≡ number_at (bit_in bits) first (min w 64) →
     next ≡ min (first + w) 64 → more ≡ found ++ expressions.Constant n ∷ [] →
     found ++ constants_from bits first (drop i widths) ≡ whole →
     more ++ constants_from bits next (drop (i + 1) widths) ≡ whole
@@ -119,7 +119,7 @@ constants_more bits first next i widths w n found more whole below is number beh
 
     left : drop i widths ≡ w ∷ drop (i + 1) widths
     left =
-        drop-cons widths i w below
+        drop-cons widths i 0 below
         ∙ (λ k. sym is k ∷ drop (sym next_place k) widths)
 
 pub all_constants : (bits first i : ℕ) (widths : List ℕ) (found whole : List Expression) → length widths ≤ i →

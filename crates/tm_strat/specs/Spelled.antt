@@ -1,5 +1,5 @@
 -- What drafted blocks are in C, as plain data. Here sp says what their numbers stand for.
-use Rattle.std.specs.Prelude.{ℕ, ◌+◌, ◌-◌, Bool, false, List, [], ◌∷◌, length, map, min, nat_lt, slice_get, slice_index_or, if◌then◌else◌}
+use Rattle.std.specs.Prelude.{ℕ, ◌+◌, ◌-◌, Bool, false, List, [], ◌∷◌, length, map, min, slice_get, slice_index_or}
 use Rattle.std.specs.declared.vec.Vec.{Vec}
 use Rattle.std.specs.Option.{option_map_or}
 use Rattle.std.specs.declared.alloc.Global.{Global}
@@ -13,7 +13,6 @@ use Rattle.tm_strat.specs.Trees.{candidate_tree, move_tree, predicate_tree, shap
 use Rattle.tm_strat.specs.declared.candidates.Candidate.{Candidate}
 use Rattle.tm_strat.specs.declared.expressions.Expression.{Expression}
 use Rattle.tm_strat.specs.declared.expressions.Expression.TheVariants as expressions
-use Rattle.tm_strat.specs.declared.predicates.Predicate.{Predicate}
 use Rattle.tm_strat.specs.declared.spelling.Spelling.{Spelling}
 use Rattle.tm_strat_drafts.specs.declared.drafts.DraftBlock.{DraftBlock}
 use Rattle.tm_strat_drafts.specs.declared.drafts.DraftBlock.TheVariants.{Move, Test}

@@ -17,11 +17,20 @@ pub(crate) fn constants(
 {
     let mut found = Vec::new(alloc);
     let mut first: u8 = 0;
-    for width in widths {
-        found.push(Expression::Constant(constant(bits, first, (*width).min(64))))?;
-        first = behind(first, *width);
+    for index in 0..widths.len() {
+        let width = widths[index];
+        let number = constant(bits, first, capped(width));
+        found.push(Expression::Constant(number))?;
+        first = behind(first, width);
     }
     Ok(found)
+}
+
+// A width, at most 64.
+fn capped(width: u8) -> u8
+    ensures { result ≡ min width 64 }
+{
+    if width < 64 { width } else { 64 }
 }
 
 // The place behind a number of bits, at most 64.

@@ -1,4 +1,4 @@
-use Rattle.std.proofs.Common.{sym, arith}
+use Rattle.std.proofs.Common.{sym}
 use Rattle.tm_strat.proofs.Written.{bit_past, bit_there}
 use Rattle.tm_strat.proofs.arguments.bit_at.Goals as goal
 

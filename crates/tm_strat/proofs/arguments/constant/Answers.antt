@@ -1,4 +1,4 @@
-use Rattle.std.proofs.Common.{◌≡◌, ℕ, ◌+◌, ◌*◌, ◌<◌, ◌^◌, sym, ap, ◌∙◌, subst, arith}
+use Rattle.std.proofs.Common.{◌≡◌, ℕ, ◌+◌, ◌*◌, ap, ◌∙◌, arith}
 use Rattle.tm_flat.specs.BitRun.{number_at}
 use Rattle.tm_strat.proofs.Bits.{bits_below, byte_is, byte_small}
 use Rattle.tm_strat.proofs.Written.{number_more, number_small}

@@ -1,17 +1,6 @@
 use Rattle.std.proofs.Common.{◌≡◌, ℕ, ◌+◌, ◌*◌, ◌^◌, ◌<◌, ◌≤◌, ap, ◌∙◌, arith}
 use Rattle.tm_strat.proofs.Bits.{bits_all, bits_below, bits_more, bits_none, byte_is, byte_small}
 use Rattle.tm_strat.proofs.choosing.bits_from.Goals as goal
-use Rattle.tm_strat.proofs.Goods.{care_kept}
-use Rattle.tm_strat.proofs.Gathering.{care_more}
-use Rattle.tm_strat.proofs.ZonePairs.{pairs_read}
-use Rattle.tm_strat.proofs.Serving.{served}
-use Rattle.tm_strat.proofs.Distinct.{told}
-use Rattle.tm_strat.proofs.Testing.{number_bits}
-use Rattle.tm_strat.proofs.ZoneSets.{zoned_kept}
-use Rattle.tm_strat.proofs.Prepared.{choice_made}
-use Rattle.tm_strat.proofs.StateWidths.{wide_states}
-use Rattle.tm_strat.proofs.Giving.{given_among}
-use Rattle.tm_strat.proofs.Made.{serves_one}
 
 pub loop-index-init : goal.loop-index-init
 loop-index-init c = bits_none c.args.values.now c.args.first

@@ -1,4 +1,4 @@
-use Rattle.std.proofs.Common.{◌≡◌, ℕ, ◌+◌, suc, arith}
+use Rattle.std.proofs.Common.{◌≡◌, ◌+◌, suc, arith}
 use Rattle.tm_strat.proofs.Zoning.{falls_never, falls_next}
 use Rattle.tm_strat.proofs.good.falling_to.Goals as goal
 

@@ -1,6 +1,5 @@
-use Rattle.std.proofs.Common.{◌≡◌, ℕ, suc, ◌+◌, Some, length, slice_get, sym, ap, ◌∙◌, subst, arith}
+use Rattle.std.proofs.Common.{◌≡◌, ℕ, suc, ◌+◌, length, subst, arith}
 
-use Rattle.tm_strat.specs.declared.good.NewStates.{NewStates}
 use Rattle.tm_strat.proofs.Zoning.{zones_step}
 use Rattle.tm_strat.specs.Zones.{AreZones}
 use Rattle.tm_strat.proofs.good.push_zones.Goals as goal

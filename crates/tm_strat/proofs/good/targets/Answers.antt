@@ -1,7 +1,6 @@
-use Rattle.std.proofs.Common.{◌≡◌, ℕ, suc, ◌+◌, Some, length, slice_get, sym, ap, ◌∙◌, subst, arith}
+use Rattle.std.proofs.Common.{◌≡◌, ℕ, suc, ◌+◌, length, sym, subst, arith}
 
 use Rattle.tm_game.proofs.MadeSets.{false_set}
-use Rattle.tm_solve.specs.declared.iterates.RankSet.{RankSet}
 use Rattle.tm_strat.proofs.Carrying.{one_set, sets_more, sets_stay, set_stays}
 use Rattle.tm_strat.proofs.Zoning.{either_set, first_target, none_before, targets_step, within_step}
 use Rattle.tm_strat.specs.Zones.{AreTargets}

@@ -1,6 +1,5 @@
-use Rattle.std.proofs.Common.{◌≡◌, ℕ, suc, ◌+◌, Some, length, slice_get, sym, ap, ◌∙◌, subst, arith}
+use Rattle.std.proofs.Common.{◌≡◌, ℕ, suc, ◌+◌, length, subst, arith}
 
-use Rattle.tm_solve.specs.declared.iterates.RankSet.{RankSet}
 use Rattle.tm_strat.proofs.Zoning.{no_waits, none_before, waits_kept, waits_step, within_step, function_kept}
 use Rattle.tm_strat.specs.Zones.{AreWaits, before}
 use Rattle.tm_strat.proofs.good.waits.Goals as goal

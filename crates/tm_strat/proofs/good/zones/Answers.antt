@@ -1,8 +1,8 @@
-use Rattle.std.proofs.Common.{◌≡◌, ℕ, suc, List, length, sym, ap, ◌∙◌, subst}
+use Rattle.std.proofs.Common.{ℕ, suc, List, length, sym, ap, ◌∙◌, subst}
 use Rattle.tm_dd.specs.declared.node.NodeId.{NodeId}
 use Rattle.tm_ddops.specs.Manager.{IsFunction}
 use Rattle.tm_strat.specs.declared.good.NewStates.{NewStates}
-use Rattle.tm_strat.proofs.Zoning.{both_of, first_zone, function_kept, rest_of, tells_kept, waits_kept}
+use Rattle.tm_strat.proofs.Zoning.{both_of, first_zone, function_kept, rest_of, tells_kept}
 use Rattle.tm_strat.specs.Choice.{id_in}
 use Rattle.tm_strat.specs.Zones.{AreWaits, AreZones, failing, here, met}
 use Rattle.tm_strat.proofs.good.zones.Goals as goal
