@@ -184,5 +184,6 @@ module _ (d : DesignTree) (g : GameData) (is : IsExactOf d g) (can : CanCall d) 
         ∙ ap (moves.Call n)
         (arguments_are callee.0.params 0 (is.ordered.of.room.arguments n callee.0 callee.1))
         ∙ sym (ap (λ (o : Option Called).
-        option_map_or (λ (k : Called). moves.Call n (arguments_in d k.params (arguments_at g.order given))) o moves.Idle)
+        option_map_or (λ (k : Called). moves.Call n (arguments_in d k.params (arguments_at g.order given))) o
+        moves.Idle)
         callee.1)

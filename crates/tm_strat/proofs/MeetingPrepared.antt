@@ -111,7 +111,8 @@ leave_there processes tasks p below =
 call_there : (processes tasks n : ℕ) → n < tasks →
     slice_get (all_shapes processes tasks) (suc (length (leaves_of processes) + n)) ≡ Some (shapes.Call n)
 call_there processes tasks n below =
-    behind (leaves_of processes) (calls_of tasks) n (length (leaves_of processes) + n) refl ∙ ranged (λ q. shapes.Call q) tasks n below
+    behind (leaves_of processes) (calls_of tasks) n (length (leaves_of processes) + n) refl
+    ∙ ranged (λ q. shapes.Call q) tasks n below
 
 module _ (d : DesignTree) (g : GameData) (is : IsExactOf d g) (regular : IsRegular d) (can : CanCall d)
     (it : Iterates) (turns : IsStates d g.order g.diagrams.table (λ s. is_driver_turn d s ≡ true) g.turn)
@@ -386,8 +387,8 @@ module _ (d : DesignTree) (g : GameData) (is : IsExactOf d g) (regular : IsRegul
         (suc (length (leaves_of (length d.processes)) + n)) (shapes.Call n)
         (call_there (length d.processes) (length d.tasks) n (omega (arith, task, tasks_long)))) task
         (low_same s (moves.Call n args) at_region turn good bits)
-        (call_given g.terms d g.flat is.ordered.of.flat is.ordered.of.room n args is.ordered.of.design g.order w can_call
-        (λ q small. high_same s (moves.Call n args) at_region turn good bits q))
+        (call_given g.terms d g.flat is.ordered.of.flat is.ordered.of.room n args is.ordered.of.design g.order w
+        can_call (λ q small. high_same s (moves.Call n args) at_region turn good bits q))
 
     pub care_there : (s : StateData) → IsIn d c.region s → is_driver_turn d s ≡ true → set_of g m.care s ≡ true
     care_there s at_region turn =

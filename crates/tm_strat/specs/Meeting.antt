@@ -21,8 +21,8 @@ use Rattle.tm_syntax.specs.Design.Cells.{Called}
 use Rattle.tm_syntax.specs.Faults.Limits.{limit_of}
 use Rattle.tm_syntax.specs.declared.fault.Quantity.TheVariants as quantity
 
--- the driver's moves but for their arguments are numbered in 32 bits, and each controllable task has the parameters that
--- it declares, no more than a call can have arguments
+-- the driver's moves but for their arguments are numbered in 32 bits, and each controllable task has the parameters
+-- that it declares, no more than a call can have arguments
 pub record CanCall (d : DesignTree) : Type 0 where
   pub few : 1 + length d.processes + length d.tasks ≤ 4294967295
   pub declared : (n : ℕ) (callee : Called) → task_of d n ≡ Some callee →

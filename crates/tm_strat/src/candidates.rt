@@ -1,5 +1,6 @@
 //! Moves that blocks may make.
-ghost use Rattle.std.specs.Prelude.{◌≡◌, ◌≤◌, ℕ, true, All, IfOk, Some, if◌then◌else◌, length, map, nat_lt, ◌<◌, slice_get};
+ghost use Rattle.std.specs.Prelude.{◌≡◌, ◌<◌, ◌≤◌, ℕ, true, All, IfOk, Some, if◌then◌else◌, length, map};
+ghost use Rattle.std.specs.Prelude.{nat_lt, slice_get};
 ghost use Rattle.tm_cir.specs.Fit.{FitsBlock, FitsNum, parameter_count};
 ghost use Rattle.tm_cir.specs.Tree.{call, idle, leave};
 ghost use Rattle.tm_cir.specs.View.{block_tree, num_tree};

@@ -1,5 +1,6 @@
 //! Where moves are good for the ranked sets of a solution.
-ghost use Rattle.std.specs.Prelude.{◌≡◌, ◌≤◌, ◌<◌, ◌+◌, ◌∷◌, ◌&&◌, [], ℕ, true, false, not, suc, IfOk, OnOk, length, Some, slice_get};
+ghost use Rattle.std.specs.Prelude.{◌≡◌, ◌≤◌, ◌<◌, ◌+◌, ◌∷◌, ◌&&◌, [], ℕ, true, false, not, suc, IfOk, OnOk};
+ghost use Rattle.std.specs.Prelude.{Some, length, slice_get};
 ghost use Rattle.tm_dd.specs.Table.{Table};
 ghost use Rattle.tm_dd.specs.declared.node.TheConstants.{FALSE as NOTHING};
 ghost use Rattle.tm_ddops.specs.Manager.{IsFunction};
@@ -13,7 +14,8 @@ ghost use Rattle.tm_strat.specs.Goods.{AreGoodMoves, IsGoodFor, ranks_in};
 ghost use Rattle.tm_strat.specs.Shapes.{all_shapes, AreBehind, calls_of, leaves_of};
 ghost use Rattle.tm_strat.specs.Targets.{AreSets, AreSetsOf, HasSets};
 ghost use Rattle.tm_strat.specs.Zoned.{AreArgumentLevels, AreShapePairs, AreZonePairs, IsCareOf, IsPairFrom};
-ghost use Rattle.tm_strat.specs.Zones.{AreNew, AreTargets, AreWaits, AreZones, failing as fails, falling, Tells, Zoning};
+ghost use Rattle.tm_strat.specs.Zones.{AreNew, AreTargets, AreWaits, AreZones, failing as fails, falling, Tells};
+ghost use Rattle.tm_strat.specs.Zones.{Zoning};
 ghost use Rattle.tm_syntax.specs.Design.{DesignTree};
 ghost use Rattle.tm_strat_drafts.specs.Growth.{Carried};
 

@@ -340,8 +340,8 @@ fn make_drafts(alloc: Global, mut choosing: Choosing, states: u32) -> Result<Dra
     })
 }
 
-// Drafted blocks over so many tests of states, or one that idles where there is no goal. More tests and goals than 32 bits
-// number are want of memory, as more blocks are.
+// Drafted blocks over so many tests of states, or one that idles where there is no goal. More tests and goals than 32
+// bits number are want of memory, as more blocks are.
 fn drafted_blocks(
     alloc: Global,
     choosing: &mut Choosing,

@@ -6,8 +6,8 @@ pub returns-then-index-waits : goal.returns-then-index-waits
 returns-then-index-waits c =
     λ t z waits.
     let next : c.args.index + 1 ≡ suc c.args.index = omega arith in
-    falls_next t z c.args.waits.now c.args.index (c.args.index + 1) c.states_in-next.result next c.states_in-next.ensures
-    waits
+    falls_next t z c.args.waits.now c.args.index (c.args.index + 1) c.states_in-next.result next
+    c.states_in-next.ensures waits
 
 pub returns : goal.returns
 returns c =
