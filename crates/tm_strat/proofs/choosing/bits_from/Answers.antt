@@ -9,6 +9,8 @@ use Rattle.tm_strat.proofs.Distinct.{told}
 use Rattle.tm_strat.proofs.Testing.{number_bits}
 use Rattle.tm_strat.proofs.ZoneSets.{zoned_kept}
 use Rattle.tm_strat.proofs.Prepared.{choice_made}
+use Rattle.tm_strat.proofs.Found.{good_found}
+use Rattle.tm_strat.proofs.Shaped.{pairs_step, shape_step}
 use Rattle.tm_strat.proofs.StateWidths.{wide_states}
 use Rattle.tm_strat.proofs.Giving.{given_among}
 use Rattle.tm_strat.proofs.Made.{serves_one}
