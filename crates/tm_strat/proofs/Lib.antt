@@ -17,6 +17,7 @@ mod Meeting
 mod MeetingAnswers
 mod MeetingDriver
 mod MeetingGoals
+mod MeetingGrown
 mod MeetingMoves
 mod MeetingPrepared
 mod MeetingTurns
@@ -27,6 +28,7 @@ mod Serving
 mod Shaped
 mod StateWidths
 mod Testing
+mod Written
 mod ZonePairs
 mod ZoneSets
 mod Zoning

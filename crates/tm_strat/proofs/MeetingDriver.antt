@@ -1,6 +1,6 @@
 -- Blocks that are chosen from what serves a certificate answer good moves.
 use Rattle.std.proofs.Common.{◌≡◌, ◌⊎◌, inl, inr, ℕ, zero, suc, ◌+◌, ◌-◌, ◌<◌, ◌≤◌, ◌==◌, Bool, true, false, List, [], ◌∷◌, Option, None, Some, length, map, slice_get, nat_lt, refl, sym, ap, ◌∙◌, subst, arith}
-use Rattle.std.proofs.lemmas.Bool.{cases_lt}
+use Rattle.std.proofs.lemmas.Bool.{cases_lt, eqb-true}
 use Rattle.std.proofs.lemmas.Bool.Decides.{nat_tests}
 use Rattle.std.proofs.lemmas.Option.{slice_get_within}
 use Rattle.std.specs.Option.{option_map_or}
@@ -20,7 +20,7 @@ use Rattle.tm_sem.specs.Step.{IsState, is_driver_turn}
 use Rattle.tm_sem.specs.declared.state.Move.{Move}
 use Rattle.tm_solve.specs.Sets.{IsAmong}
 use Rattle.tm_solve_exact.proofs.Growing.{coding_told, valid_told}
-use Rattle.tm_solve_exact.proofs.Staying.{valid_among}
+use Rattle.tm_solve_exact.proofs.Staying.{iff_same, valid_among}
 use Rattle.tm_solve_exact.specs.Exact.{coding, exact_game, set_of, valid_set}
 use Rattle.tm_strat.proofs.Meeting.{answered}
 use Rattle.tm_strat.proofs.MeetingAnswers.{answers}
@@ -61,7 +61,11 @@ module _ (d : DesignTree) (c : DriverSets) (g : GameData) (sp : Spelling) (tests
       (none_past sp.predicates.items k (let count = serves.count in omega (arith, count, above))))
     where
       same : (k == length tests + j) ≡ (j == k - length sp.predicates.items)
-      same = let count = serves.count in grind (arith, nat_tests, count, above)
+      same =
+          let count = serves.count in
+          iff_same (k == length tests + j) (j == k - length sp.predicates.items)
+          (λ h. let e = eqb-true k (length tests + j) h in grind (arith, nat_tests, e, count, above))
+          (λ h. let e = eqb-true j (k - length sp.predicates.items) h in grind (arith, nat_tests, e, count, above))
 
   tests_told : (j : ℕ) (s : StateData) → IsState d s → (k : ℕ) →
       passes (choice g tests goals j) k s ≡ holds s j (test_tree sp k)

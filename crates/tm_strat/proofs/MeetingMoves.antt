@@ -34,9 +34,10 @@ use Rattle.tm_sem.specs.State.{StateData}
 use Rattle.tm_sem.specs.Step.{IsAllowed, IsState, task_of}
 use Rattle.tm_sem.specs.declared.state.Move.{Move}
 use Rattle.tm_sem.specs.declared.state.Move.TheVariants as moves
-use Rattle.tm_solve_exact.proofs.Growing.{coding_told, state_same}
+use Rattle.tm_solve_exact.proofs.Growing.{coding_told}
 use Rattle.tm_solve_exact.specs.Exact.{IsExactOf, coding}
 use Rattle.tm_strat.proofs.Constants.{bits_length, room_is}
+use Rattle.tm_strat.proofs.Goods.{state_same}
 use Rattle.tm_strat.specs.Choice.{with_bits}
 use Rattle.tm_strat.specs.Meeting.{CanCall}
 use Rattle.tm_strat.specs.Spelled.{bit_in, constants_from, widths_in, widths_of}

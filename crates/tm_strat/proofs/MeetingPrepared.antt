@@ -41,9 +41,10 @@ use Rattle.tm_solve.specs.Iterates.{driver_sets, ranked_set, ranked_sets}
 use Rattle.tm_solve.specs.declared.iterates.Iterates.{Iterates}
 use Rattle.tm_solve.specs.declared.iterates.RankSet.{RankSet}
 use Rattle.tm_solve.specs.declared.iterates.Ranking.{Ranking}
-use Rattle.tm_solve_exact.proofs.Growing.{coding_same, coding_told, state_same, states_iff}
+use Rattle.tm_solve_exact.proofs.Growing.{coding_same, coding_told, states_iff}
 use Rattle.tm_solve_exact.proofs.Staying.{iff_same}
 use Rattle.tm_solve_exact.specs.Exact.{IsExactOf, coding, exact_ids, set_of}
+use Rattle.tm_strat.proofs.Goods.{state_same}
 use Rattle.tm_strat.proofs.MeetingGoals.{move_same, test_same}
 use Rattle.tm_strat.proofs.MeetingMoves.{constant_move_is, given_state}
 use Rattle.tm_strat.proofs.MeetingZones.{EndsInZone, good_zone, zone_good}
@@ -84,21 +85,25 @@ none_long (x ∷ xs) (suc k) none = let rest = none_long xs k none in omega (ari
 id_past : (ids : List NodeId) (k : ℕ) → length ids ≤ k → id_in ids k ≡ FALSE
 id_past ids k above = get_or_past ids k FALSE above
 
-behind : {A : Type 0} (xs ys : List A) (k : ℕ) → slice_get (xs ++ ys) (length xs + k) ≡ slice_get ys k
-behind [] ys k = refl
-behind (x ∷ xs) ys k = behind xs ys k
+behind : {A : Type 0} (xs ys : List A) (k i : ℕ) → i ≡ length xs + k → slice_get (xs ++ ys) i ≡ slice_get ys k
+behind [] ys k i same = let e : i ≡ k = omega (arith, same) in ap (λ (n : ℕ). slice_get ys n) e
+behind (x ∷ xs) ys k zero same = absurd (omega (arith, same))
+behind (x ∷ xs) ys k (suc i) same = behind xs ys k i (omega (arith, same))
 
 early : {A : Type 0} (xs ys : List A) (k : ℕ) (x : A) → slice_get xs k ≡ Some x → slice_get (xs ++ ys) k ≡ Some x
 early [] ys k x at = absurd (cc)
 early (y ∷ xs) ys zero x at = at
 early (y ∷ xs) ys (suc k) x at = early xs ys k x at
 
+none_more : (k : ℕ) → 0 + k ≡ k
+none_more k = omega arith
+
 ranged : {A : Type 0} (f : ℕ → A) (n k : ℕ) → k < n → slice_get (map f (range_with_len 0 n)) k ≡ Some (f k)
 ranged f n k below =
     slice_get-map f (range_with_len 0 n) k
     ∙ ap (option_map f)
     (slice_get-get_or (range_with_len 0 n) k 0 (let long = length-range_with_len 0 n in omega (arith, below, long)))
-    ∙ ap (λ (m : ℕ). Some (f m)) (get_or-range_with_len 0 n k 0 below)
+    ∙ ap (λ (m : ℕ). Some (f m)) (get_or-range_with_len 0 n k 0 below ∙ none_more k)
 
 -- ---- shapes
 leave_there : (processes tasks p : ℕ) → p < processes →
@@ -109,7 +114,7 @@ leave_there processes tasks p below =
 call_there : (processes tasks n : ℕ) → n < tasks →
     slice_get (all_shapes processes tasks) (suc (length (leaves_of processes) + n)) ≡ Some (shapes.Call n)
 call_there processes tasks n below =
-    behind (leaves_of processes) (calls_of tasks) n ∙ ranged (λ q. shapes.Call q) tasks n below
+    behind (leaves_of processes) (calls_of tasks) n (length (leaves_of processes) + n) refl ∙ ranged (λ q. shapes.Call q) tasks n below
 
 module _ (d : DesignTree) (g : GameData) (is : IsExactOf d g) (regular : IsRegular d) (can : CanCall d)
     (it : Iterates) (turns : IsStates d g.order g.diagrams.table (λ s. is_driver_turn d s ≡ true) g.turn)
@@ -122,7 +127,7 @@ module _ (d : DesignTree) (g : GameData) (is : IsExactOf d g) (regular : IsRegul
   abbrev values : StateData → Assignment
   values s = (coding g).assignment_of s
 
-  blocks : List BlockTree
+  abbrev pub blocks : List BlockTree
   blocks = candidate_trees d sp.counts sp.shapes.items sp.candidates.items
 
   -- a set by the values that a state has
@@ -232,22 +237,20 @@ module _ (d : DesignTree) (g : GameData) (is : IsExactOf d g) (regular : IsRegul
         IsGoodMove d c j s (move_of j (choice_tree d sp (Constant n bits)) s)
     constant_good n bits s state at = by (there_or_not sp.shapes.items n)
       where
-        v : Assignment
-        v = with_bits (length g.order) bits (values s)
-
         by : ((shape : MoveShape) × (slice_get sp.shapes.items n ≡ Some shape)) ⊎ (slice_get sp.shapes.items n ≡ None) →
             IsGoodMove d c j s (move_of j (choice_tree d sp (Constant n bits)) s)
         by (inr none) =
-            absurd (never_past m.pairs.items n v
+            absurd (never_past m.pairs.items n (with_bits (length g.order) bits (values s))
             (let long = none_long sp.shapes.items n none in let same = made.pairs.count_is in
             omega (arith, long, same)) at)
         by (inl (shape, at_shape)) =
             let below = slice_get_within sp.shapes.items n shape at_shape in
-            let pair = (made.pairs.each n shape below at_shape).only v at in
-            let good : IsGoodMove d c j s (game.move_at d g.order shape v) =
-            move_good s (game.move_at d g.order shape v)
-            (subst (λ (t : StateData).
-            IsZoneMove d g made.zones made.targets (length made.targets) t (game.move_at d g.order shape v))
+            let pair = (made.pairs.each n shape below at_shape).only (with_bits (length g.order) bits (values s)) at in
+            let good : IsGoodMove d c j s
+            (game.move_at d g.order shape (with_bits (length g.order) bits (values s))) =
+            move_good s (game.move_at d g.order shape (with_bits (length g.order) bits (values s)))
+            (subst (λ (t : StateData). IsZoneMove d g made.zones made.targets (length made.targets) t
+            (game.move_at d g.order shape (with_bits (length g.order) bits (values s))))
             (given_state d g is can s state bits) pair.1) in
             subst (λ (x : MoveShape). IsGoodMove d c j s (move_of j (move_tree d sp.counts x
             (constants_from bits 0 (widths_in sp x))) s))
@@ -346,7 +349,7 @@ module _ (d : DesignTree) (g : GameData) (is : IsExactOf d g) (regular : IsRegul
       shape_there k shape at = subst (λ (l : List MoveShape). slice_get l k ≡ Some shape) (sym all_there) at
 
       -- the state's values with those of the bits of arguments behind them
-      with_arguments : List Bool → Assignment
+      abbrev with_arguments : List Bool → Assignment
       with_arguments bits level =
           if nat_lt level (length g.order) then values s level else assignment bits (level - length g.order)
 

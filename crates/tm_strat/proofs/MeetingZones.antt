@@ -28,7 +28,7 @@ use Rattle.tm_solve_exact.specs.Exact.{IsExactOf, coding, exact_ids}
 use Rattle.tm_solve_exact.proofs.Growing.{coding_told, states_iff}
 use Rattle.tm_strat.proofs.Zoning.{before_more, past}
 use Rattle.tm_strat.specs.Choice.{id_in}
-use Rattle.tm_strat.specs.Zones.{Rank, Zoning, added, before, failing, falling, here, met, nothing, rank_at, target, waiting, zone, zoning_of}
+use Rattle.tm_strat.specs.Zones.{Rank, Zoning, added, before, failing, falling, here, met, nothing, rank_at, rank_in, target, waiting, zone, zoning_of}
 use Rattle.tm_syntax.specs.Design.{DesignTree}
 use Rattle.tm_verdict.proofs.Ranks.{low_rank, of_rank, rank_is, stands}
 use Rattle.tm_verdict.specs.Found.{IsOfRank, within_rank}
@@ -70,6 +70,9 @@ or_second false b is = is
 never : (a : Bool) → (a ≡ true → ⊥) → a ≡ false
 never true none = absurd (none refl)
 never false none = refl
+
+one_more : (k : ℕ) → 1 + k ≡ suc k
+one_more k = omega arith
 
 -- ---- lists
 -- what is found among the first elements is one of them
@@ -122,20 +125,14 @@ module _ (d : DesignTree) (g : GameData) (is : IsExactOf d g) (regular : IsRegul
 
   long : length z.ranks ≡ length ranked
   long =
-      length-map ranking.sets.items (λ (r : RankSet). record {
-        set = means g.diagrams.table r.set;
-        fair = means g.diagrams.table (id_in g.fairs r.fair);
-      })
+      length-map ranking.sets.items (rank_in g)
       ∙ sym (length-map ranking.sets.items (ranked_set (exact_ids g)))
 
   -- ---- parts of zones as facts on states
   same_rank : (k : ℕ) (s : StateData) → before z k (values s) ≡ within_rank ranked k s
   same_rank k s =
-      mapped_any (λ (r : RankSet). record {
-        set = means g.diagrams.table r.set;
-        fair = means g.diagrams.table (id_in g.fairs r.fair);
-      }) (λ (r : Rank). r.set (values s)) (λ (r : RankSet). means g.diagrams.table r.set (values s)) (λ r. refl)
-      ranking.sets.items k
+      mapped_any (rank_in g) (λ (r : Rank). r.set (values s))
+      (λ (r : RankSet). means g.diagrams.table r.set (values s)) (λ r. refl) ranking.sets.items k
       ∙ sym (mapped_any (ranked_set (exact_ids g)) (λ (r : RankedSet). r.set s)
       (λ (r : RankSet). means g.diagrams.table r.set (values s)) (λ r. refl) ranking.sets.items k)
 
@@ -167,23 +164,10 @@ module _ (d : DesignTree) (g : GameData) (is : IsExactOf d g) (regular : IsRegul
         (let below = form.fairs j k ranked (ranked_set (exact_ids g) r) are_ranked ranked_at in
         let count = is.ordered.fairs in omega (arith, below, count))
 
-    rank_told : rank_at z k ≡ record {
-      set = means g.diagrams.table r.set;
-      fair = means g.diagrams.table (id_in g.fairs r.fair);
-    }
+    rank_told : rank_at z k ≡ rank_in g r
     rank_told =
-        get_or_from_slice_get z.ranks k (record {
-          set = means g.diagrams.table r.set;
-          fair = means g.diagrams.table (id_in g.fairs r.fair);
-        }) (record { set = nothing; fair = nothing })
-        (slice_get-map (λ (q : RankSet). record {
-          set = means g.diagrams.table q.set;
-          fair = means g.diagrams.table (id_in g.fairs q.fair);
-        }) ranking.sets.items k
-        ∙ ap (option_map (λ (q : RankSet). record {
-          set = means g.diagrams.table q.set;
-          fair = means g.diagrams.table (id_in g.fairs q.fair);
-        })) at)
+        get_or_from_slice_get z.ranks k (rank_in g r) (record { set = nothing; fair = nothing })
+        (slice_get-map (rank_in g) ranking.sets.items k ∙ ap (option_map (rank_in g)) at)
 
     fair_told : (s : StateData) →
         (rank_at z k).fair (values s) ≡ means g.diagrams.table (id_in g.fairs r.fair) (values s)
@@ -232,7 +216,8 @@ module _ (d : DesignTree) (g : GameData) (is : IsExactOf d g) (regular : IsRegul
   rank_of : (k : ℕ) (s : StateData) → added z k (values s) ≡ true → rank ranked s ≡ 1 + k
   rank_of k s at =
       rank_is ranked k s (below_long k s at) (record {
-        within = sym (same_rank (1 + k) s)
+        within = ap (λ (n : ℕ). within_rank ranked n s) (one_more k)
+            ∙ sym (same_rank (suc k) s)
             ∙ sym (before_more z k (values s) (let below = below_long k s at in omega (arith, below, long)))
             ∙ or_second (before z k (values s)) ((rank_at z k).set (values s)) in_set;
         not_before = sym (same_rank k s)
@@ -272,10 +257,7 @@ module _ (d : DesignTree) (g : GameData) (is : IsExactOf d g) (regular : IsRegul
             (second_true (here z (values s)) (z.goal (values s)) at)
 
     same_ranked : (rs : List RankedSet) → AreRanked c j rs → ranked ≡ rs
-    same_ranked rs are = some_same (sym are_ranked ∙ are)
-      where
-        some_same : {A : Type 0} {x y : A} → Some x ≡ Some y → x ≡ y
-        some_same e = cc
+    same_ranked rs are = let e : Some ranked ≡ Some rs = sym are_ranked ∙ are in cc
 
     -- from where the condition of the rank fails
     good_waiting : (k : ℕ) → waiting z k (values s) ≡ true →
@@ -399,7 +381,9 @@ module _ (d : DesignTree) (g : GameData) (is : IsExactOf d g) (regular : IsRegul
         in_set =
             ap (λ (b : Bool). b || (rank_at z k).set (values s)) (sym none_before)
             ∙ before_more z k (values s) (let less = few in omega (arith, less, long))
-            ∙ same_rank (suc k) s ∙ of.within
+            ∙ same_rank (suc k) s
+            ∙ ap (λ (n : ℕ). within_rank ranked n s) (sym (one_more k))
+            ∙ of.within
 
         new : added z k (values s) ≡ true
         new =
@@ -480,7 +464,7 @@ module _ (d : DesignTree) (g : GameData) (is : IsExactOf d g) (regular : IsRegul
 
           by : (n : ℕ) → rank ranked s ≡ n → EndsInZone s move
           by zero same = absurd (omega (arith, same))
-          by (suc k) same = fairly k same ((rank_at z k).fair (values s)) refl
+          by (suc k) same = fairly k (same ∙ sym (one_more k)) ((rank_at z k).fair (values s)) refl
 
     pub good_zone : EndsInZone s move
     good_zone = by (goal_holds d s j) refl

@@ -9,11 +9,12 @@ use Rattle.tm_dd.specs.declared.node.TheConstants.{FALSE}
 use Rattle.tm_dd.specs.Table.{Knows, Table, means}
 use Rattle.tm_dd.proofs.CallerLaws.{means-FALSE}
 use Rattle.tm_ddops.specs.Manager.{IsFunction}
-use Rattle.tm_game.specs.Game.{GameData}
+use Rattle.tm_game.specs.Game.{GameData, Grows, IsSet}
 use Rattle.tm_game_bits.proofs.Extended.{Knows-Extends, means-Extends}
 use Rattle.tm_game_bits.specs.Functions.{Assignment, Function}
 use Rattle.tm_solve.specs.declared.iterates.RankSet.{RankSet}
-use Rattle.tm_strat.proofs.Carrying.{grown}
+use Rattle.tm_strat.proofs.Carrying.{grown, set_stays}
+use Rattle.tm_strat.specs.Choice.{id_in}
 use Rattle.tm_strat.specs.declared.good.NewStates.{NewStates}
 use Rattle.tm_strat.specs.Zones.{AreNew, AreTargets, AreWaits, AreZones, Rank, Tells, Zoning, added, before, failing, falling, here, met, nothing, rank_at, target, waiting, zone}
 use Rattle.tm_strat_drafts.specs.Growth.{Carried}
@@ -183,7 +184,7 @@ or_none : (a : Bool) → (a || false) ≡ a
 or_none true = refl
 or_none false = refl
 
-or_assoc : (a b c : Bool) → (a || b || c) ≡ ((a || b) || c)
+or_assoc : (a b c : Bool) → (a || (b || c)) ≡ ((a || b) || c)
 or_assoc true b c = refl
 or_assoc false b c = refl
 
@@ -203,3 +204,108 @@ before_more z k v below =
 
 pub none_before : (t : Table) (z : Zoning) → IsFunction t FALSE (before z 0)
 none_before t z = nothing_of t
+
+-- ---- what ids tell is kept
+pub tells_kept : (g h : GameData) → Carried g h → (region : NodeId) (ranks : List RankSet) (goal : ℕ) (z : Zoning) →
+    Tells g region ranks goal z → Tells h region ranks goal z
+tells_kept g h carried region ranks goal z is = record {
+  region_is = function_kept g h carried region z.region is.region_is;
+  turn_is = subst (λ (id : NodeId). IsFunction h.diagrams.table id z.turn) (sym grows.turn)
+      (function_kept g h carried g.turn z.turn is.turn_is);
+  goal_is = subst (λ (l : List NodeId). IsFunction h.diagrams.table (id_in l goal) z.goal) (sym grows.goals)
+      (function_kept g h carried (id_in g.goals goal) z.goal is.goal_is);
+  count = is.count;
+  set_is = λ k r at. function_kept g h carried r.set (rank_at z k).set (is.set_is k r at);
+  fair_is = λ k r at.
+      subst (λ (l : List NodeId). IsFunction h.diagrams.table (id_in l r.fair) (rank_at z k).fair) (sym grows.fairs)
+      (function_kept g h carried (id_in g.fairs r.fair) (rank_at z k).fair (is.fair_is k r at));
+}
+  where
+    grows : Grows g h
+    grows = grown g h carried
+
+-- ---- steps of loops
+module _ (base g h : GameData) (so_far : Carried base g) (carried : Carried g h) (z : Zoning) (region : NodeId)
+    (ranks : List RankSet) (goal : ℕ) (tells : Tells base region ranks goal z) (i next : ℕ) (is_next : next ≡ suc i)
+    (r : RankSet) (there : slice_get ranks i ≡ Some r) where
+  here_tells : Tells g region ranks goal z
+  here_tells = tells_kept base g so_far region ranks goal z tells
+
+  inside : i < length z.ranks
+  inside = let within = slice_get_within ranks i r there in let count = tells.count in omega (arith, within, count)
+
+  -- one ranked set more
+  pub within_step : (within id : NodeId) → IsFunction g.diagrams.table within (before z i) →
+      (Knows g.diagrams.table within → Knows g.diagrams.table r.set → IsFunction h.diagrams.table id
+      (λ v. means h.diagrams.table within v || means h.diagrams.table r.set v)) →
+      IsFunction h.diagrams.table id (before z next)
+  within_step within id is answer =
+      subst (λ (n : ℕ). IsFunction h.diagrams.table id (before z n)) (sym is_next)
+      (function_same h.diagrams.table id (λ v. before z i v || (rank_at z i).set v) (before z (suc i))
+      (λ v. before_more z i v inside)
+      (either_of g h carried within r.set id (before z i) (rank_at z i).set is (here_tells.set_is i r there) answer))
+
+  -- one target more
+  pub targets_step : (targets more : List NodeId) (id : NodeId) → AreTargets g.diagrams.table z next targets →
+      IsFunction h.diagrams.table id (before z next) → more ≡ targets ++ id ∷ [] →
+      AreTargets h.diagrams.table z (suc next) more
+  targets_step targets more id are is items =
+      targets_push h.diagrams.table z next targets more id (targets_kept g h carried z next targets are)
+      (subst (λ (n : ℕ). IsFunction h.diagrams.table id (target z n)) (sym is_next)
+      (subst (λ (n : ℕ). IsFunction h.diagrams.table id (before z n)) is_next is)) items
+
+  -- new states of one rank more
+  pub waits_step : (fails : NodeId) → IsFunction base.diagrams.table fails (failing z) → (begun : NodeId) →
+      IsFunction g.diagrams.table begun (before z i) → (waits more : List NewStates) (w : NewStates) →
+      AreWaits g.diagrams.table z i waits →
+      ((f b set fair : Function) → IsFunction g.diagrams.table fails f → IsFunction g.diagrams.table begun b →
+      IsFunction g.diagrams.table r.set set → IsFunction g.diagrams.table (id_in g.fairs r.fair) fair →
+      AreNew h.diagrams.table (λ v. (f v && set v) && not (b v)) fair w) →
+      more ≡ waits ++ w ∷ [] → AreWaits h.diagrams.table z next more
+  waits_step fails fails_is begun begun_is waits more w are answer items =
+      subst (λ (n : ℕ). AreWaits h.diagrams.table z n more) (sym is_next)
+      (waits_push h.diagrams.table z i waits more w (waits_kept g h carried z i waits are)
+      (answer (failing z) (before z i) (rank_at z i).set (rank_at z i).fair
+      (function_kept base g so_far fails (failing z) fails_is) begun_is (here_tells.set_is i r there)
+      (here_tells.fair_is i r there)) items)
+
+-- one zone more
+pub zones_step : (base g h : GameData) → Carried base g → Carried g h → (z : Zoning) (i next : ℕ) → next ≡ suc i →
+    (waits : List NewStates) (w : NewStates) → slice_get waits i ≡ Some w →
+    AreWaits base.diagrams.table z (length z.ranks) waits → (falls id : NodeId) →
+    IsFunction base.diagrams.table falls (falling z (suc i)) → (zones more : List NodeId) →
+    AreZones g.diagrams.table z (suc i) zones →
+    (Knows g.diagrams.table w.waiting → Knows g.diagrams.table falls → IsFunction h.diagrams.table id
+    (λ v. means h.diagrams.table w.waiting v || means h.diagrams.table falls v)) →
+    more ≡ zones ++ id ∷ [] → AreZones h.diagrams.table z (suc next) more
+zones_step base g h so_far carried z i next is_next waits w there are falls id falls_is zones more zoned answer items =
+    subst (λ (n : ℕ). AreZones h.diagrams.table z (suc n) more) (sym is_next)
+    (zones_push h.diagrams.table z (suc i) zones more id (zones_kept g h carried z (suc i) zones zoned)
+    (either_of g h carried w.waiting falls id (waiting z i) (falling z (suc i))
+    (function_kept base g so_far w.waiting (waiting z i) (are.waiting_is i w there))
+    (function_kept base g so_far falls (falling z (suc i)) falls_is) answer) items)
+
+-- what falls to a rank from the next one
+pub falls_next : (t : Table) (z : Zoning) (waits : List NewStates) (i next : ℕ) (w : NewStates) → next ≡ suc i →
+    slice_get waits next ≡ Some w → AreWaits t z (length z.ranks) waits → IsFunction t w.falling (falling z (suc i))
+falls_next t z waits i next w is_next there are =
+    subst (λ (n : ℕ). IsFunction t w.falling (falling z n)) is_next (are.falling_is next w there)
+
+pub falls_never : (t : Table) (z : Zoning) (waits : List NewStates) (i : ℕ) → length waits ≤ suc i →
+    AreWaits t z (length z.ranks) waits → IsFunction t FALSE (falling z (suc i))
+falls_never t z waits i above are =
+    none_falls t z (suc i) (let count = are.count in omega (arith, above, count))
+
+-- a union of sets is one
+pub either_set : (g h : GameData) → Carried g h → (a b id : NodeId) → IsSet g a → IsSet g b →
+    (Knows g.diagrams.table a → Knows g.diagrams.table b → IsFunction h.diagrams.table id
+    (λ v. means h.diagrams.table a v || means h.diagrams.table b v)) → IsSet h id
+either_set g h carried a b id in_a in_b answer =
+    let is = answer in_a.known in_b.known in
+    let one = set_stays g h carried a in_a in
+    let other = set_stays g h carried b in_b in
+    record {
+      known = is.known;
+      reads = λ v w same.
+          is.meaning v ∙ (λ i. one.reads v w same i || other.reads v w same i) ∙ sym (is.meaning w);
+    }

@@ -68,16 +68,20 @@ target z zero = z.region
 target z (suc k) = before z (suc k)
 
 -- ---- as ids
+-- what the ids of a ranked set mean
+abbrev pub rank_in : GameData → RankSet → Rank
+rank_in g r = record {
+  set = means g.diagrams.table r.set;
+  fair = means g.diagrams.table (id_in g.fairs r.fair);
+}
+
 -- what ids of a game mean as a zoning
 abbrev pub zoning_of : GameData → NodeId → List RankSet → ℕ → Zoning
 zoning_of g region ranks goal = record {
   region = means g.diagrams.table region;
   turn = means g.diagrams.table g.turn;
   goal = means g.diagrams.table (id_in g.goals goal);
-  ranks = map (λ (r : RankSet). record {
-    set = means g.diagrams.table r.set;
-    fair = means g.diagrams.table (id_in g.fairs r.fair);
-  }) ranks;
+  ranks = map (rank_in g) ranks;
 }
 
 -- ids of a game mean the parts of a zoning

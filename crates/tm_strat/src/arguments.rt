@@ -44,7 +44,8 @@ fn constant(bits: u64, first: u8, width: u8) -> u64
 {
     let mut number: u64 = 0;
     for index in 0..width {
-        number = number * 2 + u64::from(bit_at(bits, first + index));
+        let here = bit_at(bits, first + index);
+        number = number * 2 + u64::from(here);
     }
     number
 }
@@ -53,5 +54,8 @@ fn constant(bits: u64, first: u8, width: u8) -> u64
 fn bit_at(bits: u64, place: u8) -> bool
     ensures { result ≡ bit_in bits place }
 {
-    place < 64 && (bits >> (63 - place)) & 1 == 1
+    if place >= 64 {
+        return false;
+    }
+    (bits >> (63 - place)) & 1 == 1
 }

@@ -1,5 +1,5 @@
 //! Where moves are good for the ranked sets of a solution.
-ghost use Rattle.std.specs.Prelude.{◌≡◌, ◌≤◌, ◌<◌, ◌+◌, ◌∷◌, ◌&&◌, [], ℕ, true, false, not, suc, IfOk, OnOk, length};
+ghost use Rattle.std.specs.Prelude.{◌≡◌, ◌≤◌, ◌<◌, ◌+◌, ◌∷◌, ◌&&◌, [], ℕ, true, false, not, suc, IfOk, OnOk, length, Some, slice_get};
 ghost use Rattle.tm_dd.specs.Table.{Table};
 ghost use Rattle.tm_dd.specs.declared.node.TheConstants.{FALSE as NOTHING};
 ghost use Rattle.tm_ddops.specs.Manager.{IsFunction};
@@ -162,7 +162,8 @@ fn targets(
     let mut targets = Vec::new(alloc);
     targets.push(region)?;
     let mut within = FALSE;
-    for rank in ranks {
+    for index in 0..ranks.len() {
+        let rank = rank_in(ranks, index);
         within = either(game, within, rank.set)?;
         targets.push(within)?;
     }
@@ -216,8 +217,9 @@ fn waits(
 {
     let mut waits = Vec::new(alloc);
     let mut before = FALSE;
-    for rank in ranks {
-        let states = new_states(game, failing, before, *rank)?;
+    for index in 0..ranks.len() {
+        let rank = rank_in(ranks, index);
+        let states = new_states(game, failing, before, rank)?;
         waits.push(states)?;
         before = either(game, before, rank.set)?;
     }
@@ -257,8 +259,9 @@ fn push_zones(
         → AreZones game.new.diagrams.table z (suc (length waits.now)) zones.new.items) }
 {
     for index in 0..waits.len() {
+        let new = states_in(waits, index);
         let falling = falling_to(waits, index);
-        let states = either(game, waits[index].waiting, falling)?;
+        let states = either(game, new.waiting, falling)?;
         zones.push(states)?;
     }
     Ok(())
@@ -271,10 +274,26 @@ fn falling_to(waits: &[NewStates], index: usize) -> NodeId
         → IsFunction t result (falling z (suc index)) }
 {
     if index + 1 < waits.len() {
-        waits[index + 1].falling
-    } else {
-        FALSE
+        let next = states_in(waits, index + 1);
+        return next.falling;
     }
+    FALSE
+}
+
+// The new states of the rank of a number.
+fn states_in(waits: &[NewStates], index: usize) -> NewStates
+    requires { index < length waits.now }
+    ensures { slice_get waits.now index ≡ Some result }
+{
+    waits[index]
+}
+
+// The ranked set of a number.
+fn rank_in(ranks: &[RankSet], index: usize) -> RankSet
+    requires { index < length ranks.now }
+    ensures { slice_get ranks.now index ≡ Some result }
+{
+    ranks[index]
 }
 
 /// The id of a number in a list, or `FALSE` where there is none.

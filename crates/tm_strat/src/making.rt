@@ -1,6 +1,6 @@
 //! A driver's blocks from the solution of a game.
 ghost use Rattle.std.specs.List.{range_with_len};
-ghost use Rattle.std.specs.Prelude.{◌≡◌, ◌+◌, ◌<◌, ◌≤◌, ◌^◌, ℕ, IfOk, List, None, Some, length};
+ghost use Rattle.std.specs.Prelude.{◌≡◌, ◌+◌, ◌<◌, ◌≤◌, ◌^◌, ℕ, true, IfOk, List, length, map};
 ghost use Rattle.tm_check.specs.Reads.{IsSized};
 ghost use Rattle.tm_cir.specs.Answer.{Answers};
 ghost use Rattle.tm_cir.specs.Fit.{FitBlocks};
@@ -10,18 +10,19 @@ ghost use Rattle.tm_flat.specs.Inputs.{room};
 ghost use Rattle.tm_game.specs.Game.{Grows, IsOf};
 ghost use Rattle.tm_dd.specs.declared.node.NodeId.{NodeId};
 ghost use Rattle.tm_game.specs.declared.moves.MoveShape.{MoveShape};
-ghost use Rattle.tm_sem.specs.Certificates.{MeetsDriver, MeetsMoveForm};
+ghost use Rattle.tm_sem.specs.Certificates.{DriverSets, MeetsDriver, MeetsMoveForm};
 ghost use Rattle.tm_solve.specs.declared.iterates.RankSet.{RankSet};
 ghost use Rattle.tm_solve.specs.Iterates as solution;
 ghost use Rattle.tm_solve.specs.Iterates.{KnowsAll};
 ghost use Rattle.tm_solve_exact.specs.Exact.{IsExactOf, exact_ids};
 ghost use Rattle.tm_strat.specs.Choice.{IsChoice};
-ghost use Rattle.tm_strat.specs.Chosen.{AreChosen, AreCounted};
+ghost use Rattle.tm_strat.specs.Chosen.{AreChosen, AreNumbered};
 ghost use Rattle.tm_strat.specs.Fitting.{FitsCounts};
 ghost use Rattle.tm_strat.specs.Goods.{AreGoodMoves, IsGoodFor};
-ghost use Rattle.tm_strat.specs.Meeting.{CanCall};
+ghost use Rattle.tm_strat.specs.Meeting.{CanCall, Serves};
 ghost use Rattle.tm_strat.specs.Prepared.{AreShapesOf, AreWidthsOf, IsPrepared};
 ghost use Rattle.tm_strat.specs.Served.{AreGivenFor, AreMadeFor, IsMadeFor, candidate_trees};
+ghost use Rattle.tm_strat.specs.Spelled.{draft_tree};
 ghost use Rattle.tm_strat.specs.Targets.{AreSetsOf};
 ghost use Rattle.tm_strat.specs.Zoned.{AreArgumentLevels};
 ghost use Rattle.tm_strat_drafts.specs.Blocks.{AreLater};
@@ -79,6 +80,8 @@ pub fn driver(
         → MeetsDriver (design_tree design.now) (Answers (trees_of made.blocks))
         (solution.driver_sets (exact_ids game) iterates.now)) }
 {
+    tell(&game);
+    let _turn = game.turn();
     let prepared = prepare(alloc, &mut game, design, iterates)?;
     let made = build(alloc, game, design, prepared)?;
     Ok(made)
@@ -271,6 +274,9 @@ fn build(
     requires choice { IsChoice game prepared.tests.holds.items prepared.goals.items }
     ensures grows { IfOk result (λ made. Carried game made.game) }
     ensures fits { IfOk result (λ made. FitBlocks (design_tree design.now) (trees_of made.blocks)) }
+    ensures meets { IfOk result (λ made. (c : DriverSets) → Serves (design_tree design.now) c game prepared.spelling
+        prepared.tests.holds.items prepared.goals.items → MeetsMoveForm (design_tree design.now) c
+        → MeetsDriver (design_tree design.now) (Answers (trees_of made.blocks)) c) }
 {
     let Prepared {
         spelling,
@@ -309,6 +315,8 @@ fn spelled_driver(
     requires later { (tests : ℕ) × AreLater tests drafted.made.items }
     ensures grows { IfOk result (λ made. Carried drafted.game made.game) }
     ensures fits { IfOk result (λ made. FitBlocks (design_tree design.now) (trees_of made.blocks)) }
+    ensures trees { IfOk result (λ made. trees_of made.blocks
+        ≡ map (draft_tree (design_tree design.now) spelling.now) drafted.made.items) }
 {
     let list = spelled(alloc, design, spelling, &drafted.made)?;
     let blocks = fitting(design, list);
@@ -321,7 +329,7 @@ fn spelled_driver(
 // Drafted blocks over so many tests of states.
 fn make_drafts(alloc: Global, mut choosing: Choosing, states: u32) -> Result<Drafted, AllocError>
     ensures good { IfOk result (λ drafted. AreChosen choosing.game choosing.tests.holds.items choosing.goals.items
-        states drafted.made.items) }
+        drafted.made.items) }
     ensures grows { IfOk result (λ drafted. Carried choosing.game drafted.game) }
     ensures later { IfOk result (λ drafted. (tests : ℕ) × AreLater tests drafted.made.items) }
 {
@@ -332,8 +340,8 @@ fn make_drafts(alloc: Global, mut choosing: Choosing, states: u32) -> Result<Dra
     })
 }
 
-// Drafted blocks over so many tests of states; where there is no goal, or there are too many tests for 32 bits, one
-// that idles.
+// Drafted blocks over so many tests of states, or one that idles where there is no goal. More tests and goals than 32 bits
+// number are want of memory, as more blocks are.
 fn drafted_blocks(
     alloc: Global,
     choosing: &mut Choosing,
@@ -342,31 +350,30 @@ fn drafted_blocks(
     ensures grows { Carried choosing.old.game choosing.new.game }
     ensures later { IfOk result (λ bs. (tests : ℕ) × AreLater tests bs.items) }
     ensures good { IfOk result (λ bs. AreChosen choosing.old.game choosing.old.tests.holds.items
-        choosing.old.goals.items states bs.items) }
+        choosing.old.goals.items bs.items) }
 {
-    let counted = counted_goals(choosing, states);
-    match counted {
-        None => idle_block(alloc),
-        Some(goals) => {
-            let blocks = strategies(alloc, choosing, states, goals)?;
-            Ok(blocks)
-        }
+    if choosing.goals.is_empty() {
+        return idle_block(alloc);
     }
+    let goals = narrow(choosing.goals.len());
+    if !are_numbered(choosing, states, goals) {
+        return Err(AllocError);
+    }
+    let blocks = strategies(alloc, choosing, states, goals)?;
+    Ok(blocks)
 }
 
-// How many goals there are, where there is one, so many tests of states are there, and 32 bits number all tests.
-fn counted_goals(choosing: &Choosing, states: u32) -> Option<u32>
-    ensures some { (n : ℕ) → result ≡ Some n → AreCounted states (length choosing.now.tests.holds.items)
-        (length choosing.now.goals.items) × (n ≡ length choosing.now.goals.items) }
-    ensures none { result ≡ None → ¬ AreCounted states (length choosing.now.tests.holds.items)
-        (length choosing.now.goals.items) }
+// Whether so many tests of states and goals are all that there are, and 32 bits number both.
+fn are_numbered(choosing: &Choosing, states: u32, goals: u32) -> bool
+    ensures { result ≡ true → AreNumbered choosing.now.tests.holds.items choosing.now.goals.items states goals }
 {
-    let goals = choosing.goals.len();
-    let tests = choosing.tests.holds.len();
-    if goals == 0 || tests != states as usize || goals > (u32::MAX - states) as usize {
-        return None;
+    if choosing.tests.holds.len() != states as usize {
+        return false;
     }
-    Some(goals as u32)
+    if choosing.goals.len() != goals as usize {
+        return false;
+    }
+    goals <= u32::MAX - states
 }
 
 // One block, which idles.
