@@ -2,7 +2,7 @@
 use Rattle.std.proofs.Common.{◌≡◌, ◌⊎◌, inl, inr, true, false, ℕ, zero, suc, ◌+◌, ◌<◌, List, [], ◌∷◌, ◌++◌, Option, None, Some, length, map, get_or, slice_get, take, refl, sym, ap, ◌∙◌, subst, arith}
 use Rattle.tm_check.proofs.Pushed.{pushed_at}
 use Rattle.std.specs.Prelude.{◌↔◌, ◌≤◌, All, IfSome, IsSome}
-use Rattle.std.proofs.lemmas.List.{length_push, map-append, take_all, take_more}
+use Rattle.std.proofs.lemmas.List.{length_push, map-append, take_more}
 use Rattle.std.proofs.lemmas.List.Elements.{All-append}
 use Rattle.std.proofs.lemmas.Option.{slice_get_within}
 use Rattle.tm_cir.specs.declared.block.Block.{Block}
@@ -256,7 +256,3 @@ trees_more c es k e nums more num before here below is items =
     ∙ sym (map-append (expression_tree c) (take k es) (e ∷ []))
     ∙ ap (λ (x : Expression). map (expression_tree c) (take k es ++ x ∷ [])) is
     ∙ ap (map (expression_tree c)) (sym (take_more es k e below))
-
-pub all_taken : (c : Counts) (es : List Expression) (k : ℕ) → k ≡ length es →
-    map (expression_tree c) (take k es) ≡ map (expression_tree c) es
-all_taken c es k is = ap (λ (n : ℕ). map (expression_tree c) (take n es)) is ∙ ap (map (expression_tree c)) (take_all es)

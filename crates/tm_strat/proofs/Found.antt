@@ -1,5 +1,5 @@
 -- The good moves of a goal, as they were found.
-use Rattle.std.proofs.Common.{◌≡◌, ℕ, List, length, sym, subst}
+use Rattle.std.proofs.Common.{◌≡◌, ℕ, true, List, length, sym, subst}
 use Rattle.tm_dd.specs.declared.node.NodeId.{NodeId}
 use Rattle.tm_game.specs.Game.{GameData, Grows, IsSet, IsStates}
 use Rattle.tm_game.specs.declared.moves.MoveShape.{MoveShape}

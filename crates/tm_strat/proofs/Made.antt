@@ -111,6 +111,7 @@ module _ (d : DesignTree) (g h : GameData) (is : IsExactOf d g) (grows : Grows g
       (made : IsGoodFor d g region ranks j shapes good) → m.pairs.items ≡ good.pairs.items → m.care ≡ good.care →
       AreServed d h made.zones made.targets blocks m.candidates.items (length blocks) →
       IsMadeFor d h region ranks j shapes blocks m
+  unfolding good_kept
   move_made region ranks j shapes blocks good m made pairs care served =
       let now = good_kept region ranks j shapes good made in
       record {

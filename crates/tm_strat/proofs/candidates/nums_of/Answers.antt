@@ -1,17 +1,22 @@
-use Rattle.std.proofs.Common.{◌∙◌, arith}
-use Rattle.tm_strat.proofs.Fitted.{all_taken, nums_more, trees_more}
+use Rattle.std.proofs.Common.{map, ap, ◌∙◌}
+use Rattle.std.proofs.lemmas.List.{get_or_default, take_all}
+use Rattle.tm_strat.proofs.Fitted.{nums_more, trees_more}
+use Rattle.tm_strat.specs.Trees.{expression_tree}
 use Rattle.tm_strat.proofs.candidates.nums_of.Goals as goal
 
 pub loop-argument-preserved : goal.loop-argument-preserved
 loop-argument-preserved c = (
   nums_more c.args.counts.vars c.args.counts.processes c.loop-argument.nums.items c.push.new.self.items
       c.in_ok-num.num c.loop-argument.invariant.0 c.in_ok-num.ensures.fits c.in_ok-push.ensures.items,
-  grind (arith, trees_more),
+  trees_more c.args.counts c.args.arguments.now c.loop-argument.argument-index _ c.loop-argument.nums.items
+      c.push.new.self.items c.in_ok-num.num c.loop-argument.invariant.1 c.in_ok-num.ensures.tree
+      c.loop-argument-test.true
+      (get_or_default c.args.arguments.now c.loop-argument.argument-index _ _ c.loop-argument-test.true)
+      c.in_ok-push.ensures.items,
 )
 
 pub returns-clause-trees : goal.returns-clause-trees
 returns-clause-trees c =
-    let ends = c.loop-argument.auto.argument-index-end in
-    let last = c.loop-argument-test.false in
     c.loop-argument.invariant.1
-    ∙ all_taken c.args.counts c.args.arguments.now c.loop-argument.argument-index (omega (arith, ends, last))
+    ∙ ap (map (expression_tree c.args.counts))
+    (take_all c.loop-argument.argument-index c.args.arguments.now c.loop-argument-test.false)

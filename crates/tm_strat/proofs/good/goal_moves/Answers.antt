@@ -1,4 +1,4 @@
-use Rattle.std.proofs.Common.{List, length, sym, ap, ◌∙◌, subst}
+use Rattle.std.proofs.Common.{ℕ, List, length, sym, ap, ◌∙◌, subst}
 use Rattle.std.specs.List.{range_with_len}
 use Rattle.tm_dd.specs.declared.node.NodeId.{NodeId}
 use Rattle.tm_flat.specs.Inputs.{room}
@@ -56,3 +56,14 @@ returns-clause-good c = λ d is.
     (c.turn-turn.ensures.states d is.ordered.of)) c.requires.region c.requires.ranks
     c.in_ok-states.ensures.are c.in_ok-ends.ensures.are c.in_ok-ends.ensures.sets)
     c.args.shapes.now c.in_ok-good.good (c.in_ok-good.ensures.pairs d) (c.in_ok-good.ensures.care d)
+
+pub returns-in_err-ends-clause-grows : goal.returns-in_err-ends-clause-grows
+returns-in_err-ends-clause-grows c = λ base b. c.targets.ensures.grows base (c.zones.ensures.grows base b)
+
+pub returns-in_err-good-clause-grows : goal.returns-in_err-good-clause-grows
+returns-in_err-good-clause-grows c =
+    λ base b. c.moves_of.ensures.grows base (c.targets.ensures.grows base (c.zones.ensures.grows base b))
+
+pub returns-clause-grows : goal.returns-clause-grows
+returns-clause-grows c =
+    λ base b. c.moves_of.ensures.grows base (c.targets.ensures.grows base (c.zones.ensures.grows base b))

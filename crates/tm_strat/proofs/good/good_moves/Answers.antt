@@ -72,3 +72,11 @@ returns-clause-count c =
 
 pub returns-clause-good : goal.returns-clause-good
 returns-clause-good c = c.loop-goal.invariant.good
+
+pub returns-in_err-good-clause-grows : goal.returns-in_err-good-clause-grows
+returns-in_err-good-clause-grows c =
+    λ base b. c.goal_moves.ensures.grows base (c.loop-goal.invariant.grows base b)
+
+pub returns-in_err-push-clause-grows : goal.returns-in_err-push-clause-grows
+returns-in_err-push-clause-grows c =
+    λ base b. c.goal_moves.ensures.grows base (c.loop-goal.invariant.grows base b)

@@ -13,10 +13,7 @@ loop-index-preserved c = ?
 
 pub returns : goal.returns
 returns c =
-    let ends = c.loop-index.auto.index-end in
-    let last = c.loop-index-test.false in
-    let all : c.loop-index.index ≡ length c.as_slice-rows.result.now = omega (arith, ends, last) in
     c.loop-index.invariant
-    ∙ ap (λ (n : ℕ). map (λ (row : Vec ℕ Global). row.items) (take n c.as_slice-rows.result.now)) all
-    ∙ ap (map (λ (row : Vec ℕ Global). row.items)) (take_all c.as_slice-rows.result.now ∙ c.as_slice-rows.ensures.value)
+    ∙ ap (map (λ (row : Vec ℕ Global). row.items))
+    (take_all c.loop-index.index c.as_slice-rows.result.now c.loop-index-test.false ∙ c.as_slice-rows.ensures.value)
     ∙ ap (λ (f : FlatTerms). f.parameters) c.flat.ensures

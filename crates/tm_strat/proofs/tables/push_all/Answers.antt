@@ -38,9 +38,6 @@ returns-clause-sets c = c.loop-index.invariant.sets
 
 pub returns-clause-there : goal.returns-clause-there
 returns-clause-there c =
-    let ends = c.loop-index.auto.index-end in
-    let last = c.loop-index-test.false in
-    let all : c.loop-index.index ≡ length c.args.all.now = omega (arith, ends, last) in
     c.loop-index.invariant.pushed
-    ∙ ap (λ (n : ℕ). c.args.tests.now.predicates.items ++ take n c.args.all.now) all
-    ∙ ap (λ (l : List Predicate). c.args.tests.now.predicates.items ++ l) (take_all c.args.all.now)
+    ∙ ap (λ (l : List Predicate). c.args.tests.now.predicates.items ++ l)
+    (take_all c.loop-index.index c.args.all.now c.loop-index-test.false)

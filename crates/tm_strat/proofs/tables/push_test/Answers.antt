@@ -3,8 +3,8 @@ use Rattle.tm_strat.proofs.Carrying.{grown}
 use Rattle.tm_strat.proofs.Testing.{sets_kept, test_of_kept}
 use Rattle.tm_strat.proofs.tables.push_test.Goals as goal
 
-pub returns-then-is_new-clause-sets : goal.returns-then-is_new-clause-sets
-returns-then-is_new-clause-sets c = λ d e is test_is sets.
+pub returns-then-not-is_new-clause-sets : goal.returns-then-not-is_new-clause-sets
+returns-then-not-is_new-clause-sets c = λ d e is test_is sets.
     sets_kept d c.args.game.now c.tells_apart.new.game is
     (grown c.args.game.now c.tells_apart.new.game c.tells_apart.ensures) e c.args.tests.now.predicates.items
     c.args.tests.now.holds.items sets

@@ -18,8 +18,5 @@ loop-index-preserved c = λ few.
 
 pub returns : goal.returns
 returns c = λ few.
-    let ends = c.loop-index.auto.index-end in
-    let last = c.loop-index-test.false in
-    let all : c.loop-index.index ≡ length c.args.widths.now = omega (arith, ends, last) in
     subst (λ (l : List ℕ). AreAllBits c.args.counts l c.loop-index.found.items)
-    (ap (λ (n : ℕ). take n c.args.widths.now) all ∙ take_all c.args.widths.now) (c.loop-index.invariant few)
+    (take_all c.loop-index.index c.args.widths.now c.loop-index-test.false) (c.loop-index.invariant few)
