@@ -70,7 +70,7 @@ lowered_value : (s : StateData) (n : NumTree) (k : ℕ) → k < 64 →
     num_value s 0 (lowered_tree n k) ≡ num_value s 0 n / 2 ^ k
 lowered_value s n zero below = sym (div-one (num_value s 0 n))
 lowered_value s n (suc k) below =
-    let small : nat_le 64 (suc k) ≡ false = grind (arith, nat_tests, below) in
+    let small : ((suc k == 0) || nat_le 64 (suc k)) ≡ false = grind (arith, nat_tests, below) in
     ap (λ (b : Bool). num_value s 0 (if b then n else shift Right n (suc k))) small
 
 module _ (c : Counts) (s : StateData) (vars : length s.values ≡ c.vars) (processes : length s.places ≡ c.processes)
@@ -82,7 +82,9 @@ module _ (c : Counts) (s : StateData) (vars : length s.values ≡ c.vars) (proce
       ap (λ (b : Bool). num_value s 0 (number_tree c (if b then numbers.Variable i
       else (if nat_lt (i - c.vars) c.processes then numbers.Location (i - c.vars) else numbers.Last)))) low
       ∙ ap (λ (b : Bool). num_value s 0 (if b then var i else constant 0)) low
-      ∙ sym (get_or_append_left s.values (s.places ++ s.last ∷ []) 0 i (omega (arith, below, vars)))
+      ∙ sym (get_or_append_left s.values s.places 0 i (omega (arith, below, vars)))
+      ∙ sym (get_or_append_left (s.values ++ s.places) (s.last ∷ []) 0 i
+      (omega (arith, below, vars, length-append s.values s.places)))
 
   location_value : (i : ℕ) → c.vars ≤ i → i - c.vars < c.processes →
       num_value s 0 (number_tree c (number_in c i)) ≡ get_or (state_numbers s) i 0
@@ -94,22 +96,22 @@ module _ (c : Counts) (s : StateData) (vars : length s.values ≡ c.vars) (proce
       else (if nat_lt (i - c.vars) c.processes then numbers.Location (i - c.vars) else numbers.Last)))) high
       ∙ ap (λ (b : Bool). num_value s 0 (number_tree c (if b then numbers.Location (i - c.vars) else numbers.Last))) low
       ∙ ap (λ (b : Bool). num_value s 0 (if b then location (i - c.vars) else constant 0)) low
-      ∙ sym (get_or_append_left s.places (s.last ∷ []) 0 (i - c.vars) (omega (arith, below, processes)))
-      ∙ sym (get_or-append-add s.values (s.places ++ s.last ∷ []) (i - c.vars) 0)
-      ∙ ap (λ (k : ℕ). get_or (state_numbers s) k 0) place
+      ∙ sym (get_or-append-add s.values s.places (i - c.vars) 0)
+      ∙ ap (λ (k : ℕ). get_or (s.values ++ s.places) k 0) place
+      ∙ sym (get_or_append_left (s.values ++ s.places) (s.last ∷ []) 0 i
+      (omega (arith, above, below, vars, processes, length-append s.values s.places)))
 
   last_value : (i : ℕ) → i ≡ c.vars + c.processes →
       num_value s 0 (number_tree c (number_in c i)) ≡ get_or (state_numbers s) i 0
   last_value i is =
       let high : nat_lt i c.vars ≡ false = grind (arith, nat_tests, is) in
       let past : nat_lt (i - c.vars) c.processes ≡ false = grind (arith, nat_tests, is) in
-      let place : length s.values + length s.places ≡ i = omega (arith, vars, processes, is) in
+      let place : length (s.values ++ s.places) ≡ i =
+      omega (arith, vars, processes, is, length-append s.values s.places) in
       ap (λ (b : Bool). num_value s 0 (number_tree c (if b then numbers.Variable i
       else (if nat_lt (i - c.vars) c.processes then numbers.Location (i - c.vars) else numbers.Last)))) high
       ∙ ap (λ (b : Bool). num_value s 0 (number_tree c (if b then numbers.Location (i - c.vars) else numbers.Last))) past
-      ∙ sym (get_or_at s.places s.last [] 0 (length s.places) refl)
-      ∙ sym (get_or-append-add s.values (s.places ++ s.last ∷ []) (length s.places) 0)
-      ∙ ap (λ (k : ℕ). get_or (state_numbers s) k 0) place
+      ∙ sym (get_or_at (s.values ++ s.places) s.last [] 0 i place)
 
   number_value : (i : ℕ) → i < c.vars + (c.processes + 1) →
       num_value s 0 (number_tree c (number_in c i)) ≡ get_or (state_numbers s) i 0
@@ -140,11 +142,11 @@ module _ (c : Counts) (s : StateData) (vars : length s.values ≡ c.vars) (proce
 
 -- ---- states
 values_long : (d : DesignTree) (s : StateData) → IsState d s → length s.values ≡ length d.vars
-values_long d s state = sym (AllZip-long (λ (v : Var) n. n < type_size d.spec v.ty) d.vars s.values state.values)
+values_long d s state = AllZip-long (λ (v : Var) n. n < type_size d.spec v.ty) d.vars s.values state.values
 
 places_long : (d : DesignTree) (s : StateData) → IsState d s → length s.places ≡ length d.processes
 places_long d s state =
-    sym (AllZip-long (λ p k. k ≤ end_number d p) (range_with_len 0 (length d.processes)) s.places state.places)
+    AllZip-long (λ p k. k ≤ end_number d p) (range_with_len 0 (length d.processes)) s.places state.places
     ∙ length-range_with_len 0 (length d.processes)
 
 numbers_long : (d : DesignTree) (s : StateData) → IsState d s →
@@ -152,7 +154,13 @@ numbers_long : (d : DesignTree) (s : StateData) → IsState d s →
 numbers_long d s state =
     let values = values_long d s state in
     let places = places_long d s state in
-    omega (arith, values, places, length-append s.values (s.places ++ s.last ∷ []), length-append s.places (s.last ∷ []))
+    omega (
+      arith,
+      values,
+      places,
+      length-append (s.values ++ s.places) (s.last ∷ []),
+      length-append s.values s.places,
+    )
 
 module _ (d : DesignTree) (g : GameData) (is : IsExactOf d g) (c : Counts) (fits : FitsCounts d c)
     (predicates : List Predicate) (tests : List NodeId) (sets : AreTestSets d g c predicates tests)

@@ -136,14 +136,14 @@ trees_pushed d c shapes candidates k x list more b before below this is items =
 
 pub trees_ended : (d : DesignTree) (c : Counts) (shapes : List MoveShape) (candidates : List Candidate) (k : ℕ)
     (list more : List Block) (b : Block) → block_trees list ≡ candidate_trees d c shapes (take k candidates) →
-    k ≡ length candidates → block_tree b ≡ idle → more ≡ list ++ b ∷ [] →
+    length candidates ≤ k → block_tree b ≡ idle → more ≡ list ++ b ∷ [] →
     block_trees more ≡ candidate_trees d c shapes candidates ++ idle ∷ []
 trees_ended d c shapes candidates k list more b before all is items =
     ap block_trees items
     ∙ map-append block_tree list (b ∷ [])
     ∙ (λ i. before i ++ is i ∷ [])
     ∙ ap (λ (l : List Candidate). candidate_trees d c shapes l ++ idle ∷ [])
-    (ap (λ (n : ℕ). take n candidates) all ∙ take_all candidates)
+    (take_all k candidates all)
 
 -- those of the candidates among them
 pub given_among : (d : DesignTree) (g : GameData) (c : Counts) (shapes : List MoveShape) (candidates : List Candidate)

@@ -6,8 +6,11 @@ mod Chosen
 mod Constants
 mod Distinct
 mod Fitted
+mod Found
 mod Gathering
 mod Giving
+mod Levels
+mod Rows
 mod Goods
 mod Made
 mod Meeting
@@ -22,6 +25,7 @@ mod MeetingZones
 mod Parts
 mod Prepared
 mod Serving
+mod Shaped
 mod StateWidths
 mod Testing
 mod Written

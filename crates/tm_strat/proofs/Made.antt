@@ -28,12 +28,14 @@ use Rattle.tm_strat.proofs.ZonePairs.{in_set_kept}
 use Rattle.tm_strat.proofs.ZoneSets.{zoned_kept}
 use Rattle.tm_strat.specs.Choice.{id_in}
 use Rattle.tm_strat.specs.Goods.{AreGoodMoves, IsGoodFor, ranks_in}
-use Rattle.tm_strat.specs.Served.{AreGivenFor, AreMadeFor, AreServed, IsGivenFor, IsGivenMove, IsMadeFor, IsServed, ServesFrom, ServesOne}
+use Rattle.tm_strat.specs.Served.{AreGivenFor, AreMadeFor, AreServed, IsGivenFor, IsGivenMove, IsMadeFor, IsServed, ServesFrom, ServesOne, candidate_trees}
 use Rattle.tm_strat.specs.Targets.{AreSets}
 use Rattle.tm_strat.specs.Trees.{shape_in}
 use Rattle.tm_strat.specs.Zoned.{AreShapePairs, AreZonePairs}
+use Rattle.tm_strat.specs.declared.candidates.Candidate.{Candidate}
 use Rattle.tm_strat.specs.declared.choosing.GoalMoves.{GoalMoves}
 use Rattle.tm_strat.specs.declared.good.GoodMoves.{GoodMoves}
+use Rattle.tm_strat.specs.declared.numbers.Counts.{Counts}
 use Rattle.tm_strat.specs.declared.reading.Given.{Given}
 use Rattle.tm_syntax.specs.Design.{DesignTree}
 
@@ -109,6 +111,7 @@ module _ (d : DesignTree) (g h : GameData) (is : IsExactOf d g) (grows : Grows g
       (made : IsGoodFor d g region ranks j shapes good) → m.pairs.items ≡ good.pairs.items → m.care ≡ good.care →
       AreServed d h made.zones made.targets blocks m.candidates.items (length blocks) →
       IsMadeFor d h region ranks j shapes blocks m
+  unfolding good_kept
   move_made region ranks j shapes blocks good m made pairs care served =
       let now = good_kept region ranks j shapes good made in
       record {
@@ -258,3 +261,39 @@ serves_one d g h grows zones targets shapes blocks pairs given from of k b x blo
       (are_pairs d g from.of zones targets shapes pairs from.are x.shape).known;
   given = given_kept d g h from.of grows shapes b x (from.given_are.each k b x block there);
 }
+
+-- the states that are served, from the good moves of a goal and arguments
+pub served_of : (d : DesignTree) (g h : GameData) (region : NodeId) (ranks : List RankSet) (j : ℕ)
+    (shapes : List MoveShape) (blocks : List BlockTree) (good : GoodMoves) →
+    (made : IsGoodFor d g region ranks j shapes good) → IsExactOf d g → (given : List Given) →
+    AreGivenFor d g shapes blocks given (length blocks) → (pairs : List NodeId) → pairs ≡ good.pairs.items →
+    (ids : List NodeId) →
+    (ServesFrom d g made.zones made.targets shapes blocks pairs given →
+    AreServed d h made.zones made.targets blocks ids (length given)) →
+    AreServed d h made.zones made.targets blocks ids (length blocks)
+served_of d g h region ranks j shapes blocks good made is given are pairs same ids served =
+    subst (AreServed d h made.zones made.targets blocks ids) are.count_is
+    (served (record {
+      of = is;
+      zone_sets = made.zoned.zone_sets;
+      target_sets = made.zoned.target_sets;
+      are = subst (λ (l : List NodeId).
+          AreShapePairs d g made.zones made.targets g.diagrams.table shapes l (length shapes)) (sym same) made.pairs;
+      given_are = are;
+    }))
+
+-- what was made of lists under other names
+pub made_read : (d : DesignTree) (g : GameData) (it : Iterates) (c : Counts) (shapes others : List MoveShape)
+    (candidates more : List Candidate) (made : List GoalMoves) → others ≡ shapes → more ≡ candidates →
+    AreMadeFor d g it others (candidate_trees d c others more) made →
+    AreMadeFor d g it shapes (candidate_trees d c shapes candidates) made
+made_read d g it c shapes others candidates more made same items are =
+    subst (λ (l : List MoveShape). AreMadeFor d g it l (candidate_trees d c l candidates) made) same
+    (subst (λ (l : List Candidate). AreMadeFor d g it others (candidate_trees d c others l) made) items are)
+
+pub good_read : (d : DesignTree) (g : GameData) (it : Iterates) (shapes others : List MoveShape)
+    (goods more : List GoodMoves) → others ≡ shapes → more ≡ goods → AreGoodMoves d g it shapes goods →
+    AreGoodMoves d g it others more
+good_read d g it shapes others goods more same items are =
+    subst (λ (l : List MoveShape). AreGoodMoves d g it l more) (sym same)
+    (subst (λ (l : List GoodMoves). AreGoodMoves d g it shapes l) (sym items) are)

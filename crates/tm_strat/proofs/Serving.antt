@@ -154,14 +154,14 @@ module _ (d : DesignTree) (g m h : GameData) (to_m : Grows g m) (to_h : Grows m 
 
     was_good : (v : Assignment) (f : Bool) → means g.diagrams.table x.fits v ≡ f → GoodAt v →
         (means g.diagrams.table pairs (substituted g.diagrams.table x.parts.items v) && f) ≡ true
-    was_good v false no good = absurd (given.move.forbidden v no good.good.allowed)
-    was_good v true yes good =
+    was_good v false misfit good = absurd (given.move.forbidden v misfit good.good.allowed)
+    was_good v true fit good =
         let w = substituted g.diagrams.table x.parts.items v in
         and_both (means g.diagrams.table pairs w) true
         (are_pairs.all w (
           given.task,
           subst (λ (move : Move). IsZoneMove d g zones targets (length targets) (state_of d g.order w) move)
-              (sym (given.move.told v yes))
+              (sym (given.move.told v fit))
               (subst (λ (s : StateData).
               IsZoneMove d g zones targets (length targets) s (move_of 0 b (state_of d g.order v)))
               (sym (given.move.one_state v)) good),

@@ -83,6 +83,24 @@ tests_of_more d g h grows c tests ids more k p id are below this is items = reco
         subst (IsTestOf d h c q) (sym (id_last ids id more items j (omega (arith, count, same))))
         (subst (λ (x : Predicate). IsTestOf d h c x id) (some_same found) is)
 
+-- one of them, where the game has grown
+pub test_there : (d : DesignTree) (g h : GameData) → Grows g h → (c : Counts) (tests : List Predicate)
+    (ids : List NodeId) (count k : ℕ) (p : Predicate) (id : NodeId) → AreTestsOf d g c tests ids count → k < count →
+    k < length tests → id ≡ id_in ids k → IsTestOf d h c (get_or tests k p) id
+test_there d g h grows c tests ids count k p id are below within is =
+    subst (IsTestOf d h c (get_or tests k p)) (sym is)
+    (test_of_kept d g h grows c (get_or tests k p) (id_in ids k)
+    (are.each k (get_or tests k p) below (slice_get-get_or tests k p within)))
+
+-- the same of lists under other names
+pub tests_read : (d : DesignTree) (g h : GameData) → Grows g h → (c : Counts) (tests others : List Predicate)
+    (ids more : List NodeId) → others ≡ tests → more ≡ ids → AreTestsOf d g c tests ids (length tests) →
+    AreTestsOf d h c others more (length others)
+tests_read d g h grows c tests others ids more same ids_same are =
+    subst (λ (l : List Predicate). AreTestsOf d h c l more (length l)) (sym same)
+    (subst (λ (l : List NodeId). AreTestsOf d h c tests l (length tests)) (sym ids_same)
+    (tests_of_kept d g h grows c tests ids (length tests) are))
+
 -- the first reply of two blocks
 pub test_replied : (d : DesignTree) (g : GameData) (c : Counts) (p : Predicate) (bs : List BlockTree) (r : Replies)
     (list : List Reply) (id : NodeId) → bs ≡ test (predicate_tree c p) 1 1 ∷ idle ∷ [] → AreReplies d g 0 bs r →

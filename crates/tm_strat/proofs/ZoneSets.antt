@@ -18,7 +18,7 @@ use Rattle.tm_sem.specs.Fairness.{IsFair}
 use Rattle.tm_sem.specs.Play.{goal_holds}
 use Rattle.tm_solve.specs.declared.iterates.RankSet.{RankSet}
 use Rattle.tm_solve_exact.specs.Exact.{IsExactOf}
-use Rattle.tm_solve_exact.proofs.Growing.{states_set}
+use Rattle.tm_solve_exact.proofs.Growing.{kept_exact, states_set}
 use Rattle.tm_strat.proofs.Zoning.{targets_kept, zones_kept}
 use Rattle.tm_strat.specs.Choice.{id_in}
 use Rattle.tm_strat.specs.Goods.{AreZonesFor}
@@ -83,10 +83,10 @@ function_set g id f reads is = record {
 -- ---- the zoning of ids
 module _ (d : DesignTree) (g : GameData) (is : IsExactOf d g) (region : NodeId) (ranks : List RankSet) (j : ℕ)
     (turn_set : IsSet g g.turn) (in_region : IsSet g region) (in_ranks : HasSets g ranks) where
-  z : Zoning
+  abbrev z : Zoning
   z = zoning_of g region ranks j
 
-  rank_of : RankSet → Rank
+  abbrev rank_of : RankSet → Rank
   rank_of r = record {
     set = means g.diagrams.table r.set;
     fair = means g.diagrams.table (id_in g.fairs r.fair);
@@ -108,13 +108,11 @@ module _ (d : DesignTree) (g : GameData) (is : IsExactOf d g) (region : NodeId) 
         | inr past ↦ subst (IsSet g) (sym (get_or_past g.fairs k FALSE past)) (false_set g)
       ]
 
-  unfolding z rank_of
   rank_there : (k : ℕ) (r : RankSet) → slice_get ranks k ≡ Some r → rank_at z k ≡ rank_of r
   rank_there k r there =
       get_or-map rank_of ranks k r (record { set = nothing; fair = nothing }) (slice_get_within ranks k r there)
       ∙ ap rank_of (get_or_from_slice_get ranks k r r there)
 
-  unfolding z rank_of
   pub zoning_tells : Tells g region ranks j z
   zoning_tells = record {
     region_is = record { known = in_region.known; meaning = λ v. refl };
@@ -133,7 +131,6 @@ module _ (d : DesignTree) (g : GameData) (is : IsExactOf d g) (region : NodeId) 
 
   -- a rank reads the state, whether it is there or not
   rank_reads : (k : ℕ) → ReadsState (length g.order) (rank_at z k).set × ReadsState (length g.order) (rank_at z k).fair
-  unfolding z rank_of
   rank_reads k =
       elim (cases_lt k (length ranks)) as (λ _.
       ReadsState (length g.order) (rank_at z k).set × ReadsState (length g.order) (rank_at z k).fair) [
@@ -160,7 +157,6 @@ module _ (d : DesignTree) (g : GameData) (is : IsExactOf d g) (region : NodeId) 
           item (r ∷ rs) (suc m) low = item rs m (omega (arith, low))
 
   zoning_reads : ReadsZoning (length g.order) z
-  unfolding z rank_of
   zoning_reads = record {
     region = in_region.reads;
     turn = turn_set.reads;
@@ -183,14 +179,13 @@ module _ (d : DesignTree) (g : GameData) (is : IsExactOf d g) (region : NodeId) 
     means_same : (id : NodeId) → IsSet g id → means h.diagrams.table id ≡ means g.diagrams.table id
     means_same id set = means-Extends g.diagrams.table h.diagrams.table grows.diagrams id set.known
 
-    rank_now : RankSet → Rank
+    abbrev rank_now : RankSet → Rank
     rank_now r = record {
       set = means h.diagrams.table r.set;
       fair = means h.diagrams.table (id_in h.fairs r.fair);
     }
 
     ranks_same : (rs : List RankSet) → HasSets g rs → map rank_now rs ≡ map rank_of rs
-    unfolding rank_now rank_of
     ranks_same [] sets = refl
     ranks_same (r ∷ rs) sets =
         let set = means_same r.set (sets.each 0 r refl) in
@@ -200,7 +195,6 @@ module _ (d : DesignTree) (g : GameData) (is : IsExactOf d g) (region : NodeId) 
         λ i. (record { set = set i; fair = fair i }) ∷ others i
 
     pub zoning_same : zoning_of h region ranks j ≡ z
-    unfolding z rank_now rank_of
     zoning_same =
         let turn = ap (means h.diagrams.table) grows.turn ∙ means_same g.turn turn_set in
         let goal = ap (λ (l : List NodeId). means h.diagrams.table (id_in l j)) grows.goals
@@ -231,5 +225,54 @@ zoned_kept d g h is grows region ranks j zones targets are = record {
 }
   where
     same : zoning_of h region ranks j ≡ zoning_of g region ranks j
-    unfolding z
     same = zoning_same d g is region ranks j are.turn_set are.region_set are.rank_sets h grows
+
+-- zones that were found over g, when it had grown to m, and then targets, when it had grown to t
+pub zoned_made : (d : DesignTree) (g m t : GameData) → IsExactOf d g → Grows g m → Grows m t → (region : NodeId)
+    (ranks : List RankSet) (j : ℕ) (zones targets : List NodeId) → IsSet g g.turn → IsSet g region → HasSets g ranks →
+    ((w : Zoning) → Tells g region ranks j w → AreZones m.diagrams.table w (suc (length ranks)) zones) →
+    ((i : ℕ) (w : Zoning) → Tells m region ranks i w → AreTargets t.diagrams.table w (suc (length ranks)) targets) →
+    AreSets t targets → AreZonesFor t region ranks j zones targets
+zoned_made d g m t is to_m to_t region ranks j zones targets turn in_region in_ranks zones_of targets_of sets = record {
+  region_set = set_kept m t to_t region region_m;
+  rank_sets = ranks_in m t to_t ranks_m;
+  turn_set = turn_in m t to_t turn_m;
+  zone_sets = record { each = λ k id there. set_kept m t to_t id (zone_sets_m.each k id there) };
+  target_sets = sets;
+  zones_are = subst (λ (z : Zoning). AreZones t.diagrams.table z (suc (length ranks)) zones) (sym (same_m ∙ same_g))
+      (zones_kept m t (λ base b. grows_then base m t b to_t) (zoning_of g region ranks j) (suc (length ranks)) zones
+      found);
+  targets_are = subst (λ (z : Zoning). AreTargets t.diagrams.table z (suc (length ranks)) targets) (sym same_m)
+      (targets_of j (zoning_of m region ranks j)
+      (zoning_tells d m is_m region ranks j turn_m region_m ranks_m));
+}
+  where
+    is_m : IsExactOf d m
+    is_m = kept_exact d g is m to_m
+
+    region_m : IsSet m region
+    region_m = set_kept g m to_m region in_region
+
+    ranks_in : (a b : GameData) → Grows a b → HasSets a ranks → HasSets b ranks
+    ranks_in a b grows are = record { each = λ k r there. set_kept a b grows r.set (are.each k r there) }
+
+    turn_in : (a b : GameData) → Grows a b → IsSet a a.turn → IsSet b b.turn
+    turn_in a b grows set = subst (IsSet b) (sym grows.turn) (set_kept a b grows a.turn set)
+
+    ranks_m : HasSets m ranks
+    ranks_m = ranks_in g m to_m in_ranks
+
+    turn_m : IsSet m m.turn
+    turn_m = turn_in g m to_m turn
+
+    found : AreZones m.diagrams.table (zoning_of g region ranks j) (suc (length ranks)) zones
+    found = zones_of (zoning_of g region ranks j) (zoning_tells d g is region ranks j turn in_region in_ranks)
+
+    zone_sets_m : AreSets m zones
+    zone_sets_m = zone_sets d g is region ranks j turn in_region in_ranks m to_m zones (suc (length ranks)) found
+
+    same_g : zoning_of m region ranks j ≡ zoning_of g region ranks j
+    same_g = zoning_same d g is region ranks j turn in_region in_ranks m to_m
+
+    same_m : zoning_of t region ranks j ≡ zoning_of m region ranks j
+    same_m = zoning_same d m is_m region ranks j turn_m region_m ranks_m t to_t

@@ -1,11 +1,11 @@
 //! The tests of states that are tried, in C and as sets.
-ghost use Rattle.std.specs.Prelude.{◌≡◌, ◌++◌, ◌∷◌, [], IfOk};
+ghost use Rattle.std.specs.Prelude.{◌≡◌, ◌++◌, ◌∷◌, [], IfOk, length};
 ghost use Rattle.tm_check.specs.Reads.{IsSized};
 ghost use Rattle.tm_game.specs.Game.{IsOf};
 ghost use Rattle.tm_sem.specs.StateBits.{state_widths as design_widths};
 ghost use Rattle.tm_solve_exact.specs.Exact.{IsExactOf};
 ghost use Rattle.tm_strat.specs.Fitting.{FitsCounts};
-ghost use Rattle.tm_strat.specs.Tested.{AreTestSets, HasAllBits, IsTestOf};
+ghost use Rattle.tm_strat.specs.Tested.{AreTestSets, AreTestsOf, HasAllBits, IsTestOf};
 ghost use Rattle.tm_strat.specs.declared.numbers.Counts.{Counts as CountsData};
 ghost use Rattle.tm_strat_drafts.specs.Growth.{Carried};
 ghost use Rattle.tm_syntax.specs.Design.{DesignTree};
@@ -94,21 +94,34 @@ fn push_first(
     let all = predicates(alloc, game, design, counts)?;
     let holds = read_tests(alloc, design, game, counts, &all)?;
     let care = all_care(game, goods)?;
+    push_telling(alloc, game, tests, &all, &holds, care)?;
+    Ok(())
+}
+
+// Puts those of some tests behind others that tell states of a set apart.
+fn push_telling(
+    alloc: Global,
+    game: &mut Game,
+    tests: &mut Tests,
+    all: &[Predicate],
+    holds: &[NodeId],
+    care: NodeId,
+) -> Result<(), AllocError>
+    ensures grows { Carried game.old game.new }
+    ensures sets { IfOk result (λ done. (d : DesignTree) (c : CountsData) → IsExactOf d game.old
+        → AreTestsOf d game.old c all.now holds.now (length all.now)
+        → AreTestSets d game.old c tests.old.predicates.items tests.old.holds.items
+        → AreTestSets d game.new c tests.new.predicates.items tests.new.holds.items) }
+{
     let mut seen = IndexSet::new(alloc);
     for index in 0..all.len() {
-        push_test(
-            game,
-            tests,
-            &mut seen,
-            all[index],
-            id_at(&holds, index),
-            care,
-        )?;
+        let there = id_at(holds, index);
+        push_test(game, tests, &mut seen, all[index], there, care)?;
     }
     Ok(())
 }
 
-// Puts a test behind others where it tells states of a set apart that no earlier one tells apart alike.
+// Puts a test behind others where it tells states of a set apart as no earlier one does.
 fn push_test(
     game: &mut Game,
     tests: &mut Tests,
@@ -123,14 +136,30 @@ fn push_test(
         → AreTestSets d game.old c tests.old.predicates.items tests.old.holds.items
         → AreTestSets d game.new c tests.new.predicates.items tests.new.holds.items) }
 {
+    let is_new = tells_apart(game, seen, holds, care)?;
+    if !is_new {
+        return Ok(());
+    }
+    push_valid(game, tests, predicate, holds)?;
+    Ok(())
+}
+
+// Whether a test tells states of a set apart that no earlier one tells apart alike.
+fn tells_apart(
+    game: &mut Game,
+    seen: &mut IndexSet<NodeId>,
+    holds: NodeId,
+    care: NodeId,
+) -> Result<bool, AllocError>
+    ensures { Carried game.old game.new }
+{
     let here = both(game, holds, care)?;
     let others = rest(game, care, holds)?;
     if here == FALSE || others == FALSE || seen.contains(&here) || seen.contains(&others) {
-        return Ok(());
+        return Ok(false);
     }
     seen.insert(here)?;
-    push_valid(game, tests, predicate, holds)?;
-    Ok(())
+    Ok(true)
 }
 
 // Puts a test behind others, and the valid states at which it holds.
@@ -186,10 +215,29 @@ fn push_bits(
     let widths = state_widths(alloc, game, counts)?;
     let all = bits(alloc, &widths, counts)?;
     let holds = read_tests(alloc, design, game, counts, &all)?;
-    for index in 0..all.len() {
-        push_valid(game, tests, all[index], id_at(&holds, index))?;
-    }
+    push_all(game, tests, &all, &holds)?;
     Ok(last_of(&widths))
+}
+
+// Puts some tests behind others.
+fn push_all(
+    game: &mut Game,
+    tests: &mut Tests,
+    all: &[Predicate],
+    holds: &[NodeId],
+) -> Result<(), AllocError>
+    ensures grows { Carried game.old game.new }
+    ensures sets { IfOk result (λ done. (d : DesignTree) (c : CountsData) → IsExactOf d game.old
+        → AreTestsOf d game.old c all.now holds.now (length all.now)
+        → AreTestSets d game.old c tests.old.predicates.items tests.old.holds.items
+        → AreTestSets d game.new c tests.new.predicates.items tests.new.holds.items) }
+    ensures there { IfOk result (λ done. tests.new.predicates.items ≡ tests.old.predicates.items ++ all.now) }
+{
+    for index in 0..all.len() {
+        let there = id_at(holds, index);
+        push_valid(game, tests, all[index], there)?;
+    }
+    Ok(())
 }
 
 // The last of some widths.

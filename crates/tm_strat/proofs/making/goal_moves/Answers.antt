@@ -1,0 +1,44 @@
+use Rattle.std.proofs.Common.{ℕ, ◌+◌, List, length, sym, ap, ◌∙◌, subst, arith}
+use Rattle.std.proofs.lemmas.List.{length-map, length_push}
+use Rattle.std.proofs.lemmas.Option.{slice_get-get_or}
+use Rattle.tm_solve_exact.proofs.Growing.{kept_exact}
+use Rattle.tm_strat.proofs.Carrying.{grown}
+use Rattle.tm_strat.proofs.Made.{all_given_kept, all_good_kept, all_made_kept, made_more, made_none}
+use Rattle.tm_strat.specs.Goods.{ranks_in}
+use Rattle.tm_strat.specs.Served.{AreGivenFor, candidate_trees}
+use Rattle.tm_strat.specs.Trees.{candidate_tree}
+use Rattle.tm_strat.specs.declared.choosing.GoalMoves.{GoalMoves}
+use Rattle.tm_strat.specs.declared.reading.Given.{Given}
+use Rattle.tm_strat.proofs.making.goal_moves.Goals as goal
+use Rattle.tm_syntax.specs.Design.View.{design_tree}
+
+pub read_candidates-requires-clause-of : goal.read_candidates-requires-clause-of
+read_candidates-requires-clause-of c = c.requires.exact.ordered.of
+
+pub loop-index-init : goal.loop-index-init
+loop-index-init c =
+    let d = design_tree c.args.design.now in
+    let to_r = grown c.args.game.now c.read_candidates.new.game c.read_candidates.ensures.grows in
+    record {
+      grows = c.read_candidates.ensures.grows;
+      count = ap (λ (l : List GoalMoves). length l) c.new-goals.ensures.items;
+      given_are = c.in_ok-given.ensures.given;
+      good = all_good_kept d c.args.game.now c.read_candidates.new.game c.requires.exact to_r c.args.iterates.now
+          c.args.shapes.now c.args.goods.now c.requires.goods;
+      made = made_none d c.read_candidates.new.game c.args.iterates.now c.args.shapes.now
+          (candidate_trees d c.args.counts c.args.shapes.now c.args.candidates.now) c.new-goals.result.items
+          c.new-goals.ensures.items;
+    }
+
+pub loop-index-preserved : goal.loop-index-preserved
+loop-index-preserved c = ?
+
+pub returns-clause-count : goal.returns-clause-count
+returns-clause-count c =
+    let ends = c.loop-index.auto.index-end in
+    let last = c.loop-index-test.false in
+    let count = c.loop-index.invariant.count in
+    omega (arith, ends, last, count)
+
+pub returns-clause-made : goal.returns-clause-made
+returns-clause-made c = c.loop-index.invariant.made
