@@ -81,12 +81,21 @@ fn first_test(replies: &[Reply]) -> NodeId
         → IsReply d g.order g.diagrams.table 0 shapes (test t first second) x
         → IsFunction g.diagrams.table result (λ v. holds (state_of d g.order v) 0 t) }
 {
-    match replies.first() {
-        Some(reply) => match reply {
-            Reply::Test { holds, .. } => *holds,
-            Reply::Move { .. } => FALSE,
-        },
-        None => FALSE,
+    if replies.is_empty() {
+        return FALSE;
+    }
+    test_of(&replies[0])
+}
+
+// Where the test of a reply holds.
+fn test_of(reply: &Reply) -> NodeId
+    ensures { (d : DesignTree) (g : GameData) (shapes : List MoveShape) (t : TruthTree) (first second : ℕ)
+        → IsReply d g.order g.diagrams.table 0 shapes (test t first second) reply.now
+        → IsFunction g.diagrams.table result (λ v. holds (state_of d g.order v) 0 t) }
+{
+    match reply {
+        Reply::Test { holds, .. } => *holds,
+        Reply::Move { .. } => FALSE,
     }
 }
 
