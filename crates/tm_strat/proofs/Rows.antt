@@ -3,6 +3,10 @@ use Rattle.std.proofs.Common.{◌≡◌, ℕ, ◌+◌, ◌<◌, List, [], ◌∷
 use Rattle.std.proofs.lemmas.List.{map-append, take_more}
 use Rattle.std.specs.declared.alloc.Global.{Global}
 
+-- the numbers of a row
+abbrev items_of : Vec ℕ Global → List ℕ
+items_of r = r.items
+
 -- one row more
 pub rows_more : (rows all more : List (Vec ℕ Global)) (k : ℕ) (row copy : Vec ℕ Global) →
     map (λ r. r.items) all ≡ map (λ r. r.items) (take k rows) → k < length rows → row ≡ get_or rows k row →
@@ -15,6 +19,3 @@ rows_more rows all more k row copy before below is same items =
     ∙ sym (map-append items_of (take k rows) (row ∷ []))
     ∙ ap (λ (r : Vec ℕ Global). map items_of (take k rows ++ r ∷ [])) is
     ∙ ap (map items_of) (sym (take_more rows k row below))
-  where
-    abbrev items_of : Vec ℕ Global → List ℕ
-    items_of r = r.items

@@ -213,7 +213,8 @@ one_state {g = g} set m told uniform some = record {
         g.holds k some.state ≡ g.holds k s
     alike s among held k below =
         sym (state_passes g k some.state below)
-        ∙ (uniform.each k (omega (arith, below))).same some.state s some.listed among (both_true _ _ some.with_it).0 held
+        ∙ (uniform.each k (omega (arith, below))).same some.state s some.listed among
+        (both_true _ _ some.with_it).0 held
         ∙ state_passes g k s below
 
 -- a set that lies in an id's lies in what the id means

@@ -10,8 +10,8 @@ invariant-loop-index l = record {
   grows : Carried l.fn.game l.game;
   count : length l.goals.items ≡ l.index;
   given_are : AreGivenFor (design_tree l.design) l.game l.shapes
-      (candidate_trees (design_tree l.design) l.counts l.shapes l.candidates) l.given.items (length l.candidates);
+      (candidate_trees (design_tree l.design) l.fn.counts l.shapes l.candidates) l.given.items (length l.candidates);
   good : AreGoodMoves (design_tree l.design) l.game l.iterates l.shapes l.goods;
   made : AreMadeFor (design_tree l.design) l.game l.iterates l.shapes
-      (candidate_trees (design_tree l.design) l.counts l.shapes l.candidates) l.goals.items;
+      (candidate_trees (design_tree l.design) l.fn.counts l.shapes l.candidates) l.goals.items;
 }

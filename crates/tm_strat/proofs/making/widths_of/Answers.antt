@@ -9,7 +9,10 @@ pub loop-index-init : goal.loop-index-init
 loop-index-init c = ap (map (λ (row : Vec ℕ Global). row.items)) c.new-all.ensures.items
 
 pub loop-index-preserved : goal.loop-index-preserved
-loop-index-preserved c = ?
+loop-index-preserved c =
+    rows_more c.as_slice-rows.result.now c.loop-index.all.items c.push.new.self.items c.loop-index.index
+    c.index-rows-index.result c.in_ok-widths.widths c.loop-index.invariant c.loop-index-test.true c.index-rows-index.is
+    (c.in_ok-widths.ensures.items ∙ c.as_slice.ensures.value) c.in_ok-push.ensures.items
 
 pub returns : goal.returns
 returns c =

@@ -20,10 +20,10 @@ loop-candidate-preserved c =
       fit = anywhere_more d c.loop-candidate.list.items c.push.new.self.items c.in_ok-block.block
           c.loop-candidate.invariant.fit c.in_ok-block.ensures.fits c.in_ok-push.ensures.items;
       trees = trees_pushed d c.args.counts c.args.shapes.now c.args.candidates.now c.loop-candidate.candidate-index
-          c.loop-candidate-item.result c.loop-candidate.list.items c.push.new.self.items c.in_ok-block.block
-          c.loop-candidate.invariant.trees c.loop-candidate-test.true c.loop-candidate-item.is
+          c.candidate-item.result c.loop-candidate.list.items c.push.new.self.items c.in_ok-block.block
+          c.loop-candidate.invariant.trees c.loop-candidate-test.true c.candidate-item.is
           (c.in_ok-block.ensures.tree
-          ∙ (λ i. move_tree d c.args.counts (c.shape_at-shape.ensures i) (c.deref-in-loop-candidate.ensures.value i)))
+          ∙ (λ i. move_tree d c.args.counts (c.shape_at-shape.ensures i) (c.deref.ensures.value i)))
           c.in_ok-push.ensures.items;
     }
 

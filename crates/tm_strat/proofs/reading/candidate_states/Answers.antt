@@ -30,12 +30,12 @@ loop-one-preserved c = record {
       (c.loop-one.invariant.served d zones targets shapes blocks from)
       (λ b there.
       c.in_ok-served.ensures.served d zones targets shapes b
-      (subst (λ (i : NodeId). ServesOne d c.loop-one.game zones targets shapes b i c.loop-one-item.result)
+      (subst (λ (i : NodeId). ServesOne d c.loop-one.game zones targets shapes b i c.one-item.result)
       (sym c.id_at-good.ensures)
       (serves_one d c.args.game.now c.loop-one.game to_m zones targets shapes blocks c.args.pairs.now c.args.given.now
-      from is_m c.loop-one.one-index b c.loop-one-item.result there
-      (slice_get-get_or c.args.given.now c.loop-one.one-index c.loop-one-item.result c.loop-one-test.true
-      ∙ ap Some (sym c.loop-one-item.is)))))
+      from is_m c.loop-one.one-index b c.one-item.result there
+      (slice_get-get_or c.args.given.now c.loop-one.one-index c.one-item.result c.loop-one-test.true
+      ∙ ap Some (sym c.one-item.is)))))
       c.in_ok-push.ensures.items;
 }
 

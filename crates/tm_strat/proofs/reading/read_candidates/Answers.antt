@@ -1,7 +1,10 @@
 use Rattle.std.proofs.Common.{ℕ, ◌+◌, List, length, sym, ap, ◌∙◌, subst, arith}
+use Rattle.std.proofs.lemmas.List.{length-map, length_push}
+use Rattle.tm_cir.specs.Tree.{BlockTree, idle}
 use Rattle.tm_cir.specs.View.{block_trees}
 use Rattle.tm_strat.proofs.Giving.{given_among, given_more, given_none}
 use Rattle.tm_strat.specs.Served.{AreGivenFor, candidate_trees}
+use Rattle.tm_strat.specs.Trees.{candidate_tree}
 use Rattle.tm_strat.proofs.reading.read_candidates.Goals as goal
 use Rattle.tm_syntax.specs.Design.View.{design_tree}
 
@@ -15,7 +18,15 @@ loop-index-init c =
     c.new-all.result.items c.new-all.ensures.items
 
 pub given_at-requires : goal.given_at-requires
-given_at-requires c = ?
+given_at-requires c =
+    let d = design_tree c.args.design.now in
+    let trees = candidate_trees d c.args.counts c.args.shapes.now c.args.candidates.now in
+    let all = ap (λ (l : List BlockTree). length l) c.in_ok-list.ensures.trees in
+    let count = c.in_ok-replies.ensures.replies.count in
+    let more = length_push trees idle in
+    let long = length-map c.args.candidates.now (candidate_tree d c.args.counts c.args.shapes.now) in
+    let below = c.loop-index-test.true in
+    omega (arith, all, count, more, long, below)
 
 pub loop-index-preserved : goal.loop-index-preserved
 loop-index-preserved c =
