@@ -9,15 +9,19 @@ use Rattle.tm_check.specs.Replies.{AreReplies, IsMove, IsMoveOf, IsReply, move_o
 use Rattle.tm_check.specs.declared.replies.Replies.{Replies}
 use Rattle.tm_check.specs.declared.replies.Reply.{Reply}
 use Rattle.tm_check.specs.declared.replies.Reply.TheVariants as replies
-use Rattle.tm_cir.specs.Tree.{BlockTree, call, idle, leave, test}
+use Rattle.tm_cir.specs.Meaning.{holds}
+use Rattle.tm_cir.specs.Tree.{BlockTree, TruthTree, call, idle, leave, test}
 use Rattle.tm_cir.specs.View.{block_tree, block_trees}
 use Rattle.tm_cir.specs.declared.block.Block.{Block}
 use Rattle.tm_dd.specs.declared.node.NodeId.{NodeId}
 use Rattle.tm_dd.specs.declared.node.TheConstants.{FALSE}
 use Rattle.tm_dd.specs.Table.{Knows, Table}
+use Rattle.tm_ddops.specs.Manager.{IsFunction}
 use Rattle.tm_game.specs.Game.{GameData}
 use Rattle.tm_game.specs.Moves.{HasTask}
 use Rattle.tm_game.specs.declared.moves.MoveShape.{MoveShape}
+use Rattle.tm_game.specs.declared.moves.MoveShape.TheVariants.{Idle}
+use Rattle.tm_game_bits.specs.AssignedStates.{state_of}
 use Rattle.tm_strat.proofs.Carrying.{some_same}
 use Rattle.tm_strat.specs.Served.{AreGivenFor, IsGivenFor, IsGivenMove, candidate_trees}
 use Rattle.tm_strat.specs.Trees.{candidate_tree, shape_in}
@@ -46,41 +50,56 @@ each_known t parts known k p below =
       get_or-map (λ (q : ℕ × NodeId). q.1) parts k p (get_or parts k p).1 below,
     )
 
-pub reply_given : (d : DesignTree) (g : GameData) (shapes : List MoveShape) (blocks : List BlockTree) (r : Replies)
-    (index own : ℕ) (fits : NodeId) (arguments : Vec (ℕ × NodeId) Global) (b : BlockTree) (x : Given) →
-    AreReplies d g 0 blocks r → slice_get blocks index ≡ Some b →
-    slice_get r.list.items index ≡ Some (replies.Move own fits arguments) → x.shape < length shapes →
-    own < length r.shapes.items → shape_in shapes x.shape ≡ shape_in r.shapes.items own → x.fits ≡ fits →
-    x.parts.items ≡ arguments.items → IsGivenFor d g shapes b x
-reply_given d g shapes blocks r index own fits arguments b x replies_are block there below within same is items =
-    record {
-      fits = subst (Knows g.diagrams.table) (sym is) move.move.fits_known;
-      parts = each_known g.diagrams.table x.parts.items moved.parts_known;
-      move = inr (record {
-        shape = same ∙ shape_is;
-        below = below;
-        task = subst (HasTask g.flat) shape_is
-            (replies_are.tasks own Rattle.tm_game.specs.declared.moves.MoveShape.TheVariants.Idle within);
-        move = moved;
-      });
-    }
+pub move_given : (d : DesignTree) (g : GameData) (shapes others : List MoveShape) (own : ℕ) (fits : NodeId)
+    (arguments : List (ℕ × NodeId)) (b : BlockTree) (x : Given) → All (HasTask g.flat) others →
+    IsMoveOf d g.order g.diagrams.table 0 others b own fits arguments →
+    (x.shape < length shapes) × (own < length others) × (shape_in shapes x.shape ≡ shape_in others own) →
+    x.fits ≡ fits → x.parts.items ≡ arguments → IsGivenFor d g shapes b x
+move_given d g shapes others own fits arguments b x tasks move same is items = record {
+  fits = subst (Knows g.diagrams.table) (sym is) move.move.fits_known;
+  parts = each_known g.diagrams.table x.parts.items moved.parts_known;
+  move = inr (record {
+    shape = same.2 ∙ shape_is;
+    below = same.0;
+    task = subst (HasTask g.flat) shape_is (tasks own Idle same.1);
+    move = moved;
+  });
+}
   where
-    move : IsMoveOf d g.order g.diagrams.table 0 r.shapes.items b own fits arguments.items
-    move =
-        moves_so d g.order g.diagrams.table r.shapes.items b own fits arguments
-        (replies_are.each index b (replies.Move own fits arguments) block there)
-
-    shape_is : shape_in r.shapes.items own ≡ shape_of b
-    shape_is =
-        get_or_from_slice_get r.shapes.items own (shape_of b)
-        Rattle.tm_game.specs.declared.moves.MoveShape.TheVariants.Idle move.shape
+    shape_is : shape_in others own ≡ shape_of b
+    shape_is = get_or_from_slice_get others own (shape_of b) Idle move.shape
 
     moved : IsMove d g.order g.diagrams.table (move_of 0 b) (shape_of b) x.fits x.parts.items
     moved =
         subst (λ (l : List (ℕ × NodeId)). IsMove d g.order g.diagrams.table (move_of 0 b) (shape_of b) x.fits l)
         (sym items)
-        (subst (λ (f : NodeId). IsMove d g.order g.diagrams.table (move_of 0 b) (shape_of b) f arguments.items)
+        (subst (λ (f : NodeId). IsMove d g.order g.diagrams.table (move_of 0 b) (shape_of b) f arguments)
         (sym is) move.move)
+
+-- a reply of a number that moves is a move of its block
+pub moved_at : (d : DesignTree) (g : GameData) (blocks : List BlockTree) (r : Replies) (index own : ℕ)
+    (fits : NodeId) (arguments : Vec (ℕ × NodeId) Global) (b : BlockTree) (x : Reply) → AreReplies d g 0 blocks r →
+    slice_get blocks index ≡ Some b → slice_get r.list.items index ≡ Some x →
+    x ≡ replies.Move own fits arguments →
+    IsMoveOf d g.order g.diagrams.table 0 r.shapes.items b own fits arguments.items
+moved_at d g blocks r index own fits arguments b x are block there is =
+    moves_so d g.order g.diagrams.table r.shapes.items b own fits arguments
+    (subst (IsReply d g.order g.diagrams.table 0 r.shapes.items b) is (are.each index b x block there))
+
+-- a test as it was read
+pub test_read : (d : DesignTree) (g : GameData) (known : List MoveShape) (t : TruthTree) (first second : ℕ) (x : Reply)
+    (holds_at : NodeId) (one other : ℕ) → x ≡ replies.Test holds_at one other →
+    IsReply d g.order g.diagrams.table 0 known (test t first second) x →
+    IsFunction g.diagrams.table holds_at (λ v. holds (state_of d g.order v) 0 t)
+test_read d g known t first second x holds_at one other is reply =
+    (subst (IsReply d g.order g.diagrams.table 0 known (test t first second)) is reply).0
+
+-- a move is not a test
+pub no_test : (d : DesignTree) (g : GameData) (known : List MoveShape) (t : TruthTree) (first second : ℕ) (x : Reply)
+    (number : ℕ) (fits : NodeId) (parts : Vec (ℕ × NodeId) Global) → x ≡ replies.Move number fits parts →
+    IsReply d g.order g.diagrams.table 0 known (test t first second) x → ⊥
+no_test d g known t first second x number fits parts is reply =
+    subst (IsReply d g.order g.diagrams.table 0 known (test t first second)) is reply
 
 pub nothing_given : (d : DesignTree) (g : GameData) (shapes : List MoveShape) (b : BlockTree) (x : Given) →
     x.fits ≡ FALSE → x.parts.items ≡ [] → IsGivenFor d g shapes b x

@@ -68,11 +68,11 @@ module _ (d : DesignTree) where
           omega (arith, same, whole, first)
 
       -- the first ones are those of the state
-      pub widths_taken : n < length all → length all ≤ 18446744073709551615 → (widths : List ℕ) →
-          widths ≡ take (n + 1) all → widths ≡ state_widths d
-      widths_taken below small widths taken =
+      pub widths_taken : n < length all → length all ≤ 18446744073709551615 → (m : ℕ) → m ≡ n + 1 →
+          (widths : List ℕ) → widths ≡ take m all → widths ≡ state_widths d
+      widths_taken below small m more widths taken =
           let first = states in
-          let place : n + 1 ≡ length (state_widths d) = omega (arith, below, small, is, first, count) in
+          let place : m ≡ length (state_widths d) = omega (arith, below, small, more, is, first, count) in
           taken ∙ (λ i. take (place i) ((are ∙ of.flat.widths) i)) ∙ first_widths
 
       pub widths_past : length all ≤ n → (widths : List ℕ) → widths ≡ state_widths d

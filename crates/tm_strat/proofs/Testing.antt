@@ -1,7 +1,7 @@
 -- Tests as functions and as sets, where more are put behind them and the game grows.
 use Rattle.std.proofs.Common.{◌≡◌, ◌⊎◌, inl, inr, ℕ, ◌+◌, ◌-◌, ◌<◌, ◌≤◌, Bool, true, ◌&&◌, List, [], ◌∷◌, ◌++◌, Some, length, get_or, take, refl, sym, ap, ◌∙◌, subst, arith}
 use Rattle.std.proofs.lemmas.Bool.{cases_lt}
-use Rattle.std.proofs.lemmas.List.{get_or_append_left, get_or-append-add, get_or_at, length-append, length-take-le, length_push, take_more}
+use Rattle.std.proofs.lemmas.List.{get_or_append_left, get_or-append-add, get_or_at, length-append, length-take-le, length_push, append_assoc, take_more}
 use Rattle.std.proofs.lemmas.Option.{get_or_from_slice_get, slice_get-get_or, slice_get_within}
 use Rattle.std.specs.Prelude.{Contains, slice_get}
 use Rattle.tm_check.proofs.Pushed.{pushed_at}
@@ -293,3 +293,13 @@ bits_behind c widths olds tests news all items = record {
       subst (λ (l : List Predicate). Contains l (Bit (number_in c i) weight)) (sym items)
       (contained_behind olds tests (Bit (number_in c i) weight) (all.each i w weight there below));
 }
+
+-- one more of a list behind others
+pub pushed_more : (olds all mid news : List Predicate) (k : ℕ) (p : Predicate) → mid ≡ olds ++ take k all →
+    k < length all → p ≡ get_or all k p → news ≡ mid ++ p ∷ [] → news ≡ olds ++ take (k + 1) all
+pushed_more olds all mid news k p before below is items =
+    items
+    ∙ ap (λ (l : List Predicate). l ++ p ∷ []) before
+    ∙ append_assoc olds (take k all) (p ∷ [])
+    ∙ ap (λ (x : Predicate). olds ++ (take k all ++ x ∷ [])) is
+    ∙ ap (λ (l : List Predicate). olds ++ l) (sym (take_more all k p below))

@@ -1,6 +1,6 @@
 //! Tests and candidate moves as diagrams of a game.
-ghost use Rattle.std.specs.Prelude.{◌≡◌, ◌<◌, ◌++◌, ◌∷◌, [], ℕ, true, IfOk, List, Some, length, slice_get};
-ghost use Rattle.tm_check.specs.Replies.{AreReplies, IsReply};
+ghost use Rattle.std.specs.Prelude.{◌≡◌, ◌<◌, ◌++◌, ◌∷◌, [], ℕ, true, All, IfOk, List, Some, length, slice_get};
+ghost use Rattle.tm_check.specs.Replies.{AreReplies, IsMoveOf, IsReply};
 ghost use Rattle.tm_check.specs.declared.replies.Reply.{Reply};
 ghost use Rattle.tm_check.specs.Reads.{IsSized};
 ghost use Rattle.tm_cir.specs.Fit.{FitBlocks};
@@ -9,6 +9,7 @@ ghost use Rattle.tm_cir.specs.Tree.{BlockTree, TruthTree, idle, test};
 ghost use Rattle.tm_cir.specs.View.{block_trees};
 ghost use Rattle.tm_ddops.specs.Manager.{IsFunction};
 ghost use Rattle.tm_game.specs.Game.{GameData, IsOf};
+ghost use Rattle.tm_game.specs.Moves.{HasTask};
 ghost use Rattle.tm_game.specs.declared.moves.MoveShape.{MoveShape};
 ghost use Rattle.tm_game_bits.specs.AssignedStates.{state_of};
 ghost use Rattle.tm_strat.specs.Fitting.{FitsCounts};
@@ -81,12 +82,21 @@ fn first_test(replies: &[Reply]) -> NodeId
         → IsReply d g.order g.diagrams.table 0 shapes (test t first second) x
         → IsFunction g.diagrams.table result (λ v. holds (state_of d g.order v) 0 t) }
 {
-    match replies.first() {
-        Some(reply) => match reply {
-            Reply::Test { holds, .. } => *holds,
-            Reply::Move { .. } => FALSE,
-        },
-        None => FALSE,
+    if replies.is_empty() {
+        return FALSE;
+    }
+    test_of(&replies[0])
+}
+
+// Where the test of a reply holds.
+fn test_of(reply: &Reply) -> NodeId
+    ensures { (d : DesignTree) (g : GameData) (shapes : List MoveShape) (t : TruthTree) (first second : ℕ)
+        → IsReply d g.order g.diagrams.table 0 shapes (test t first second) reply.now
+        → IsFunction g.diagrams.table result (λ v. holds (state_of d g.order v) 0 t) }
+{
+    match reply {
+        Reply::Test { holds, .. } => *holds,
+        Reply::Move { .. } => FALSE,
     }
 }
 
@@ -181,17 +191,39 @@ fn given_at(
             fits,
             arguments,
         } => {
-            if are_same(shapes, shape, &replies.shapes, *own) {
-                let parts = Vec::from_slice(alloc, arguments)?;
-                return Ok(Given {
-                    shape,
-                    fits: *fits,
-                    parts,
-                });
-            }
-            Ok(not_given(alloc, shape))
+            given_move(
+                alloc,
+                shapes,
+                shape,
+                &replies.shapes,
+                *own,
+                *fits,
+                arguments,
+            )
         }
     }
+}
+
+// The arguments of a candidate whose shape has a number among all, as they were read of a move whose shape has another
+// number among others.
+fn given_move(
+    alloc: Global,
+    shapes: &[MoveShape],
+    shape: u32,
+    others: &[MoveShape],
+    own: usize,
+    fits: NodeId,
+    arguments: &[(u32, NodeId)],
+) -> Result<Given, AllocError>
+    ensures { IfOk result (λ x. (d : DesignTree) (g : GameData) (b : BlockTree) → All (HasTask g.flat) others.now
+        → IsMoveOf d g.order g.diagrams.table 0 others.now b own fits arguments.now
+        → IsGivenFor d g shapes.now b x) }
+{
+    if !are_same(shapes, shape, others, own) {
+        return Ok(not_given(alloc, shape));
+    }
+    let parts = Vec::from_slice(alloc, arguments)?;
+    Ok(Given { shape, fits, parts })
 }
 
 // Arguments that fit nowhere.

@@ -254,8 +254,10 @@ fn state_widths(alloc: Global, game: &Game, counts: Counts) -> Result<Vec<u8>, A
         → widths.items ≡ design_widths d) }
 {
     let numbers = counts.vars.saturating_add(counts.processes);
-    let all = game.flat().widths.as_slice();
-    if numbers < all.len() {
+    let widths = &game.flat().widths;
+    let count = widths.len();
+    let all = widths.as_slice();
+    if numbers < count {
         return Vec::from_slice(alloc, &all[..numbers + 1]);
     }
     Vec::from_slice(alloc, all)

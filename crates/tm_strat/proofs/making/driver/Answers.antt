@@ -19,8 +19,8 @@ returns-clause-meets c =
     λ regular can.
     driver_told (design_tree c.args.design.now) c.args.game c.prepare.new.game
     (c.tell.ensures (design_tree c.args.design.now) c.requires.of) c.prepare.ensures.grows regular can
-    c.args.iterates.now c.requires.known c.turn-_turn.result c.turn-_turn.ensures.value
-    (c.turn-_turn.ensures.states (design_tree c.args.design.now) c.requires.of) c.in_ok-prepared.prepared.spelling
+    c.args.iterates.now c.requires.known c.turn-turn.result c.turn-turn.ensures.value
+    (c.turn-turn.ensures.states (design_tree c.args.design.now) c.requires.of) c.in_ok-prepared.prepared.spelling
     c.in_ok-prepared.prepared.tests.holds.items c.in_ok-prepared.prepared.goals.items c.in_ok-prepared.ensures.made
     (λ sets. MeetsDriver (design_tree c.args.design.now) (Answers (trees_of c.in_ok-made.made.blocks)) sets)
     c.in_ok-made.ensures.meets

@@ -42,3 +42,9 @@ returns-clause-count c =
 
 pub returns-clause-made : goal.returns-clause-made
 returns-clause-made c = c.loop-index.invariant.made
+
+pub returns-in_err-made-clause-grows : goal.returns-in_err-made-clause-grows
+returns-in_err-made-clause-grows c = λ base b. c.goal_move.ensures.grows base (c.loop-index.invariant.grows base b)
+
+pub returns-in_err-push-clause-grows : goal.returns-in_err-push-clause-grows
+returns-in_err-push-clause-grows c = λ base b. c.goal_move.ensures.grows base (c.loop-index.invariant.grows base b)

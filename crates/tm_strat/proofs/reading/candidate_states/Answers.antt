@@ -46,3 +46,9 @@ returns-clause-served c =
     λ d zones targets shapes blocks from.
     subst (λ (n : ℕ). AreServed d c.loop-one.game zones targets blocks c.loop-one.states.items n)
     (omega (arith, ends, last)) (c.loop-one.invariant.served d zones targets shapes blocks from)
+
+pub returns-in_err-served-clause-grows : goal.returns-in_err-served-clause-grows
+returns-in_err-served-clause-grows c = λ base b. c.served.ensures.grows base (c.loop-one.invariant.grows base b)
+
+pub returns-in_err-push-clause-grows : goal.returns-in_err-push-clause-grows
+returns-in_err-push-clause-grows c = λ base b. c.served.ensures.grows base (c.loop-one.invariant.grows base b)

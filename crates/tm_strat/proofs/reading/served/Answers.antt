@@ -20,3 +20,9 @@ returns-clause-served c = λ d zones targets shapes b one.
     (λ v. means c.placed.new.game.diagrams.table c.args.good
     (substituted c.placed.new.game.diagrams.table l v))) c.deref.ensures.value c.in_ok-there.ensures.answer)
     c.in_ok-fitting.ensures.answer
+
+pub returns-in_err-fitting-clause-grows : goal.returns-in_err-fitting-clause-grows
+returns-in_err-fitting-clause-grows c = λ base b. c.both.ensures.grows base (c.placed.ensures.grows base b)
+
+pub returns-clause-grows : goal.returns-clause-grows
+returns-clause-grows c = λ base b. c.both.ensures.grows base (c.placed.ensures.grows base b)

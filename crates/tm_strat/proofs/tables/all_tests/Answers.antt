@@ -27,3 +27,9 @@ returns-clause-sets c = c.in_ok-last.ensures.sets
 
 pub returns-clause-bits : goal.returns-clause-bits
 returns-clause-bits c = c.in_ok-last.ensures.bits
+
+pub returns-in_err-last-clause-grows : goal.returns-in_err-last-clause-grows
+returns-in_err-last-clause-grows c = λ base b. c.push_bits.ensures.grows base (c.push_first.ensures.grows base b)
+
+pub returns-clause-grows : goal.returns-clause-grows
+returns-clause-grows c = λ base b. c.push_bits.ensures.grows base (c.push_first.ensures.grows base b)

@@ -1,10 +1,10 @@
 use Rattle.std.proofs.Common.{◌≡◌, ℕ, ◌+◌, List, ◌∷◌, ◌++◌, Some, length, get_or, take, sym, ap, ◌∙◌, subst, arith}
-use Rattle.std.proofs.lemmas.List.{append-nil, append_assoc, take_all, take_more}
+use Rattle.std.proofs.lemmas.List.{append-nil, get_or_default, take_all}
 use Rattle.std.proofs.lemmas.Option.{slice_get-get_or}
 use Rattle.tm_dd.specs.declared.node.NodeId.{NodeId}
 use Rattle.tm_solve_exact.proofs.Growing.{kept_exact}
 use Rattle.tm_strat.proofs.Carrying.{grown}
-use Rattle.tm_strat.proofs.Testing.{test_there}
+use Rattle.tm_strat.proofs.Testing.{pushed_more, test_there}
 use Rattle.tm_strat.specs.declared.predicates.Predicate.{Predicate}
 use Rattle.tm_strat.proofs.tables.push_all.Goals as goal
 
@@ -25,12 +25,9 @@ loop-index-preserved c = record {
       c.loop-index.index _ c.id_at-there.result read c.loop-index-test.true c.loop-index-test.true
       c.id_at-there.ensures)
       (c.loop-index.invariant.sets d e is read sets);
-  pushed = c.in_ok-push_valid.ensures.there
-      ∙ ap (λ (l : List Predicate). l ++ _ ∷ Rattle.std.proofs.Common.[]) c.loop-index.invariant.pushed
-      ∙ append_assoc c.args.tests.now.predicates.items (take c.loop-index.index c.args.all.now)
-      (_ ∷ Rattle.std.proofs.Common.[])
-      ∙ ap (λ (l : List Predicate). c.args.tests.now.predicates.items ++ l)
-      (sym (take_more c.args.all.now c.loop-index.index _ c.loop-index-test.true));
+  pushed = pushed_more c.args.tests.now.predicates.items c.args.all.now c.loop-index.tests.predicates.items
+      c.push_valid.new.tests.predicates.items c.loop-index.index _ c.loop-index.invariant.pushed c.loop-index-test.true
+      (get_or_default c.args.all.now c.loop-index.index _ _ c.loop-index-test.true) c.in_ok-push_valid.ensures.there;
 }
 
 pub returns-clause-sets : goal.returns-clause-sets

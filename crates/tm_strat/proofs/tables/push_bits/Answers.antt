@@ -37,3 +37,9 @@ returns-clause-bits c =
     (subst (λ (l : List ℕ). AreAllBits c.args.counts l c.in_ok-all.all.items) same
     (c.in_ok-all.ensures (omega (arith, few, long)))))
     c.in_ok-push_all.ensures.there
+
+pub returns-in_err-push_all-clause-grows : goal.returns-in_err-push_all-clause-grows
+returns-in_err-push_all-clause-grows c = λ base b. c.push_all.ensures.grows base (c.read_tests.ensures.grows base b)
+
+pub returns-clause-grows : goal.returns-clause-grows
+returns-clause-grows c = λ base b. c.push_all.ensures.grows base (c.read_tests.ensures.grows base b)

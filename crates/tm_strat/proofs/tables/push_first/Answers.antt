@@ -22,3 +22,12 @@ returns-clause-sets c =
     c.deref-3.ensures.value c.in_ok-holds.ensures.tests)
     (sets_kept d c.args.game.now c.all_care.new.game c.requires.exact to c.args.counts
     c.args.tests.now.predicates.items c.args.tests.now.holds.items c.requires.tests)
+
+pub returns-in_err-care-clause-grows : goal.returns-in_err-care-clause-grows
+returns-in_err-care-clause-grows c = λ base b. c.all_care.ensures base (c.read_tests.ensures.grows base b)
+
+pub returns-in_err-push_telling-clause-grows : goal.returns-in_err-push_telling-clause-grows
+returns-in_err-push_telling-clause-grows c = λ base b. c.push_telling.ensures.grows base (c.all_care.ensures base (c.read_tests.ensures.grows base b))
+
+pub returns-clause-grows : goal.returns-clause-grows
+returns-clause-grows c = λ base b. c.push_telling.ensures.grows base (c.all_care.ensures base (c.read_tests.ensures.grows base b))

@@ -1,0 +1,8 @@
+use Rattle.tm_strat.proofs.Giving.{no_test, test_read}
+use Rattle.tm_strat.proofs.reading.test_of.Goals as goal
+
+pub returns-in-Test : goal.returns-in-Test
+returns-in-Test c = λ d g shapes t first second is. ?
+
+pub returns-in-Move : goal.returns-in-Move
+returns-in-Move c = λ d g shapes t first second is. ?
