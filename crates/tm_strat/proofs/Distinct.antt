@@ -74,71 +74,72 @@ lowered_value s n (suc k) below =
     ap (λ (b : Bool). num_value s 0 (if b then n else shift Right n (suc k))) small
 
 module _ (c : Counts) (s : StateData) (vars : length s.values ≡ c.vars) (processes : length s.places ≡ c.processes)
-    where
-  variable_value : (i : ℕ) → i < c.vars →
-      num_value s 0 (number_tree c (number_in c i)) ≡ get_or (state_numbers s) i 0
-  variable_value i below =
-      let low : nat_lt i c.vars ≡ true = grind (arith, nat_tests, below) in
-      ap (λ (b : Bool). num_value s 0 (number_tree c (if b then numbers.Variable i
-      else (if nat_lt (i - c.vars) c.processes then numbers.Location (i - c.vars) else numbers.Last)))) low
-      ∙ ap (λ (b : Bool). num_value s 0 (if b then var i else constant 0)) low
-      ∙ sym (get_or_append_left s.values s.places 0 i (omega (arith, below, vars)))
-      ∙ sym (get_or_append_left (s.values ++ s.places) (s.last ∷ []) 0 i
-      (omega (arith, below, vars, length-append s.values s.places)))
+  where
+    variable_value : (i : ℕ) → i < c.vars →
+        num_value s 0 (number_tree c (number_in c i)) ≡ get_or (state_numbers s) i 0
+    variable_value i below =
+        let low : nat_lt i c.vars ≡ true = grind (arith, nat_tests, below) in
+        ap (λ (b : Bool). num_value s 0 (number_tree c (if b then numbers.Variable i
+        else (if nat_lt (i - c.vars) c.processes then numbers.Location (i - c.vars) else numbers.Last)))) low
+        ∙ ap (λ (b : Bool). num_value s 0 (if b then var i else constant 0)) low
+        ∙ sym (get_or_append_left s.values s.places 0 i (omega (arith, below, vars)))
+        ∙ sym (get_or_append_left (s.values ++ s.places) (s.last ∷ []) 0 i
+        (omega (arith, below, vars, length-append s.values s.places)))
 
-  location_value : (i : ℕ) → c.vars ≤ i → i - c.vars < c.processes →
-      num_value s 0 (number_tree c (number_in c i)) ≡ get_or (state_numbers s) i 0
-  location_value i above below =
-      let high : nat_lt i c.vars ≡ false = grind (arith, nat_tests, above) in
-      let low : nat_lt (i - c.vars) c.processes ≡ true = grind (arith, nat_tests, below) in
-      let place : length s.values + (i - c.vars) ≡ i = omega (arith, vars, above) in
-      ap (λ (b : Bool). num_value s 0 (number_tree c (if b then numbers.Variable i
-      else (if nat_lt (i - c.vars) c.processes then numbers.Location (i - c.vars) else numbers.Last)))) high
-      ∙ ap (λ (b : Bool). num_value s 0 (number_tree c (if b then numbers.Location (i - c.vars) else numbers.Last))) low
-      ∙ ap (λ (b : Bool). num_value s 0 (if b then location (i - c.vars) else constant 0)) low
-      ∙ sym (get_or-append-add s.values s.places (i - c.vars) 0)
-      ∙ ap (λ (k : ℕ). get_or (s.values ++ s.places) k 0) place
-      ∙ sym (get_or_append_left (s.values ++ s.places) (s.last ∷ []) 0 i
-      (omega (arith, above, below, vars, processes, length-append s.values s.places)))
+    location_value : (i : ℕ) → c.vars ≤ i → i - c.vars < c.processes →
+        num_value s 0 (number_tree c (number_in c i)) ≡ get_or (state_numbers s) i 0
+    location_value i above below =
+        let high : nat_lt i c.vars ≡ false = grind (arith, nat_tests, above) in
+        let low : nat_lt (i - c.vars) c.processes ≡ true = grind (arith, nat_tests, below) in
+        let place : length s.values + (i - c.vars) ≡ i = omega (arith, vars, above) in
+        ap (λ (b : Bool). num_value s 0 (number_tree c (if b then numbers.Variable i
+        else (if nat_lt (i - c.vars) c.processes then numbers.Location (i - c.vars) else numbers.Last)))) high
+        ∙ ap (λ (b : Bool). num_value s 0 (number_tree c (if b then numbers.Location (i - c.vars) else numbers.Last))) low
+        ∙ ap (λ (b : Bool). num_value s 0 (if b then location (i - c.vars) else constant 0)) low
+        ∙ sym (get_or-append-add s.values s.places (i - c.vars) 0)
+        ∙ ap (λ (k : ℕ). get_or (s.values ++ s.places) k 0) place
+        ∙ sym (get_or_append_left (s.values ++ s.places) (s.last ∷ []) 0 i
+        (omega (arith, above, below, vars, processes, length-append s.values s.places)))
 
-  last_value : (i : ℕ) → i ≡ c.vars + c.processes →
-      num_value s 0 (number_tree c (number_in c i)) ≡ get_or (state_numbers s) i 0
-  last_value i is =
-      let high : nat_lt i c.vars ≡ false = grind (arith, nat_tests, is) in
-      let past : nat_lt (i - c.vars) c.processes ≡ false = grind (arith, nat_tests, is) in
-      let place : length (s.values ++ s.places) ≡ i =
-      omega (arith, vars, processes, is, length-append s.values s.places) in
-      ap (λ (b : Bool). num_value s 0 (number_tree c (if b then numbers.Variable i
-      else (if nat_lt (i - c.vars) c.processes then numbers.Location (i - c.vars) else numbers.Last)))) high
-      ∙ ap (λ (b : Bool). num_value s 0 (number_tree c (if b then numbers.Location (i - c.vars) else numbers.Last))) past
-      ∙ sym (get_or_at (s.values ++ s.places) s.last [] 0 i place)
+    last_value : (i : ℕ) → i ≡ c.vars + c.processes →
+        num_value s 0 (number_tree c (number_in c i)) ≡ get_or (state_numbers s) i 0
+    last_value i is =
+        let high : nat_lt i c.vars ≡ false = grind (arith, nat_tests, is) in
+        let past : nat_lt (i - c.vars) c.processes ≡ false = grind (arith, nat_tests, is) in
+        let place : length (s.values ++ s.places) ≡ i =
+        omega (arith, vars, processes, is, length-append s.values s.places) in
+        ap (λ (b : Bool). num_value s 0 (number_tree c (if b then numbers.Variable i
+        else (if nat_lt (i - c.vars) c.processes then numbers.Location (i - c.vars) else numbers.Last)))) high
+        ∙ ap (λ (b : Bool). num_value s 0 (number_tree c (if b then numbers.Location (i - c.vars) else numbers.Last)))
+        past
+        ∙ sym (get_or_at (s.values ++ s.places) s.last [] 0 i place)
 
-  number_value : (i : ℕ) → i < c.vars + (c.processes + 1) →
-      num_value s 0 (number_tree c (number_in c i)) ≡ get_or (state_numbers s) i 0
-  number_value i below =
-      elim (cases_lt i c.vars) as (λ _. num_value s 0 (number_tree c (number_in c i)) ≡ get_or (state_numbers s) i 0) [
-        | inl low ↦ variable_value i low
-        | inr high ↦
-            elim (cases_lt (i - c.vars) c.processes) as (λ _.
-            num_value s 0 (number_tree c (number_in c i)) ≡ get_or (state_numbers s) i 0) [
-              | inl inside ↦ location_value i high inside
-              | inr past ↦ last_value i (omega (arith, below, high, past))
-            ]
-      ]
+    number_value : (i : ℕ) → i < c.vars + (c.processes + 1) →
+        num_value s 0 (number_tree c (number_in c i)) ≡ get_or (state_numbers s) i 0
+    number_value i below =
+        elim (cases_lt i c.vars) as (λ _. num_value s 0 (number_tree c (number_in c i)) ≡ get_or (state_numbers s) i 0) [
+          | inl low ↦ variable_value i low
+          | inr high ↦
+              elim (cases_lt (i - c.vars) c.processes) as (λ _.
+              num_value s 0 (number_tree c (number_in c i)) ≡ get_or (state_numbers s) i 0) [
+                | inl inside ↦ location_value i high inside
+                | inr past ↦ last_value i (omega (arith, below, high, past))
+              ]
+        ]
 
-  nonzero : (r : ℕ) → r < 2 → not (r == 0) ≡ (r == 1)
-  nonzero zero small = refl
-  nonzero (suc zero) small = refl
-  nonzero (suc (suc r)) small = absurd (omega (arith, small))
+    nonzero : (r : ℕ) → r < 2 → not (r == 0) ≡ (r == 1)
+    nonzero zero small = refl
+    nonzero (suc zero) small = refl
+    nonzero (suc (suc r)) small = absurd (omega (arith, small))
 
-  pub bit_holds : (i k : ℕ) → i < c.vars + (c.processes + 1) → k < 64 →
-      holds s 0 (predicate_tree c (Bit (number_in c i) k)) ≡ bit_in (state_numbers s) i k
-  bit_holds i k below small =
-      let value = lowered_value s (number_tree c (number_in c i)) k small
-      ∙ ap (λ (n : ℕ). n / 2 ^ k) (number_value i below) in
-      ap (λ (n : ℕ). not (bit_and n 1 == 0)) value
-      ∙ ap (λ (n : ℕ). not (n == 0)) (shr_and_one (get_or (state_numbers s) i 0) k)
-      ∙ nonzero (get_or (state_numbers s) i 0 / 2 ^ k % 2) (omega arith)
+    pub bit_holds : (i k : ℕ) → i < c.vars + (c.processes + 1) → k < 64 →
+        holds s 0 (predicate_tree c (Bit (number_in c i) k)) ≡ bit_in (state_numbers s) i k
+    bit_holds i k below small =
+        let value = lowered_value s (number_tree c (number_in c i)) k small
+        ∙ ap (λ (n : ℕ). n / 2 ^ k) (number_value i below) in
+        ap (λ (n : ℕ). not (bit_and n 1 == 0)) value
+        ∙ ap (λ (n : ℕ). not (n == 0)) (shr_and_one (get_or (state_numbers s) i 0) k)
+        ∙ nonzero (get_or (state_numbers s) i 0 / 2 ^ k % 2) (omega arith)
 
 -- ---- states
 values_long : (d : DesignTree) (s : StateData) → IsState d s → length s.values ≡ length d.vars

@@ -31,13 +31,13 @@ use Rattle.tm_syntax.specs.Design.{DesignTree}
 
 -- ---- lists
 -- an id of a list behind which another was put
-pub id_before : (ids : List NodeId) (id : NodeId) (more : List NodeId) → more ≡ ids ++ id ∷ [] → (k : ℕ) → k < length ids →
-    id_in more k ≡ id_in ids k
+pub id_before : (ids : List NodeId) (id : NodeId) (more : List NodeId) → more ≡ ids ++ id ∷ [] → (k : ℕ) →
+    k < length ids → id_in more k ≡ id_in ids k
 id_before ids id more items k below =
     ap (λ (l : List NodeId). id_in l k) items ∙ get_or_append_left ids (id ∷ []) FALSE k below
 
-pub id_last : (ids : List NodeId) (id : NodeId) (more : List NodeId) → more ≡ ids ++ id ∷ [] → (k : ℕ) → length ids ≡ k →
-    id_in more k ≡ id
+pub id_last : (ids : List NodeId) (id : NodeId) (more : List NodeId) → more ≡ ids ++ id ∷ [] → (k : ℕ) →
+    length ids ≡ k → id_in more k ≡ id
 id_last ids id more items k same = ap (λ (l : List NodeId). id_in l k) items ∙ get_or_at ids id [] FALSE k same
 
 pub long_more : (ids : List NodeId) (id : NodeId) (more : List NodeId) → more ≡ ids ++ id ∷ [] →
@@ -187,7 +187,8 @@ module _ (g m e h : GameData) (to_e : Grows m e) (to_h : Grows e h) (levels : Li
         values = pair.values;
         below = omega (arith, low, long);
         same = pair.same;
-        good = ap (λ (i : NodeId). means h.diagrams.table i pair.values) (id_before pairs good more items pair.shape low)
+        good = ap (λ (i : NodeId). means h.diagrams.table i pair.values)
+            (id_before pairs good more items pair.shape low)
             ∙ pair_same pair.shape low pair.values
             ∙ pair.good;
       }

@@ -257,7 +257,8 @@ bit_pushed n olds found news width passed below stay bits items = record {
 
 pub no_bits : (c : Counts) (widths : List ℕ) (tests : List Predicate) → AreAllBits c (take 0 widths) tests
 no_bits c widths tests = record {
-  each = λ i w weight there below. let under = slice_get_within (take 0 widths) i w there in absurd (omega (arith, under));
+  each = λ i w weight there below.
+      let under = slice_get_within (take 0 widths) i w there in absurd (omega (arith, under));
 }
 
 -- the bits of one number more

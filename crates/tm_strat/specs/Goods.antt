@@ -1,5 +1,5 @@
--- Good moves of goals over a game, as they were found. In this file g is a game of a design d, region and ranks are ids of
--- sets of it, it is a solution, and shapes are those of all moves.
+-- Good moves of goals over a game, as they were found. In this file g is a game of a design d, region and ranks are ids
+-- of sets of it, it is a solution, and shapes are those of all moves.
 use Rattle.std.specs.Option.{option_map_or}
 use Rattle.std.specs.Prelude.{◌≡◌, ℕ, suc, List, [], Some, length, slice_get}
 use Rattle.tm_dd.specs.declared.node.NodeId.{NodeId}

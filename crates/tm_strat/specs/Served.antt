@@ -1,5 +1,5 @@
--- The states that candidate moves serve. In this file g is a game of a design d, shapes are those of all moves, and blocks
--- are those of the candidates.
+-- The states that candidate moves serve. In this file g is a game of a design d, shapes are those of all moves, and
+-- blocks are those of the candidates.
 use Rattle.std.specs.Prelude.{◌≡◌, ◌⊎◌, ℕ, ◌<◌, true, All, List, Some, length, map, slice_get}
 use Rattle.tm_check.specs.Replies.{IsMove, move_of, shape_of}
 use Rattle.tm_cir.specs.Tree.{BlockTree}
@@ -27,14 +27,16 @@ use Rattle.tm_syntax.specs.Design.{DesignTree}
 
 -- ---- arguments
 -- the move of a block is of the shape of a number, and its arguments are these
-pub record IsGivenMove (d : DesignTree) (g : GameData) (shapes : List MoveShape) (b : BlockTree) (x : Given) : Type 0 where
+pub record IsGivenMove (d : DesignTree) (g : GameData) (shapes : List MoveShape) (b : BlockTree) (x : Given) :
+    Type 0 where
   pub shape : shape_in shapes x.shape ≡ shape_of b
   pub below : x.shape < length shapes
   pub task : HasTask g.flat (shape_of b)
   pub move : IsMove d g.order g.diagrams.table (move_of 0 b) (shape_of b) x.fits x.parts.items
 
 -- arguments are those of a block's move, or fit nowhere
-pub record IsGivenFor (d : DesignTree) (g : GameData) (shapes : List MoveShape) (b : BlockTree) (x : Given) : Type 0 where
+pub record IsGivenFor (d : DesignTree) (g : GameData) (shapes : List MoveShape) (b : BlockTree) (x : Given) :
+    Type 0 where
   pub fits : Knows g.diagrams.table x.fits
   pub parts : All (λ p. Knows g.diagrams.table p.1) x.parts.items
   pub move : (x.fits ≡ FALSE) ⊎ IsGivenMove d g shapes b x

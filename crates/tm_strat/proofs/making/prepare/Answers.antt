@@ -122,3 +122,11 @@ returns-clause-made c =
           ∙ ap (λ (l : List GoodMoves). length l) c.deref-7.ensures.value
           ∙ c.in_ok-goods.ensures.count;
     }
+
+pub returns-in_err-candidates-clause-grows : goal.returns-in_err-candidates-clause-grows
+returns-in_err-candidates-clause-grows c =
+    λ base b. c.candidates.ensures base (c.good_moves.ensures.grows base b)
+
+pub returns-in_err-tests-clause-grows : goal.returns-in_err-tests-clause-grows
+returns-in_err-tests-clause-grows c =
+    λ base b. c.all_tests.ensures.grows base (c.candidates.ensures base (c.good_moves.ensures.grows base b))

@@ -20,7 +20,8 @@ returns-clause-sets c =
     c.in_ok-push_all.ensures.sets d c.args.counts
     (kept_exact d c.args.game.now c.requires.exact c.read_tests.new.game to_r)
     (tests_read d c.read_tests.new.game c.read_tests.new.game
-    (grows_none c.read_tests.new.game) c.args.counts c.deref-2.result.now c.deref-3.result.now c.in_ok-holds.holds.items c.deref-4.result.now
+    (grows_none c.read_tests.new.game) c.args.counts c.deref-2.result.now c.deref-3.result.now
+    c.in_ok-holds.holds.items c.deref-4.result.now
     (c.deref-3.ensures.value ∙ sym c.deref-2.ensures.value) c.deref-4.ensures.value c.in_ok-holds.ensures.tests)
     (sets_kept d c.args.game.now c.read_tests.new.game c.requires.exact to_r c.args.counts
     c.args.tests.now.predicates.items c.args.tests.now.holds.items c.requires.tests)
