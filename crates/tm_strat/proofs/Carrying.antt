@@ -24,7 +24,7 @@ use Rattle.tm_strat.specs.Targets.{AreSets, AreSetsOf, HasSets}
 use Rattle.tm_syntax.specs.Design.{DesignTree}
 use Rattle.tm_strat_drafts.specs.Growth.{Carried}
 
-some_same : {A : Type 0} {x y : A} → Some x ≡ Some y → x ≡ y
+pub some_same : {A : Type 0} {x y : A} → Some x ≡ Some y → x ≡ y
 some_same {A = A} {x = x} {y = y} e = ap (λ (o : Option A). or_else o) e
   where
     or_else : Option A → A
@@ -112,8 +112,8 @@ pub ranked_set_at : (g : GameData) (ranks : List RankSet) (k : ℕ) (r : RankSet
     k < length ranks → r ≡ get_or ranks k r → IsSet g r.set
 ranked_set_at g ranks k r sets below is = sets.each k r (slice_get-get_or ranks k r below ∙ ap Some (sym is))
 
-pub ranked_more : (g : GameData) (ranks : List RankSet) (k : ℕ) (r : RankSet) (ids more : List NodeId) → HasSets g ranks →
-    k < length ranks → r ≡ get_or ranks k r → AreSets g ids → more ≡ ids ++ r.set ∷ [] → AreSets g more
+pub ranked_more : (g : GameData) (ranks : List RankSet) (k : ℕ) (r : RankSet) (ids more : List NodeId) →
+    HasSets g ranks → k < length ranks → r ≡ get_or ranks k r → AreSets g ids → more ≡ ids ++ r.set ∷ [] → AreSets g more
 ranked_more g ranks k r ids more sets below is before items =
     sets_more g ids more r.set before (ranked_set_at g ranks k r sets below is) items
 

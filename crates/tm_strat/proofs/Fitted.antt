@@ -15,7 +15,7 @@ use Rattle.tm_cir.specs.Tree.{BlockTree, NumTree, call, idle, test}
 use Rattle.tm_cir.specs.View.{block_tree, block_trees, num_tree, trees_of, truth_tree}
 use Rattle.tm_strat.specs.declared.numbers.Counts.{Counts}
 use Rattle.tm_strat.specs.Fitting.{AreSpelled, FitAnywhere, FitsCounts, IsSpelled}
-use Rattle.tm_strat_drafts.specs.Drafts.{AreLater, FitsLater}
+use Rattle.tm_strat_drafts.specs.Blocks.{AreLater, FitsLater}
 use Rattle.tm_strat_drafts.specs.declared.drafts.MoveChoice.{MoveChoice}
 use Rattle.tm_strat_drafts.specs.declared.drafts.DraftBlock.{DraftBlock}
 use Rattle.tm_strat_drafts.specs.declared.drafts.DraftBlock.TheVariants as drafts
@@ -70,7 +70,8 @@ spelled_more d drafted bs cs n x b spelled there is items = record {
         let count = spelled.count in
         spelled.each k y c (omega (arith, within, count)) here before
     by k y c here (inr last) =
-        let same : x ≡ y = some_same (sym there ∙ ap (λ (j : ℕ). slice_get drafted j) (sym (last.0 ∙ spelled.count)) ∙ here) in
+        let place = ap (λ (j : ℕ). slice_get drafted j) (sym (last.0 ∙ spelled.count)) in
+        let same : x ≡ y = some_same (sym there ∙ place ∙ here) in
         subst (λ (z : DraftBlock). IsSpelled d z c) same (subst (λ (z : Block). IsSpelled d x z) last.1 is)
 
 pub all_fit : (d : DesignTree) (tests : ℕ) (drafted : List DraftBlock) (bs : List Block) → AreLater tests drafted →

@@ -4,7 +4,7 @@ use Rattle.tm_cir.specs.declared.block.Block.{Block}
 use Rattle.tm_cir.specs.Fit.{FitsBlock}
 use Rattle.tm_cir.specs.View.{block_tree}
 use Rattle.tm_strat.specs.declared.numbers.Counts.{Counts}
-use Rattle.tm_strat_drafts.specs.Drafts.{FitsLater}
+use Rattle.tm_strat_drafts.specs.Blocks.{FitsLater}
 use Rattle.tm_strat_drafts.specs.declared.drafts.DraftBlock.{DraftBlock}
 use Rattle.tm_syntax.specs.Design.{DesignTree}
 

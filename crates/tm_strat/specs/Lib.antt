@@ -1,2 +1,15 @@
+pub mod Choice
+pub mod Chosen
+pub mod Constants
 pub mod Fitting
+pub mod Goods
+pub mod Meeting
+pub mod Prepared
+pub mod Served
+pub mod Shapes
+pub mod Spelled
 pub mod Targets
+pub mod Tested
+pub mod Trees
+pub mod Zoned
+pub mod Zones

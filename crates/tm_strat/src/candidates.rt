@@ -1,8 +1,11 @@
 //! Moves that blocks may make.
-ghost use Rattle.std.specs.Prelude.{◌≡◌, ◌≤◌, ℕ, true, All, IfOk, Some, map};
+ghost use Rattle.std.specs.Prelude.{◌≡◌, ◌<◌, ◌≤◌, ℕ, true, All, IfOk, Some, if◌then◌else◌, length, map};
+ghost use Rattle.std.specs.Prelude.{nat_lt, slice_get};
 ghost use Rattle.tm_cir.specs.Fit.{FitsBlock, FitsNum, parameter_count};
+ghost use Rattle.tm_cir.specs.Tree.{call, idle, leave};
 ghost use Rattle.tm_cir.specs.View.{block_tree, num_tree};
 ghost use Rattle.tm_strat.specs.Fitting.{FitsCounts};
+ghost use Rattle.tm_strat.specs.Trees.{expression_tree, move_tree, shape_in, takes};
 ghost use Rattle.tm_syntax.specs.Design.View.{design_tree};
 ghost use Rattle.tm_syntax.specs.Faults.Limits.{limit_of};
 ghost use Rattle.tm_syntax.specs.declared.fault.Quantity.TheVariants as quantity;
@@ -23,7 +26,9 @@ pub(crate) struct Candidate {
 }
 
 /// The shape of a number, which is to idle where there is none.
-pub(crate) fn shape_at(shapes: &[MoveShape], number: u32) -> MoveShape {
+pub(crate) fn shape_at(shapes: &[MoveShape], number: u32) -> MoveShape
+    ensures { result ≡ shape_in shapes.now number }
+{
     let index = number as usize;
     if index < shapes.len() {
         shapes[index]
@@ -41,7 +46,8 @@ pub(crate) fn move_block(
     arguments: &[Expression],
 ) -> Result<Block, AllocError>
     requires { FitsCounts (design_tree design.now) counts }
-    ensures { IfOk result (λ b. (count at : ℕ) → FitsBlock (design_tree design.now) count at (block_tree b)) }
+    ensures fits { IfOk result (λ b. (count at : ℕ) → FitsBlock (design_tree design.now) count at (block_tree b)) }
+    ensures tree { IfOk result (λ b. block_tree b ≡ move_tree (design_tree design.now) counts shape arguments.now) }
 {
     match shape {
         MoveShape::Idle => Ok(Block::Idle),
@@ -55,7 +61,9 @@ pub(crate) fn move_block(
 
 // The block that leaves the magic block at which a process stands.
 fn leave_block(design: &Design, process: u32) -> Block
-    ensures { (count at : ℕ) → FitsBlock (design_tree design.now) count at (block_tree result) }
+    ensures fits { (count at : ℕ) → FitsBlock (design_tree design.now) count at (block_tree result) }
+    ensures tree { block_tree result
+        ≡ (if nat_lt process (length (design_tree design.now).processes) then leave process else idle) }
 {
     if (process as usize) < design.processes.len() {
         Block::Leave(process)
@@ -69,7 +77,9 @@ fn leave_block(design: &Design, process: u32) -> Block
 fn call_block(design: &Design, counts: Counts, task: u32, nums: Vec<Num64>) -> Block
     requires counts { FitsCounts (design_tree design.now) counts }
     requires nums { All (FitsNum counts.vars counts.processes) (map num_tree nums.items) }
-    ensures { (count at : ℕ) → FitsBlock (design_tree design.now) count at (block_tree result) }
+    ensures fits { (count at : ℕ) → FitsBlock (design_tree design.now) count at (block_tree result) }
+    ensures tree { block_tree result ≡ (if takes (design_tree design.now) task (length nums.items)
+        then call task (map num_tree nums.items) else idle) }
 {
     if are_enough(design, task, nums.len()) {
         Block::Call(task, nums)
@@ -80,8 +90,9 @@ fn call_block(design: &Design, counts: Counts, task: u32, nums: Vec<Num64>) -> B
 
 // Whether a task has so many parameters.
 fn are_enough(design: &Design, task: u32, count: usize) -> bool
-    ensures { result ≡ true → (parameter_count (design_tree design.now) task ≡ Some count)
+    ensures enough { result ≡ true → (parameter_count (design_tree design.now) task ≡ Some count)
         × (count ≤ limit_of quantity.Arguments) }
+    ensures told { result ≡ takes (design_tree design.now) task count }
 {
     match parameter_count(design, task) {
         Some(parameters) => parameters == count && count <= MOST_ARGUMENTS,
@@ -90,53 +101,27 @@ fn are_enough(design: &Design, task: u32, count: usize) -> bool
 }
 
 // Arguments as expressions of C.
-#[tactic(auto, using(crate::proofs::Fitted::nums_more))]
 fn nums_of(
     alloc: Global,
     counts: Counts,
     arguments: &[Expression],
 ) -> Result<Vec<Num64>, AllocError>
-    ensures { IfOk result (λ nums. All (FitsNum counts.vars counts.processes) (map num_tree nums.items)) }
+    ensures fits { IfOk result (λ nums. All (FitsNum counts.vars counts.processes) (map num_tree nums.items)) }
+    ensures trees { IfOk result (λ nums. map num_tree nums.items ≡ map (expression_tree counts) arguments.now) }
 {
     let mut nums = Vec::new(alloc);
-    for argument in arguments {
+    for index in 0..arguments.len() {
+        let argument = argument_in(arguments, index);
         let num = argument.num(alloc, counts)?;
         nums.push(num)?;
     }
     Ok(nums)
 }
 
-/// The constants that bits have in widths, one behind the other: the bits of all, the first one the most significant of
-/// 64.
-pub(crate) fn constants(
-    alloc: Global,
-    widths: &[u8],
-    bits: u64,
-) -> Result<Vec<Expression>, AllocError> {
-    let mut found = Vec::new(alloc);
-    let mut rest = bits;
-    for width in widths {
-        found.push(Expression::Constant(upper(rest, *width)))?;
-        rest = behind(rest, *width);
-    }
-    Ok(found)
-}
-
-// The first bits of some.
-fn upper(bits: u64, width: u8) -> u64 {
-    if width == 0 {
-        return 0;
-    }
-    if width >= 64 {
-        return bits;
-    }
-    bits >> (64 - width)
-}
-
-// The bits behind the first ones.
-fn behind(bits: u64, width: u8) -> u64 {
-    if width >= 64 {
-        return 0;
-    }
-    bits << width
+// The argument of a number.
+fn argument_in(arguments: &[Expression], index: usize) -> Expression
+    requires { index < length arguments.now }
+    ensures { slice_get arguments.now index ≡ Some result }
+{
+    arguments[index]
 }

@@ -1,5 +1,12 @@
 //! What a driver's blocks are chosen from.
-ghost use Rattle.std.specs.Prelude.{◌<◌};
+ghost use Rattle.std.specs.Prelude.{◌≡◌, ◌+◌, ◌<◌, ◌≤◌, ℕ, false, IfOk, length, slice_get, slice_index_or};
+ghost use Rattle.tm_dd.specs.Table.{Knows};
+ghost use Rattle.tm_dd.specs.declared.node.TheConstants.{FALSE as NOTHING};
+ghost use Rattle.tm_solve.specs.Ids.{Is};
+ghost use Rattle.tm_solve_exact.specs.Exact.{HasDesign, IsStateSet, exact_game, exact_ids};
+ghost use Rattle.tm_strat.specs.Choice.{care_in, constant_set, id_in, IsChoice, IsPairs, setting_of};
+ghost use Rattle.tm_strat.specs.Choice.{candidates_of as those_candidates, pairs_of as those_pairs};
+ghost use Rattle.tm_strat.specs.Constants.{AreBitsFrom, BitsOrNone, ConstantOrNone, HasBits};
 ghost use Rattle.tm_strat_drafts.specs.Growth.{Carried};
 
 use crate::covering::constant_bit;
@@ -40,24 +47,55 @@ pub(crate) struct Choosing {
     pub(crate) tests: TestTable,
     pub(crate) goals: Vec<GoalMoves>,
     pub(crate) pending: usize,
+    pub(crate) ghost is: { IsChoice game tests.holds.items goals.items },
 }
 
-// The first shape of a move that is good at some state of a set, with constant arguments.
-fn constant_move(game: &mut Game, pairs: &[NodeId], set: NodeId) -> Result<MoveChoice, AllocError>
-    ensures { Carried game.old game.new }
+// A move of the first shape that has one that is good at some state of a set, with constant arguments; none where no
+// shape has one.
+fn constant_move(
+    game: &mut Game,
+    pairs: &[NodeId],
+    set: NodeId,
+) -> Result<Option<MoveChoice>, AllocError>
+    requires design { HasDesign game.old }
+    requires few { length pairs.now ≤ 4294967295 }
+    requires pairs { (k : ℕ) → IsPairs game.old (id_in pairs.now k) }
+    requires set { IsStateSet game.old set }
+    ensures grows { Carried game.old game.new }
+    ensures value { IfOk result (ConstantOrNone game.old pairs.now set) }
 {
     for shape in 0..pairs.len() {
-        let here = both(game, pairs[shape], set)?;
-        if here != FALSE {
-            let bits = argument_bits(game, here)?;
-            return Ok(MoveChoice::Constant(narrow(shape), bits));
+        let found = good_bits(game, pairs[shape], set)?;
+        match found {
+            Some(bits) => return Ok(Some(MoveChoice::Constant(shape as u32, bits))),
+            None => {}
         }
     }
-    Ok(MoveChoice::Candidate(0))
+    Ok(None)
+}
+
+// The bits of arguments with which a move of a shape is good at some state of a set, none where there are none.
+fn good_bits(game: &mut Game, pairs: NodeId, set: NodeId) -> Result<Option<u64>, AllocError>
+    requires design { HasDesign game.old }
+    requires pairs { IsPairs game.old pairs }
+    requires set { IsStateSet game.old set }
+    ensures grows { Carried game.old game.new }
+    ensures value { IfOk result (BitsOrNone game.old pairs set) }
+{
+    let here = both(game, pairs, set)?;
+    if here == FALSE {
+        return Ok(None);
+    }
+    let bits = argument_bits(game, here)?;
+    Ok(Some(bits))
 }
 
 // The bits of arguments of the least pair of a set, the first one the most significant of 64.
-fn argument_bits(game: &Game, pairs: NodeId) -> Result<u64, AllocError> {
+fn argument_bits(game: &Game, pairs: NodeId) -> Result<u64, AllocError>
+    requires known { Knows game.now.diagrams.table pairs }
+    requires some { ¬ (pairs ≡ NOTHING) }
+    ensures { IfOk result (HasBits game.now pairs) }
+{
     match least(game, pairs)? {
         None => Ok(0),
         Some(values) => Ok(bits_from(&values, game.order().len())),
@@ -65,14 +103,26 @@ fn argument_bits(game: &Game, pairs: NodeId) -> Result<u64, AllocError> {
 }
 
 // 64 values from one on as a number, the first one the most significant; those that are not there are 0.
-fn bits_from(values: &[bool], first: usize) -> u64 {
+fn bits_from(values: &[bool], first: usize) -> u64
+    ensures { AreBitsFrom values.now first result }
+{
     let mut bits: u64 = 0;
     for index in 0..64 {
-        let place = first.saturating_add(index);
-        let here = place < values.len() && values[place];
-        bits = (bits << 1) | u64::from(here);
+        let here = value_at(values, first, index);
+        bits = bits * 2 + u64::from(here);
     }
     bits
+}
+
+// The value of an index from one on, false where there is none.
+fn value_at(values: &[bool], first: usize, index: usize) -> bool
+    ensures { result ≡ slice_index_or values.now (first + index) false }
+{
+    if index < values.len() && first < values.len() - index {
+        values[first + index]
+    } else {
+        false
+    }
 }
 
 // The states at which a move is good with constant arguments.
@@ -82,12 +132,17 @@ fn constant_states(
     pairs: NodeId,
     bits: u64,
 ) -> Result<NodeId, AllocError>
-    ensures { Carried game.old game.new }
+    requires design { HasDesign game.old }
+    requires pairs { IsPairs game.old pairs }
+    ensures grows { Carried game.old game.new }
+    ensures value { IfOk result (λ id. Is (exact_game game.old).states (exact_ids game.new) id
+        (constant_set game.old pairs bits)) }
 {
+    let _levels = game.manager().store().levels();
     let first = narrow(game.order().len());
     let mut parts = Vec::new(alloc);
     for index in 0..64_u8 {
-        let level = first.saturating_add(u32::from(index));
+        let level = first + u32::from(index);
         parts.push((level, constant_bit(bits, 63 - index)))?;
     }
     let states = placed(game, pairs, &parts)?;
@@ -145,96 +200,121 @@ fn below(number: Option<u32>, end: u32) -> u32
     }
 }
 
-// The good moves of a goal.
-fn moves_at(goals: &[GoalMoves], goal: usize) -> Option<&GoalMoves> {
-    goals.get(goal)
+// The best test for what is to be told apart in a set while a goal is pending, none where there is none.
+fn any_test(
+    alloc: Global,
+    game: &mut Game,
+    masses: &mut Masses,
+    tests: &TestTable,
+    candidates: &[NodeId],
+    set: NodeId,
+) -> Result<Option<u32>, AllocError>
+    ensures { Carried game.old game.new }
+{
+    let contest = contest_over(alloc, game, masses, candidates, set)?;
+    let found = tiered_test(game, masses, tests, &contest)?;
+    Ok(found)
 }
 
-// The good moves of a goal of the shape of a number.
-fn pairs_at(goals: &[GoalMoves], goal: usize, shape: u32) -> NodeId {
-    match moves_at(goals, goal) {
-        Some(moves) => id_at(&moves.pairs, shape as usize),
-        None => FALSE,
+// The states at which some move is good while a goal is pending.
+fn care_of(goals: &[GoalMoves], goal: usize) -> NodeId
+    ensures { result ≡ care_in (slice_get goals.now goal) }
+{
+    if goal < goals.len() {
+        goals[goal].care
+    } else {
+        FALSE
     }
 }
 
-// The states at which the candidate of a number is good while a goal is pending.
-fn states_at(goals: &[GoalMoves], goal: usize, candidate: u32) -> NodeId {
-    match moves_at(goals, goal) {
-        Some(moves) => id_at(&moves.candidates, candidate as usize),
-        None => FALSE,
+// The good moves of a goal, of each shape.
+fn pairs_of(goals: &[GoalMoves], goal: usize) -> &[NodeId]
+    ensures { result.now ≡ those_pairs (slice_get goals.now goal) }
+{
+    if goal < goals.len() {
+        goals[goal].pairs.as_slice()
+    } else {
+        &[]
+    }
+}
+
+// The states at which each candidate is good while a goal is pending.
+fn candidates_of(goals: &[GoalMoves], goal: usize) -> &[NodeId]
+    ensures { result.now ≡ those_candidates (slice_get goals.now goal) }
+{
+    if goal < goals.len() {
+        goals[goal].candidates.as_slice()
+    } else {
+        &[]
     }
 }
 
 impl Moves for Choosing {
-    ghost game_data = { λ c. c.game };
+    ghost setting = { λ c. setting_of c.game c.tests.holds.items c.goals.items c.pending };
 
     fn turn_to(&mut self, goal: u32) {
         self.pending = goal as usize;
     }
 
     fn nothing(&self) -> NodeId {
+        let _store = self.game.manager().store();
         FALSE
     }
 
     fn region(&self) -> NodeId {
-        match moves_at(&self.goals, self.pending) {
-            Some(moves) => moves.care,
-            None => FALSE,
-        }
+        care_of(&self.goals, self.pending)
     }
 
     fn test(&mut self, number: u32) -> Result<NodeId, AllocError> {
         let index = number as usize;
-        if index < self.tests.holds.len() {
+        let count = self.tests.holds.len();
+        if index < count {
             return Ok(self.tests.holds[index]);
         }
-        if index - self.tests.holds.len() == self.pending {
-            return Ok(TRUE);
+        if index - count == self.pending {
+            return Ok(self.game.valid());
         }
         Ok(FALSE)
     }
 
     fn good(&mut self, choice: MoveChoice) -> Result<NodeId, AllocError> {
         match choice {
-            MoveChoice::Candidate(number) => Ok(states_at(&self.goals, self.pending, number)),
+            MoveChoice::Candidate(number) => {
+                let candidates = candidates_of(&self.goals, self.pending);
+                Ok(id_at(candidates, number as usize))
+            }
             MoveChoice::Constant(shape, bits) => {
-                let pairs = pairs_at(&self.goals, self.pending, shape);
-                let states = constant_states(self.alloc, &mut self.game, pairs, bits)?;
-                Ok(states)
+                let pairs = id_at(pairs_of(&self.goals, self.pending), shape as usize);
+                constant_states(self.alloc, &mut self.game, pairs, bits)
             }
         }
     }
 
     fn some_move(&mut self, set: NodeId) -> Result<MoveChoice, AllocError> {
-        match moves_at(&self.goals, self.pending) {
-            Some(moves) => constant_move(&mut self.game, &moves.pairs, set),
+        let pairs = pairs_of(&self.goals, self.pending);
+        let found = constant_move(&mut self.game, pairs, set)?;
+        match found {
+            Some(choice) => Ok(choice),
             None => Ok(MoveChoice::Candidate(0)),
         }
     }
 
     fn likely_move(&mut self, set: NodeId) -> Result<MoveChoice, AllocError> {
-        match moves_at(&self.goals, self.pending) {
-            Some(moves) => likely_candidate(&mut self.game, &moves.candidates, set),
-            None => Ok(MoveChoice::Candidate(0)),
-        }
+        let candidates = candidates_of(&self.goals, self.pending);
+        likely_candidate(&mut self.game, candidates, set)
     }
 
     fn likely_test(&mut self, set: NodeId, tests: u32) -> Result<u32, AllocError> {
-        match moves_at(&self.goals, self.pending) {
-            Some(moves) => {
-                let contest = contest_over(
-                    self.alloc,
-                    &mut self.game,
-                    &mut self.masses,
-                    &moves.candidates,
-                    set,
-                )?;
-                let found = tiered_test(&mut self.game, &mut self.masses, &self.tests, &contest)?;
-                Ok(below(found, tests))
-            }
-            None => Ok(0),
-        }
+        let candidates = candidates_of(&self.goals, self.pending);
+        let found = any_test(
+            self.alloc,
+            &mut self.game,
+            &mut self.masses,
+            &self.tests,
+            candidates,
+            set,
+        )?;
+        Ok(below(found, tests))
     }
 
     fn meet(&mut self, a: NodeId, b: NodeId) -> Result<NodeId, AllocError> {
@@ -248,4 +328,6 @@ impl Moves for Choosing {
     fn choose(&mut self, test: NodeId, a: NodeId, b: NodeId) -> Result<NodeId, AllocError> {
         chosen(&mut self.game, test, a, b)
     }
+
+    ghost told = { λ c. record { told = c.is.told } };
 }

@@ -1,4 +1,6 @@
 //! Candidate moves, chosen so that few of them serve most states.
+ghost use Rattle.std.specs.Prelude.{◌≡◌, ◌<◌, ◌/◌, ◌%◌, ◌^◌, ◌==◌};
+ghost use Rattle.tm_strat.specs.Constants.{constant_id};
 ghost use Rattle.tm_strat_drafts.specs.Growth.{Carried};
 
 use crate::candidates::{Candidate, shape_at};
@@ -75,7 +77,7 @@ fn cover(
     ensures { Carried game.old game.new }
 {
     let mut left = left;
-    'adding: for _added in 0..MOST {
+    for _added in 0..MOST {
         let found = best_move(chooser, game, masses, goal, left)?;
         match found {
             None => return Ok(()),
@@ -205,8 +207,10 @@ fn constant_bits(alloc: Global, number: u64, width: u8) -> Result<Vec<NodeId>, A
 }
 
 /// The bit of a constant of a weight.
-pub(crate) fn constant_bit(number: u64, weight: u8) -> NodeId {
-    if weight < 64 && (number >> weight) & 1 == 1 {
+pub(crate) fn constant_bit(number: u64, weight: u8) -> NodeId
+    ensures { weight < 64 → result ≡ constant_id (number / 2 ^ weight % 2 == 1) }
+{
+    if weight < 64 && (number >> weight) % 2 == 1 {
         TRUE
     } else {
         FALSE

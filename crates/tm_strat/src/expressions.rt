@@ -1,7 +1,8 @@
 //! Expressions over the numbers of a state.
-ghost use Rattle.std.specs.Prelude.{IfOk};
+ghost use Rattle.std.specs.Prelude.{◌≡◌, IfOk};
 ghost use Rattle.tm_cir.specs.Fit.{FitsNum};
 ghost use Rattle.tm_cir.specs.View.{num_tree};
+ghost use Rattle.tm_strat.specs.Trees.{expression_tree, lowered_tree, masked_tree, number_tree, within_tree};
 
 use crate::numbers::{Counts, Number, combined, lowered, masked};
 use std::alloc::{AllocError, Global};
@@ -23,7 +24,8 @@ pub(crate) enum Expression {
 impl Expression {
     /// The expression as one of C.
     pub(crate) fn num(self, alloc: Global, counts: Counts) -> Result<Num64, AllocError>
-        ensures { IfOk result (λ n. FitsNum counts.vars counts.processes (num_tree n)) }
+        ensures fits { IfOk result (λ n. FitsNum counts.vars counts.processes (num_tree n)) }
+        ensures tree { IfOk result (λ n. num_tree n ≡ expression_tree counts self) }
     {
         match self {
             Expression::Constant(number) => Ok(Num64::Const(number)),
@@ -74,7 +76,8 @@ fn part(
     by: u8,
     mask: u64,
 ) -> Result<Num64, AllocError>
-    ensures { IfOk result (λ n. FitsNum counts.vars counts.processes (num_tree n)) }
+    ensures fits { IfOk result (λ n. FitsNum counts.vars counts.processes (num_tree n)) }
+    ensures tree { IfOk result (λ n. num_tree n ≡ masked_tree (lowered_tree (number_tree counts number) by) mask) }
 {
     let shifted = lowered(alloc, counts, number.num(counts), by)?;
     let part = masked(alloc, counts, shifted, mask)?;
@@ -92,7 +95,8 @@ fn within(
 ) -> Result<Num64, AllocError>
     requires one { FitsNum counts.vars counts.processes (num_tree one) }
     requires other { FitsNum counts.vars counts.processes (num_tree other) }
-    ensures { IfOk result (λ n. FitsNum counts.vars counts.processes (num_tree n)) }
+    ensures fits { IfOk result (λ n. FitsNum counts.vars counts.processes (num_tree n)) }
+    ensures tree { IfOk result (λ n. num_tree n ≡ within_tree operator (num_tree one) (num_tree other) mask) }
 {
     let whole = combined(alloc, counts, operator, one, other)?;
     if mask == u64::MAX {

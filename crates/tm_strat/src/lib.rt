@@ -1,6 +1,7 @@
 //! A driver's blocks, made from the solution of a game: tests of the state that lead to moves that are good there.
 #![tactic(auto)]
 
+mod arguments;
 mod atoms;
 mod candidates;
 mod choosing;
@@ -18,6 +19,7 @@ mod reading;
 mod sets;
 mod spelling;
 mod splits;
+mod tables;
 mod tests;
 
 pub use making::{Driven, driver};

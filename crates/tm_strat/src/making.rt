@@ -1,33 +1,48 @@
 //! A driver's blocks from the solution of a game.
-ghost use Rattle.std.specs.Prelude.{ℕ, IfOk};
+ghost use Rattle.std.specs.List.{range_with_len};
+ghost use Rattle.std.specs.Prelude.{◌≡◌, ◌+◌, ◌<◌, ◌≤◌, ◌^◌, ℕ, true, IfOk, List, length, map};
 ghost use Rattle.tm_check.specs.Reads.{IsSized};
+ghost use Rattle.tm_cir.specs.Answer.{Answers};
 ghost use Rattle.tm_cir.specs.Fit.{FitBlocks};
+ghost use Rattle.tm_cir.specs.Tree.{BlockTree};
 ghost use Rattle.tm_cir.specs.View.{trees_of};
+ghost use Rattle.tm_flat.specs.Inputs.{room};
 ghost use Rattle.tm_game.specs.Game.{Grows, IsOf};
+ghost use Rattle.tm_dd.specs.declared.node.NodeId.{NodeId};
+ghost use Rattle.tm_game.specs.declared.moves.MoveShape.{MoveShape};
+ghost use Rattle.tm_sem.specs.Certificates.{DriverSets, MeetsDriver, MeetsMoveForm};
+ghost use Rattle.tm_solve.specs.declared.iterates.RankSet.{RankSet};
+ghost use Rattle.tm_solve.specs.Iterates as solution;
 ghost use Rattle.tm_solve.specs.Iterates.{KnowsAll};
-ghost use Rattle.tm_solve_exact.specs.Exact.{exact_ids};
+ghost use Rattle.tm_solve_exact.specs.Exact.{IsExactOf, exact_ids};
+ghost use Rattle.tm_strat.specs.Choice.{IsChoice};
+ghost use Rattle.tm_strat.specs.Chosen.{AreChosen, AreNumbered};
 ghost use Rattle.tm_strat.specs.Fitting.{FitsCounts};
+ghost use Rattle.tm_strat.specs.Goods.{AreGoodMoves, IsGoodFor};
+ghost use Rattle.tm_strat.specs.Meeting.{CanCall, Serves};
+ghost use Rattle.tm_strat.specs.Prepared.{AreShapesOf, AreWidthsOf, IsPrepared};
+ghost use Rattle.tm_strat.specs.Served.{AreGivenFor, AreMadeFor, IsMadeFor, candidate_trees};
+ghost use Rattle.tm_strat.specs.Spelled.{draft_tree};
 ghost use Rattle.tm_strat.specs.Targets.{AreSetsOf};
-ghost use Rattle.tm_strat_drafts.specs.Drafts.{AreLater};
+ghost use Rattle.tm_strat.specs.Zoned.{AreArgumentLevels};
+ghost use Rattle.tm_strat_drafts.specs.Blocks.{AreLater};
 ghost use Rattle.tm_strat_drafts.specs.Growth.{Carried};
+ghost use Rattle.tm_syntax.specs.Design.{DesignTree};
 ghost use Rattle.tm_syntax.specs.Design.View.{design_tree};
+ghost use Rattle.tm_verdict.specs.Regular.{IsRegular};
 
 use crate::candidates::Candidate;
 use crate::choosing::{Choosing, GoalMoves, TestTable};
 use crate::covering::{Chooser, candidates};
-use crate::good::{GoodMoves, good_moves, id_at, shapes};
+use crate::good::{GoodMoves, good_moves, shapes};
 use crate::masses::Masses;
 use crate::numbers::{Counts, narrow};
 use crate::options::all_parameters;
-use crate::predicates::Predicate;
-use crate::reading::{candidate_states, read_candidates, read_tests};
-use crate::sets::{both, either, rest};
+use crate::reading::{Given, candidate_states, read_candidates};
 use crate::spelling::{Spelling, fitting, spelled};
-use crate::tests::{bits, predicates};
-use indexmap::IndexSet;
+use crate::tables::all_tests;
 use std::alloc::{AllocError, Global};
 use tm_cir::Blocks;
-use tm_dd::{FALSE, NodeId};
 use tm_game::{Game, MoveShape};
 use tm_game_bits::ROOM;
 use tm_solve::Iterates;
@@ -46,8 +61,9 @@ pub struct Driven {
 ///
 /// A set of states is served by a block that is there where one is good at all of it, else by a candidate move, else it
 /// is split by the test that leaves the least mixture of candidates on its two sides. The game is taken and given back,
-/// since what builds the blocks owns it; its ids mean what they meant. `AllocError` is want of memory; no driver has
-/// 2^32 blocks.
+/// since what builds the blocks owns it; its ids mean what they meant. Where the design is that of a text and the
+/// ranked sets are a certificate of some strategy, they are one of these blocks. `AllocError` is want of memory; no
+/// driver has 2^32 blocks.
 pub fn driver(
     alloc: Global,
     mut game: Game,
@@ -59,7 +75,13 @@ pub fn driver(
     requires known { KnowsAll (exact_ids game) iterates.now }
     ensures grows { IfOk result (λ made. Grows game made.game) }
     ensures fits { IfOk result (λ made. FitBlocks (design_tree design.now) (trees_of made.blocks)) }
+    ensures meets { IfOk result (λ made. IsRegular (design_tree design.now) → CanCall (design_tree design.now)
+        → MeetsMoveForm (design_tree design.now) (solution.driver_sets (exact_ids game) iterates.now)
+        → MeetsDriver (design_tree design.now) (Answers (trees_of made.blocks))
+        (solution.driver_sets (exact_ids game) iterates.now)) }
 {
+    tell(&game);
+    let _turn = game.turn();
     let prepared = prepare(alloc, &mut game, design, iterates)?;
     let made = build(alloc, game, design, prepared)?;
     Ok(made)
@@ -74,13 +96,6 @@ struct Prepared {
     goals: Vec<GoalMoves>,
 }
 
-// Tests of states, in C and where they hold.
-#[derive(Drop)]
-struct Tests {
-    predicates: Vec<Predicate>,
-    holds: Vec<NodeId>,
-}
-
 // Makes the good moves of each goal, candidates and tests.
 fn prepare(
     alloc: Global,
@@ -93,7 +108,11 @@ fn prepare(
     requires sets { AreSetsOf game.old iterates.now }
     ensures grows { Carried game.old game.new }
     ensures counts { IfOk result (λ p. FitsCounts (design_tree design.now) p.spelling.counts) }
+    ensures choice { IfOk result (λ p. IsChoice game.new p.tests.holds.items p.goals.items) }
+    ensures made { IfOk result (λ p. IsPrepared (design_tree design.now) game.new iterates.now p.spelling
+        p.tests.holds.items p.goals.items) }
 {
+    tell(game);
     let counts = counts_of(design);
     let chooser = chooser_of(alloc, game, design)?;
     let goods = good_moves(alloc, game, iterates, &chooser.shapes, &chooser.levels)?;
@@ -105,9 +124,10 @@ fn prepare(
         game,
         design,
         counts,
+        iterates,
         &chooser.shapes,
         &candidates,
-        goods,
+        &goods,
     )?;
     let widths = widths_of(alloc, game)?;
     Ok(Prepared {
@@ -124,6 +144,17 @@ fn prepare(
     })
 }
 
+// What a game tells of the sets that it keeps. It does nothing at run time but read.
+fn tell(game: &Game)
+    ensures { (d : DesignTree) → IsOf d game.now → IsExactOf d game.now }
+{
+    let _goals = game.goals();
+    let _fairs = game.fairs();
+    let _valid = game.valid();
+    let _order = game.order();
+    let _count = game.terms().count();
+}
+
 // How many variables and processes the states of a design have.
 fn counts_of(design: &Design) -> Counts
     ensures { FitsCounts (design_tree design.now) result }
@@ -135,7 +166,12 @@ fn counts_of(design: &Design) -> Counts
 }
 
 // What candidates are chosen with.
-fn chooser_of(alloc: Global, game: &Game, design: &Design) -> Result<Chooser, AllocError> {
+fn chooser_of(alloc: Global, game: &Game, design: &Design) -> Result<Chooser, AllocError>
+    requires { length game.now.order + 128 < 2 ^ 32 }
+    ensures levels { IfOk result (λ c. AreArgumentLevels game.now c.levels.items) }
+    ensures few { IfOk result (λ c. length c.shapes.items ≤ 4294967295) }
+    ensures all { IfOk result (λ c. AreShapesOf (design_tree design.now) c.shapes.items) }
+{
     let tasks = all_parameters(alloc, design, game)?;
     let processes = narrow(design.processes.len());
     let shapes = shapes(alloc, processes, narrow(design.tasks.len()))?;
@@ -151,183 +187,28 @@ fn chooser_of(alloc: Global, game: &Game, design: &Design) -> Result<Chooser, Al
 }
 
 // The levels of the bits of arguments, from the first on.
-fn argument_levels(alloc: Global, first: u32) -> Result<Vec<u32>, AllocError> {
+fn argument_levels(alloc: Global, first: u32) -> Result<Vec<u32>, AllocError>
+    requires { first + 128 < 2 ^ 32 }
+    ensures { IfOk result (λ levels. levels.items ≡ range_with_len first room) }
+{
     let mut levels = Vec::new(alloc);
     for index in 0..ROOM {
-        levels.push(first.saturating_add(index))?;
+        levels.push(first + index)?;
     }
     Ok(levels)
 }
 
 // The widths of the parameters of each task.
-fn widths_of(alloc: Global, game: &Game) -> Result<Vec<Vec<u8>>, AllocError> {
+fn widths_of(alloc: Global, game: &Game) -> Result<Vec<Vec<u8>>, AllocError>
+    ensures { IfOk result (λ rows. AreWidthsOf game.now rows.items) }
+{
+    let rows = game.flat().parameters.as_slice();
     let mut all = Vec::new(alloc);
-    for row in &game.flat().parameters {
-        let widths = Vec::from_slice(alloc, row.as_slice())?;
+    for index in 0..rows.len() {
+        let widths = Vec::from_slice(alloc, rows[index].as_slice())?;
         all.push(widths)?;
     }
     Ok(all)
-}
-
-// Tests of states, in tiers.
-#[derive(Drop)]
-struct AllTests {
-    predicates: Vec<Predicate>,
-    table: TestTable,
-}
-
-// The tests that are tried: each of the first ones once that tells some states apart at which a move is good, and then
-// the bits of a state, those of who moved last in a tier of their own.
-fn all_tests(
-    alloc: Global,
-    game: &mut Game,
-    design: &Design,
-    counts: Counts,
-    goods: &[GoodMoves],
-) -> Result<AllTests, AllocError>
-    requires of { IsOf (design_tree design.now) game.old }
-    requires sized { IsSized game.old }
-    requires counts { FitsCounts (design_tree design.now) counts }
-    ensures { Carried game.old game.new }
-{
-    let mut tests = Tests {
-        predicates: Vec::new(alloc),
-        holds: Vec::new(alloc),
-    };
-    push_first(alloc, game, design, counts, goods, &mut tests)?;
-    let first_tier = tests.holds.len();
-    let last = push_bits(alloc, game, design, counts, &mut tests)?;
-    let second_tier = tests.holds.len().saturating_sub(last);
-    Ok(AllTests {
-        predicates: tests.predicates,
-        table: TestTable {
-            holds: tests.holds,
-            first_tier,
-            second_tier,
-        },
-    })
-}
-
-// Puts the tests that are tried first behind others.
-fn push_first(
-    alloc: Global,
-    game: &mut Game,
-    design: &Design,
-    counts: Counts,
-    goods: &[GoodMoves],
-    tests: &mut Tests,
-) -> Result<(), AllocError>
-    requires of { IsOf (design_tree design.now) game.old }
-    requires sized { IsSized game.old }
-    requires counts { FitsCounts (design_tree design.now) counts }
-    ensures { Carried game.old game.new }
-{
-    let all = predicates(alloc, game, design, counts)?;
-    let holds = read_tests(alloc, design, game, counts, &all)?;
-    let care = all_care(game, goods)?;
-    let mut seen = IndexSet::new(alloc);
-    for index in 0..all.len() {
-        push_test(
-            game,
-            tests,
-            &mut seen,
-            all[index],
-            id_at(&holds, index),
-            care,
-        )?;
-    }
-    Ok(())
-}
-
-// Puts a test behind others where it tells states of a set apart that no earlier one tells apart alike.
-fn push_test(
-    game: &mut Game,
-    tests: &mut Tests,
-    seen: &mut IndexSet<NodeId>,
-    predicate: Predicate,
-    holds: NodeId,
-    care: NodeId,
-) -> Result<(), AllocError>
-    ensures { Carried game.old game.new }
-{
-    let here = both(game, holds, care)?;
-    let others = rest(game, care, holds)?;
-    if here == FALSE || others == FALSE || seen.contains(&here) || seen.contains(&others) {
-        return Ok(());
-    }
-    seen.insert(here)?;
-    push_valid(game, tests, predicate, holds)?;
-    Ok(())
-}
-
-// Puts a test behind others, and the valid states at which it holds.
-fn push_valid(
-    game: &mut Game,
-    tests: &mut Tests,
-    predicate: Predicate,
-    holds: NodeId,
-) -> Result<(), AllocError>
-    ensures { Carried game.old game.new }
-{
-    let valid = game.valid();
-    let there = both(game, holds, valid)?;
-    tests.predicates.push(predicate)?;
-    tests.holds.push(there)?;
-    Ok(())
-}
-
-// The states at which some move is good for some goal.
-fn all_care(game: &mut Game, goods: &[GoodMoves]) -> Result<NodeId, AllocError>
-    ensures { Carried game.old game.new }
-{
-    let mut care = FALSE;
-    for good in goods {
-        care = either(game, care, good.care)?;
-    }
-    Ok(care)
-}
-
-// Puts the bits of a state behind other tests, and answers how many bits who moved last has.
-fn push_bits(
-    alloc: Global,
-    game: &mut Game,
-    design: &Design,
-    counts: Counts,
-    tests: &mut Tests,
-) -> Result<usize, AllocError>
-    requires of { IsOf (design_tree design.now) game.old }
-    requires sized { IsSized game.old }
-    requires counts { FitsCounts (design_tree design.now) counts }
-    ensures { Carried game.old game.new }
-{
-    let widths = state_widths(alloc, game, counts)?;
-    let all = bits(alloc, &widths, counts)?;
-    let holds = read_tests(alloc, design, game, counts, &all)?;
-    for index in 0..all.len() {
-        push_valid(game, tests, all[index], id_at(&holds, index))?;
-    }
-    Ok(last_of(&widths))
-}
-
-// The last of some widths.
-fn last_of(widths: &[u8]) -> usize {
-    if widths.is_empty() {
-        return 0;
-    }
-    usize::from(widths[widths.len() - 1])
-}
-
-// The widths of the numbers of a state.
-fn state_widths(alloc: Global, game: &Game, counts: Counts) -> Result<Vec<u8>, AllocError> {
-    let numbers = counts.vars.saturating_add(counts.processes);
-    let mut widths = Vec::new(alloc);
-    let all = game.flat().widths.as_slice();
-    for index in 0..all.len() {
-        if index <= numbers {
-            widths.push(all[index])?;
-        }
-    }
-    Ok(widths)
 }
 
 // The good moves of each goal, with those of candidates.
@@ -336,26 +217,50 @@ fn goal_moves(
     game: &mut Game,
     design: &Design,
     counts: Counts,
+    iterates: &Iterates,
     shapes: &[MoveShape],
     candidates: &[Candidate],
-    goods: Vec<GoodMoves>,
+    goods: &[GoodMoves],
 ) -> Result<Vec<GoalMoves>, AllocError>
-    requires of { IsOf (design_tree design.now) game.old }
+    requires exact { IsExactOf (design_tree design.now) game.old }
     requires sized { IsSized game.old }
     requires counts { FitsCounts (design_tree design.now) counts }
-    ensures { Carried game.old game.new }
+    requires goods { AreGoodMoves (design_tree design.now) game.old iterates.now shapes.now goods.now }
+    ensures grows { Carried game.old game.new }
+    ensures count { IfOk result (λ goals. length goals.items ≡ length goods.now) }
+    ensures made { IfOk result (λ goals. AreMadeFor (design_tree design.now) game.new iterates.now shapes.now
+        (candidate_trees (design_tree design.now) counts shapes.now candidates.now) goals.items) }
 {
     let given = read_candidates(alloc, design, game, counts, shapes, candidates)?;
     let mut goals = Vec::new(alloc);
-    for good in goods {
-        let states = candidate_states(alloc, game, &given, &good.pairs)?;
-        goals.push(GoalMoves {
-            pairs: good.pairs,
-            candidates: states,
-            care: good.care,
-        })?;
+    for index in 0..goods.len() {
+        let made = goal_move(alloc, game, &given, &goods[index])?;
+        goals.push(made)?;
     }
     Ok(goals)
+}
+
+// The good moves of a goal, with those of candidates.
+fn goal_move(
+    alloc: Global,
+    game: &mut Game,
+    given: &[Given],
+    good: &GoodMoves,
+) -> Result<GoalMoves, AllocError>
+    ensures grows { Carried game.old game.new }
+    ensures made { IfOk result (λ made. (d : DesignTree) (region : NodeId) (ranks : List RankSet) (goal : ℕ)
+        (shapes : List MoveShape) (blocks : List BlockTree) → IsExactOf d game.old
+        → IsGoodFor d game.old region ranks goal shapes good.now
+        → AreGivenFor d game.old shapes blocks given.now (length blocks)
+        → IsMadeFor d game.new region ranks goal shapes blocks made) }
+{
+    let candidates = candidate_states(alloc, game, given, &good.pairs)?;
+    let pairs = Vec::from_slice(alloc, &good.pairs)?;
+    Ok(GoalMoves {
+        pairs,
+        candidates,
+        care: good.care,
+    })
 }
 
 // The blocks, from what was prepared.
@@ -366,8 +271,12 @@ fn build(
     prepared: Prepared,
 ) -> Result<Driven, AllocError>
     requires counts { FitsCounts (design_tree design.now) prepared.spelling.counts }
+    requires choice { IsChoice game prepared.tests.holds.items prepared.goals.items }
     ensures grows { IfOk result (λ made. Carried game made.game) }
     ensures fits { IfOk result (λ made. FitBlocks (design_tree design.now) (trees_of made.blocks)) }
+    ensures meets { IfOk result (λ made. (c : DriverSets) → Serves (design_tree design.now) c game prepared.spelling
+        prepared.tests.holds.items prepared.goals.items → MeetsMoveForm (design_tree design.now) c
+        → MeetsDriver (design_tree design.now) (Answers (trees_of made.blocks)) c) }
 {
     let Prepared {
         spelling,
@@ -392,7 +301,7 @@ fn build(
 #[derive(Drop)]
 struct Drafted {
     game: Game,
-    blocks: Vec<DraftBlock>,
+    made: Vec<DraftBlock>,
 }
 
 // The blocks of C of drafted ones.
@@ -403,11 +312,13 @@ fn spelled_driver(
     drafted: Drafted,
 ) -> Result<Driven, AllocError>
     requires counts { FitsCounts (design_tree design.now) spelling.now.counts }
-    requires later { (tests : ℕ) × AreLater tests drafted.blocks.items }
+    requires later { (tests : ℕ) × AreLater tests drafted.made.items }
     ensures grows { IfOk result (λ made. Carried drafted.game made.game) }
     ensures fits { IfOk result (λ made. FitBlocks (design_tree design.now) (trees_of made.blocks)) }
+    ensures trees { IfOk result (λ made. trees_of made.blocks
+        ≡ map (draft_tree (design_tree design.now) spelling.now) drafted.made.items) }
 {
-    let list = spelled(alloc, design, spelling, &drafted.blocks)?;
+    let list = spelled(alloc, design, spelling, &drafted.made)?;
     let blocks = fitting(design, list);
     Ok(Driven {
         game: drafted.game,
@@ -417,18 +328,20 @@ fn spelled_driver(
 
 // Drafted blocks over so many tests of states.
 fn make_drafts(alloc: Global, mut choosing: Choosing, states: u32) -> Result<Drafted, AllocError>
-    ensures grows { IfOk result (λ made. Carried choosing.game made.game) }
-    ensures later { IfOk result (λ made. (tests : ℕ) × AreLater tests made.blocks.items) }
+    ensures good { IfOk result (λ drafted. AreChosen choosing.game choosing.tests.holds.items choosing.goals.items
+        drafted.made.items) }
+    ensures grows { IfOk result (λ drafted. Carried choosing.game drafted.game) }
+    ensures later { IfOk result (λ drafted. (tests : ℕ) × AreLater tests drafted.made.items) }
 {
-    let blocks = drafted_blocks(alloc, &mut choosing, states)?;
+    let made = drafted_blocks(alloc, &mut choosing, states)?;
     Ok(Drafted {
         game: choosing.game,
-        blocks,
+        made,
     })
 }
 
-// Drafted blocks over so many tests of states; where there is no goal, or there are too many tests for 32 bits, one
-// that idles.
+// Drafted blocks over so many tests of states, or one that idles where there is no goal. More tests and goals than 32
+// bits number are want of memory, as more blocks are.
 fn drafted_blocks(
     alloc: Global,
     choosing: &mut Choosing,
@@ -436,13 +349,31 @@ fn drafted_blocks(
 ) -> Result<Vec<DraftBlock>, AllocError>
     ensures grows { Carried choosing.old.game choosing.new.game }
     ensures later { IfOk result (λ bs. (tests : ℕ) × AreLater tests bs.items) }
+    ensures good { IfOk result (λ bs. AreChosen choosing.old.game choosing.old.tests.holds.items
+        choosing.old.goals.items bs.items) }
 {
-    let goals = narrow(choosing.goals.len());
-    if goals == 0 || goals > u32::MAX - states {
+    if choosing.goals.is_empty() {
         return idle_block(alloc);
+    }
+    let goals = narrow(choosing.goals.len());
+    if !are_numbered(choosing, states, goals) {
+        return Err(AllocError);
     }
     let blocks = strategies(alloc, choosing, states, goals)?;
     Ok(blocks)
+}
+
+// Whether so many tests of states and goals are all that there are, and 32 bits number both.
+fn are_numbered(choosing: &Choosing, states: u32, goals: u32) -> bool
+    ensures { result ≡ true → AreNumbered choosing.now.tests.holds.items choosing.now.goals.items states goals }
+{
+    if choosing.tests.holds.len() != states as usize {
+        return false;
+    }
+    if choosing.goals.len() != goals as usize {
+        return false;
+    }
+    goals <= u32::MAX - states
 }
 
 // One block, which idles.

@@ -1,7 +1,9 @@
 //! The numbers of a state, as blocks name them.
-ghost use Rattle.std.specs.Prelude.{IfOk};
+ghost use Rattle.std.specs.Prelude.{◌≡◌, ◌<◌, ◌^◌, IfOk};
 ghost use Rattle.tm_cir.specs.Fit.{FitsNum};
+ghost use Rattle.tm_cir.specs.Tree.{binary};
 ghost use Rattle.tm_cir.specs.View.{num_tree};
+ghost use Rattle.tm_strat.specs.Trees.{lowered_tree, masked_tree, number_in, number_tree};
 
 use std::alloc::{AllocError, Global};
 use tm_base::ShiftOperator;
@@ -26,7 +28,8 @@ pub(crate) enum Number {
 impl Number {
     /// The number as an expression; one that a state does not have is 0.
     pub(crate) fn num(self, counts: Counts) -> Num64
-        ensures { FitsNum counts.vars counts.processes (num_tree result) }
+        ensures fits { FitsNum counts.vars counts.processes (num_tree result) }
+        ensures tree { num_tree result ≡ number_tree counts self }
     {
         match self {
             Number::Variable(var) => {
@@ -49,7 +52,9 @@ impl Number {
 }
 
 /// The number of this place among the numbers of a state.
-pub(crate) fn number_at(counts: Counts, index: u32) -> Number {
+pub(crate) fn number_at(counts: Counts, index: u32) -> Number
+    ensures { result ≡ number_in counts index }
+{
     let place = index as usize;
     if place < counts.vars {
         return Number::Variable(index);
@@ -61,7 +66,9 @@ pub(crate) fn number_at(counts: Counts, index: u32) -> Number {
 }
 
 /// A number of 32 bits, or the greatest of these where it is above them.
-pub(crate) fn narrow(number: usize) -> u32 {
+pub(crate) fn narrow(number: usize) -> u32
+    ensures { number < 2 ^ 32 → result ≡ number }
+{
     if number < u32::MAX as usize {
         number as u32
     } else {
@@ -89,7 +96,8 @@ pub(crate) fn masked(
     mask: u64,
 ) -> Result<Num64, AllocError>
     requires { FitsNum counts.vars counts.processes (num_tree num) }
-    ensures { IfOk result (λ n. FitsNum counts.vars counts.processes (num_tree n)) }
+    ensures fits { IfOk result (λ n. FitsNum counts.vars counts.processes (num_tree n)) }
+    ensures tree { IfOk result (λ n. num_tree n ≡ masked_tree (num_tree num) mask) }
 {
     let num = combined(alloc, counts, NumOperator::And, num, Num64::Const(mask))?;
     Ok(num)
@@ -105,7 +113,8 @@ pub(crate) fn combined(
 ) -> Result<Num64, AllocError>
     requires one { FitsNum counts.vars counts.processes (num_tree one) }
     requires other { FitsNum counts.vars counts.processes (num_tree other) }
-    ensures { IfOk result (λ n. FitsNum counts.vars counts.processes (num_tree n)) }
+    ensures fits { IfOk result (λ n. FitsNum counts.vars counts.processes (num_tree n)) }
+    ensures tree { IfOk result (λ n. num_tree n ≡ binary operator (num_tree one) (num_tree other)) }
 {
     let _counts = counts;
     let left = Box::new(alloc, one)?;
@@ -121,7 +130,8 @@ pub(crate) fn lowered(
     by: u8,
 ) -> Result<Num64, AllocError>
     requires { FitsNum counts.vars counts.processes (num_tree num) }
-    ensures { IfOk result (λ n. FitsNum counts.vars counts.processes (num_tree n)) }
+    ensures fits { IfOk result (λ n. FitsNum counts.vars counts.processes (num_tree n)) }
+    ensures tree { IfOk result (λ n. num_tree n ≡ lowered_tree (num_tree num) by) }
 {
     let _counts = counts;
     if by == 0 || by >= 64 {

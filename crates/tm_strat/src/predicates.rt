@@ -1,7 +1,11 @@
-//! Tests of a state.
-ghost use Rattle.std.specs.Prelude.{ℕ, IfOk};
+//! Tests of a state, and of the pending goal.
+ghost use Rattle.std.specs.Prelude.{◌≡◌, ℕ, IfOk};
 ghost use Rattle.tm_cir.specs.Fit.{FitsTruth};
+ghost use Rattle.tm_cir.specs.Tree.{compare, constant, goal as pending_goal, num};
 ghost use Rattle.tm_cir.specs.View.{truth_tree};
+ghost use Rattle.tm_cir.specs.declared.block.Comparison.TheVariants as comparisons;
+ghost use Rattle.tm_strat.specs.Trees.{expression_tree, predicate_tree};
+ghost use Rattle.tm_strat.specs.declared.expressions.Expression.TheVariants as expressions;
 
 use crate::expressions::Expression;
 use crate::numbers::{Counts, Number};
@@ -9,7 +13,7 @@ use std::alloc::{AllocError, Global};
 use tm_cir::block::Comparison;
 use tm_cir::{Num64, Truth};
 
-/// A test of a state and the pending goal.
+/// A test of a state.
 #[derive(Clone, Copy, Drop)]
 pub(crate) enum Predicate {
     /// A number is not 0.
@@ -18,14 +22,13 @@ pub(crate) enum Predicate {
     Compare(Comparison, Expression, Expression),
     /// The bit of a number of this weight.
     Bit(Number, u8),
-    /// A goal is pending.
-    Pending(u32),
 }
 
 impl Predicate {
     /// The test as one of C.
     pub(crate) fn truth(self, alloc: Global, counts: Counts) -> Result<Truth, AllocError>
-        ensures { IfOk result (λ t. FitsTruth counts.vars counts.processes (truth_tree t)) }
+        ensures fits { IfOk result (λ t. FitsTruth counts.vars counts.processes (truth_tree t)) }
+        ensures tree { IfOk result (λ t. truth_tree t ≡ predicate_tree counts self) }
     {
         match self {
             Predicate::Holds(number) => Ok(Truth::Num(number.num(counts))),
@@ -33,7 +36,6 @@ impl Predicate {
                 compared(alloc, counts, comparison, one, other)
             }
             Predicate::Bit(number, weight) => bit(alloc, counts, number, weight),
-            Predicate::Pending(goal) => Ok(pending(goal)),
         }
     }
 }
@@ -46,7 +48,9 @@ fn compared(
     one: Expression,
     other: Expression,
 ) -> Result<Truth, AllocError>
-    ensures { IfOk result (λ t. FitsTruth counts.vars counts.processes (truth_tree t)) }
+    ensures fits { IfOk result (λ t. FitsTruth counts.vars counts.processes (truth_tree t)) }
+    ensures tree { IfOk result (λ t. truth_tree t
+        ≡ compare comparison (expression_tree counts one) (expression_tree counts other)) }
 {
     let left = one.num(alloc, counts)?;
     let right = other.num(alloc, counts)?;
@@ -55,15 +59,17 @@ fn compared(
 
 // Whether the bit of a number of a weight is 1.
 fn bit(alloc: Global, counts: Counts, number: Number, weight: u8) -> Result<Truth, AllocError>
-    ensures { IfOk result (λ t. FitsTruth counts.vars counts.processes (truth_tree t)) }
+    ensures fits { IfOk result (λ t. FitsTruth counts.vars counts.processes (truth_tree t)) }
+    ensures tree { IfOk result (λ t. truth_tree t ≡ num (expression_tree counts (expressions.Part number weight 1))) }
 {
     let bit = Expression::Part(number, weight, 1).num(alloc, counts)?;
     Ok(Truth::Num(bit))
 }
 
-// Whether a goal is pending.
-fn pending(goal: u32) -> Truth
-    ensures { (vars processes : ℕ) → FitsTruth vars processes (truth_tree result) }
+/// Whether a goal is pending.
+pub(crate) fn pending(goal: u32) -> Truth
+    ensures fits { (vars processes : ℕ) → FitsTruth vars processes (truth_tree result) }
+    ensures tree { truth_tree result ≡ compare comparisons.Equal pending_goal (constant goal) }
 {
     Truth::Compare(
         Comparison::Equal,

@@ -1,6 +1,11 @@
 //! Operations on diagrams of which nothing is asked: an id that the game does not know is taken for `FALSE`.
-ghost use Rattle.std.specs.Prelude.{◌↔◌, All, IsTrue};
-ghost use Rattle.tm_dd.specs.Table.{Knows};
+ghost use Rattle.std.specs.Prelude.{◌≡◌, ◌↔◌, ◌&&◌, ◌||◌, All, IfOk, IsTrue, MatchOption, if◌then◌else◌, not};
+ghost use Rattle.tm_dd.specs.Table.{Knows, means};
+ghost use Rattle.tm_dd.specs.declared.node.TheConstants.{FALSE as NOTHING};
+ghost use Rattle.tm_ddops.specs.Least.{IsLeast};
+ghost use Rattle.tm_ddops.specs.Manager.{IsFunction};
+ghost use Rattle.tm_ddops.specs.Operation.{substituted};
+ghost use Rattle.tm_ddops.specs.Quantified.{IsExists};
 ghost use Rattle.tm_strat_drafts.specs.Growth.{Carried};
 
 use std::alloc::{AllocError, Global};
@@ -18,7 +23,10 @@ fn is_known(game: &Game, id: NodeId) -> bool
 /// Both of two functions.
 #[tactic(auto, using(crate::proofs::Carrying::carry))]
 pub(crate) fn both(game: &mut Game, a: NodeId, b: NodeId) -> Result<NodeId, AllocError>
-    ensures { Carried game.old game.new }
+    ensures grows { Carried game.old game.new }
+    ensures answer { Knows game.old.diagrams.table a → Knows game.old.diagrams.table b
+        → IfOk result (λ id. IsFunction game.new.diagrams.table id
+        (λ v. means game.new.diagrams.table a v && means game.new.diagrams.table b v)) }
 {
     if !is_known(game, a) || !is_known(game, b) {
         return Ok(FALSE);
@@ -29,7 +37,10 @@ pub(crate) fn both(game: &mut Game, a: NodeId, b: NodeId) -> Result<NodeId, Allo
 
 /// The first of two functions where the second is false.
 pub(crate) fn rest(game: &mut Game, a: NodeId, b: NodeId) -> Result<NodeId, AllocError>
-    ensures { Carried game.old game.new }
+    ensures grows { Carried game.old game.new }
+    ensures answer { Knows game.old.diagrams.table a → Knows game.old.diagrams.table b
+        → IfOk result (λ id. IsFunction game.new.diagrams.table id
+        (λ v. means game.new.diagrams.table a v && not (means game.new.diagrams.table b v))) }
 {
     let other = b.complement();
     let id = both(game, a, other)?;
@@ -39,7 +50,10 @@ pub(crate) fn rest(game: &mut Game, a: NodeId, b: NodeId) -> Result<NodeId, Allo
 /// At least one of two functions.
 #[tactic(auto, using(crate::proofs::Carrying::carry))]
 pub(crate) fn either(game: &mut Game, a: NodeId, b: NodeId) -> Result<NodeId, AllocError>
-    ensures { Carried game.old game.new }
+    ensures grows { Carried game.old game.new }
+    ensures answer { Knows game.old.diagrams.table a → Knows game.old.diagrams.table b
+        → IfOk result (λ id. IsFunction game.new.diagrams.table id
+        (λ v. means game.new.diagrams.table a v || means game.new.diagrams.table b v)) }
 {
     if !is_known(game, a) || !is_known(game, b) {
         return Ok(FALSE);
@@ -56,7 +70,11 @@ pub(crate) fn chosen(
     a: NodeId,
     b: NodeId,
 ) -> Result<NodeId, AllocError>
-    ensures { Carried game.old game.new }
+    ensures grows { Carried game.old game.new }
+    ensures answer { Knows game.old.diagrams.table test → Knows game.old.diagrams.table a
+        → Knows game.old.diagrams.table b → IfOk result (λ id. IsFunction game.new.diagrams.table id
+        (λ v. if means game.new.diagrams.table test v then means game.new.diagrams.table a v
+        else means game.new.diagrams.table b v)) }
 {
     if !is_known(game, test) || !is_known(game, a) || !is_known(game, b) {
         return Ok(FALSE);
@@ -68,7 +86,9 @@ pub(crate) fn chosen(
 /// A function for some values of the levels.
 #[tactic(auto, using(crate::proofs::Carrying::carry))]
 pub(crate) fn somewhere(game: &mut Game, f: NodeId, levels: &[u32]) -> Result<NodeId, AllocError>
-    ensures { Carried game.old game.new }
+    ensures grows { Carried game.old game.new }
+    ensures answer { Knows game.old.diagrams.table f
+        → IfOk result (IsExists game.new.diagrams.table levels.now f) }
 {
     if !is_known(game, f) {
         return Ok(FALSE);
@@ -97,7 +117,11 @@ pub(crate) fn placed(
     f: NodeId,
     parts: &[(u32, NodeId)],
 ) -> Result<NodeId, AllocError>
-    ensures { Carried game.old game.new }
+    ensures grows { Carried game.old game.new }
+    ensures answer { Knows game.old.diagrams.table f
+        → All (λ p. Knows game.old.diagrams.table p.1) parts.now
+        → IfOk result (λ id. IsFunction game.new.diagrams.table id
+        (λ v. means game.new.diagrams.table f (substituted game.new.diagrams.table parts.now v))) }
 {
     if !is_known(game, f) || !are_known(game, parts) {
         return Ok(FALSE);
@@ -107,7 +131,10 @@ pub(crate) fn placed(
 }
 
 /// The least values of levels for which a function is true, none where it is `FALSE`.
-pub(crate) fn least(game: &Game, f: NodeId) -> Result<Option<Vec<bool>>, AllocError> {
+pub(crate) fn least(game: &Game, f: NodeId) -> Result<Option<Vec<bool>>, AllocError>
+    ensures { Knows game.now.diagrams.table f → IfOk result (λ least.
+        MatchOption least (f ≡ NOTHING) (λ values. IsLeast game.now.diagrams.table f values.items)) }
+{
     if !is_known(game, f) {
         return Ok(None);
     }

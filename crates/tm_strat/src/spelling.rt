@@ -1,15 +1,20 @@
 //! Drafted blocks as blocks of C.
-ghost use Rattle.std.specs.Prelude.{◌≡◌, ℕ, IfOk, length};
-ghost use Rattle.tm_cir.specs.Fit.{FitBlocks, FitsBlock};
-ghost use Rattle.tm_cir.specs.View.{block_tree, block_trees, trees_of};
+ghost use Rattle.std.specs.Option.{option_map_or};
+ghost use Rattle.std.specs.Prelude.{◌≡◌, ◌<◌, ℕ, IfOk, Some, length, map, slice_get};
+ghost use Rattle.tm_cir.specs.Fit.{FitBlocks, FitsBlock, FitsTruth};
+ghost use Rattle.tm_cir.specs.Tree.{idle};
+ghost use Rattle.tm_cir.specs.View.{block_tree, block_trees, trees_of, truth_tree};
 ghost use Rattle.tm_strat.specs.Fitting.{AreSpelled, FitsCounts, IsSpelled};
+ghost use Rattle.tm_strat.specs.Spelled.{choice_tree, constants_from, draft_tree, test_tree, widths_in};
+ghost use Rattle.tm_strat.specs.Trees.{candidate_tree, move_tree, shape_in};
 ghost use Rattle.tm_syntax.specs.Design.View.{design_tree};
 
-use crate::candidates::{Candidate, constants, move_block, shape_at};
+use crate::arguments::constants;
+use crate::candidates::{Candidate, move_block, shape_at};
 use crate::numbers::{Counts, narrow};
-use crate::predicates::Predicate;
+use crate::predicates::{Predicate, pending};
 use std::alloc::{AllocError, Global};
-use tm_cir::{Block, Blocks};
+use tm_cir::{Block, Blocks, Truth};
 use tm_game::MoveShape;
 use tm_strat_drafts::{DraftBlock, MoveChoice};
 use tm_syntax::design::Design;
@@ -26,7 +31,6 @@ pub(crate) struct Spelling {
 }
 
 /// The blocks of C, one for each drafted one.
-#[tactic(auto, using(crate::proofs::Fitted::none_spelled, crate::proofs::Fitted::spelled_more))]
 pub(crate) fn spelled(
     alloc: Global,
     design: &Design,
@@ -34,14 +38,26 @@ pub(crate) fn spelled(
     drafted: &[DraftBlock],
 ) -> Result<Vec<Block>, AllocError>
     requires { FitsCounts (design_tree design.now) spelling.now.counts }
-    ensures { IfOk result (λ bs. AreSpelled (design_tree design.now) drafted.now bs.items (length drafted.now)) }
+    ensures fits { IfOk result (λ bs. AreSpelled (design_tree design.now) drafted.now bs.items
+        (length drafted.now)) }
+    ensures trees { IfOk result (λ bs. block_trees bs.items
+        ≡ map (draft_tree (design_tree design.now) spelling.now) drafted.now) }
 {
     let mut blocks = Vec::new(alloc);
-    for block in drafted {
-        let spelled = spelled_block(alloc, design, spelling, *block)?;
+    for index in 0..drafted.len() {
+        let block = block_in(drafted, index);
+        let spelled = spelled_block(alloc, design, spelling, block)?;
         blocks.push(spelled)?;
     }
     Ok(blocks)
+}
+
+// The drafted block of a number.
+fn block_in(drafted: &[DraftBlock], index: usize) -> DraftBlock
+    requires { index < length drafted.now }
+    ensures { slice_get drafted.now index ≡ Some result }
+{
+    drafted[index]
 }
 
 // A block of C.
@@ -53,12 +69,12 @@ fn spelled_block(
     block: DraftBlock,
 ) -> Result<Block, AllocError>
     requires { FitsCounts (design_tree design.now) spelling.now.counts }
-    ensures { IfOk result (IsSpelled (design_tree design.now) block) }
+    ensures fits { IfOk result (IsSpelled (design_tree design.now) block) }
+    ensures tree { IfOk result (λ b. block_tree b ≡ draft_tree (design_tree design.now) spelling.now block) }
 {
     match block {
         DraftBlock::Test(test, first, second) => {
-            let predicate = predicate_at(&spelling.predicates, test);
-            let truth = predicate.truth(alloc, spelling.counts)?;
+            let truth = spelled_test(alloc, spelling, test)?;
             Ok(Block::Test(truth, first, second))
         }
         DraftBlock::Move(choice) => {
@@ -76,7 +92,8 @@ fn spelled_move(
     choice: MoveChoice,
 ) -> Result<Block, AllocError>
     requires { FitsCounts (design_tree design.now) spelling.now.counts }
-    ensures { IfOk result (λ b. (count at : ℕ) → FitsBlock (design_tree design.now) count at (block_tree b)) }
+    ensures fits { IfOk result (λ b. (count at : ℕ) → FitsBlock (design_tree design.now) count at (block_tree b)) }
+    ensures tree { IfOk result (λ b. block_tree b ≡ choice_tree (design_tree design.now) spelling.now choice) }
 {
     match choice {
         MoveChoice::Candidate(number) => candidate_block(alloc, design, spelling, number),
@@ -98,12 +115,16 @@ pub(crate) fn fitting(design: &Design, list: Vec<Block>) -> Blocks
 }
 
 // The test of a number; behind those of states come those whether a goal is pending.
-fn predicate_at(predicates: &[Predicate], test: u32) -> Predicate {
+fn spelled_test(alloc: Global, spelling: &Spelling, test: u32) -> Result<Truth, AllocError>
+    ensures fits { IfOk result (λ t. FitsTruth spelling.now.counts.vars spelling.now.counts.processes (truth_tree t)) }
+    ensures tree { IfOk result (λ t. truth_tree t ≡ test_tree spelling.now test) }
+{
     let index = test as usize;
-    if index < predicates.len() {
-        return predicates[index];
+    let count = spelling.predicates.len();
+    if index < count {
+        return spelling.predicates[index].truth(alloc, spelling.counts);
     }
-    Predicate::Pending(narrow(index - predicates.len()))
+    Ok(pending(narrow(index - count)))
 }
 
 // The block of the candidate of a number, which is to idle where there is none.
@@ -114,7 +135,10 @@ fn candidate_block(
     number: u32,
 ) -> Result<Block, AllocError>
     requires { FitsCounts (design_tree design.now) spelling.now.counts }
-    ensures { IfOk result (λ b. (count at : ℕ) → FitsBlock (design_tree design.now) count at (block_tree b)) }
+    ensures fits { IfOk result (λ b. (count at : ℕ) → FitsBlock (design_tree design.now) count at (block_tree b)) }
+    ensures tree { IfOk result (λ b. block_tree b ≡ option_map_or
+        (candidate_tree (design_tree design.now) spelling.now.counts spelling.now.shapes.items)
+        (slice_get spelling.now.candidates.items number) idle) }
 {
     match spelling.candidates.get(number as usize) {
         Some(candidate) => {
@@ -134,7 +158,10 @@ fn constant_block(
     bits: u64,
 ) -> Result<Block, AllocError>
     requires { FitsCounts (design_tree design.now) spelling.now.counts }
-    ensures { IfOk result (λ b. (count at : ℕ) → FitsBlock (design_tree design.now) count at (block_tree b)) }
+    ensures fits { IfOk result (λ b. (count at : ℕ) → FitsBlock (design_tree design.now) count at (block_tree b)) }
+    ensures tree { IfOk result (λ b. block_tree b ≡ move_tree (design_tree design.now) spelling.now.counts
+        (shape_in spelling.now.shapes.items shape)
+        (constants_from bits 0 (widths_in spelling.now (shape_in spelling.now.shapes.items shape)))) }
 {
     let shape = shape_at(&spelling.shapes, shape);
     let arguments = constants(alloc, widths_of(spelling, shape), bits)?;
@@ -142,7 +169,9 @@ fn constant_block(
 }
 
 // The widths of the parameters of the task that a shape calls.
-fn widths_of(spelling: &Spelling, shape: MoveShape) -> &[u8] {
+fn widths_of(spelling: &Spelling, shape: MoveShape) -> &[u8]
+    ensures { result.now ≡ widths_in spelling.now shape }
+{
     match shape {
         MoveShape::Idle => &[],
         MoveShape::Leave(_) => &[],

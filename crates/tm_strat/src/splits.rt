@@ -248,7 +248,8 @@ fn mixture(
     Ok(whole * (1.0 - squares))
 }
 
-// The candidate with the largest part of a set, which lies in the one for which each mass is the largest that it can be.
+// The candidate with the largest part of a set, which lies in the one for which each mass is the largest that it can
+// be.
 //
 // A candidate whose bound is not above a part that was found is not looked at: parts shrink with the set, so bounds of
 // before stay bounds (the lazy greedy algorithm; Minoux 1978).

@@ -1,4 +1,6 @@
 //! The tests that are tried.
+ghost use Rattle.std.specs.Prelude.{◌<◌, ◌^◌, IfOk, length};
+ghost use Rattle.tm_strat.specs.Tested.{AreAllBits, HasBitsOf};
 
 use crate::atoms::predicate_of;
 use crate::expressions::Expression;
@@ -236,7 +238,9 @@ pub(crate) fn bits(
     alloc: Global,
     widths: &[u8],
     counts: Counts,
-) -> Result<Vec<Predicate>, AllocError> {
+) -> Result<Vec<Predicate>, AllocError>
+    ensures { IfOk result (λ found. length widths.now < 2 ^ 32 → AreAllBits counts widths.now found.items) }
+{
     let mut found = Vec::new(alloc);
     for index in 0..widths.len() {
         let number = number_at(counts, narrow(index));
@@ -246,7 +250,9 @@ pub(crate) fn bits(
 }
 
 // Puts the bits of a number of a width behind other tests, the most significant first.
-fn push_bits(found: &mut Vec<Predicate>, number: Number, width: u8) -> Result<(), AllocError> {
+fn push_bits(found: &mut Vec<Predicate>, number: Number, width: u8) -> Result<(), AllocError>
+    ensures { IfOk result (λ done. HasBitsOf number width found.old.items found.new.items) }
+{
     for passed in 0..width {
         found.push(Predicate::Bit(number, width - 1 - passed))?;
     }

@@ -1,2 +1,9 @@
-mod Growing
+mod Begun
+mod Following
 mod Items
+mod Making
+mod Parting
+mod Renewing
+mod Rooting
+mod Sets
+mod Turning

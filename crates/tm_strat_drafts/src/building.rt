@@ -1,8 +1,14 @@
 //! Drafts, from the leaves upwards.
-ghost use Rattle.std.specs.Prelude.{◌≡◌, ◌+◌, ◌<◌, ◌++◌, ◌∷◌, [], ◌≤◌, ℕ, IfOk, length};
-ghost use Rattle.tm_strat_drafts.specs.Growth.{Carried};
-ghost use Rattle.tm_strat_drafts.specs.Begun.{Begins, PartsOrNot};
-ghost use Rattle.tm_strat_drafts.specs.Drafts.{AreEarlier, drafted, FoundOrNot, Makes, MakesOrNot, SplitOrNot};
+ghost use Rattle.std.specs.Prelude.{◌≡◌, ◌<◌, ◌++◌, ◌∷◌, [], ◌≤◌, IfOk, Some, length, slice_get};
+ghost use Rattle.tm_solve.specs.Sets.{StateSet};
+ghost use Rattle.tm_strat_drafts.specs.Begun.{Begins};
+ghost use Rattle.tm_strat_drafts.specs.Drafts.{AreDrafts, blocks_of, drafted, FoundOrNot, IsMade, Makes, MakesOrNot};
+ghost use Rattle.tm_strat_drafts.specs.Growth.{Follows};
+ghost use Rattle.tm_strat_drafts.specs.Moves.{all_tests, good_now, IsCare, IsCount, passes};
+ghost use Rattle.tm_strat_drafts.specs.Sets.{chosen};
+ghost use Rattle.tm_strat_drafts.specs.Splits.{AreUniform};
+ghost use Rattle.tm_strat_drafts.specs.declared.drafts.Draft.{Draft as DraftData};
+ghost use Rattle.tm_strat_drafts.specs.declared.drafts.DraftBlock.TheVariants as blocks;
 
 use crate::drafts::{Draft, DraftBlock, MoveChoice};
 use crate::moves::Moves;
@@ -13,34 +19,34 @@ use tm_dd::NodeId;
 /// No driver has so many blocks.
 const MOST: usize = 4294967295;
 
-// A draft that ends well at each state of a set, or a split of the set with how many tests are left below it.
+// A draft that ends well at each state of a set, or a split of the set.
 #[derive(Drop)]
 pub(crate) enum Begun {
     Made(u32),
-    Parts(Split, u32),
+    Parts(Split),
 }
 
-// A draft that ends well at each state of a set. Each test that is made splits the set, so no path has a test twice, and
-// none has more than are left.
+// A draft that ends well at each state of a set. Each test that is made splits the set, so no path has a test twice.
 pub(crate) fn build<M: Moves>(
     moves: &mut M,
     drafts: &mut Vec<Draft>,
     care: NodeId,
     tests: u32,
-    left: u32,
 ) -> Result<u32, AllocError>
-    requires some { 0 < tests }
-    requires drafts { AreEarlier tests drafts.old.items }
-    ensures grows { Carried (M.game_data moves.old) (M.game_data moves.new) }
-    ensures makes { IfOk result (Makes tests drafts.old.items drafts.new.items) }
+    requires care { IsCare (M.setting moves.old).game (M.setting moves.old).ids care }
+    requires tests { IsCount (M.setting moves.old).game tests }
+    requires drafts { AreDrafts (M.setting moves.old).game (M.setting moves.old).ids drafts.old.items }
+    ensures makes { IfOk result (λ at. Makes (M.setting moves.old).game (M.setting moves.new).ids drafts.old.items
+        drafts.new.items at ((M.setting moves.old).ids.means care)) }
+    ensures follows { Follows (M.setting moves.old) (M.setting moves.new) }
 {
-    let begun = begin(moves, drafts, care, tests, left)?;
+    let begun = begin(moves, drafts, care, tests)?;
     match begun {
         Begun::Made(at) => Ok(at),
-        Begun::Parts(parts, fewer) => {
-            let first = build(moves, drafts, parts.first, tests, fewer)?;
-            let second = build(moves, drafts, parts.second, tests, fewer)?;
-            let at = join(moves, drafts, parts.test, first, second, tests)?;
+        Begun::Parts(parts) => {
+            let first = build(moves, drafts, parts.first, tests)?;
+            let second = build(moves, drafts, parts.second, tests)?;
+            let at = join(moves, drafts, parts.test, first, second)?;
             Ok(at)
         }
     }
@@ -52,17 +58,18 @@ fn begin<M: Moves>(
     drafts: &mut Vec<Draft>,
     care: NodeId,
     tests: u32,
-    left: u32,
 ) -> Result<Begun, AllocError>
-    requires some { 0 < tests }
-    requires drafts { AreEarlier tests drafts.old.items }
-    ensures grows { Carried (M.game_data moves.old) (M.game_data moves.new) }
-    ensures begins { IfOk result (Begins tests left drafts.old.items drafts.new.items) }
+    requires care { IsCare (M.setting moves.old).game (M.setting moves.old).ids care }
+    requires tests { IsCount (M.setting moves.old).game tests }
+    requires drafts { AreDrafts (M.setting moves.old).game (M.setting moves.old).ids drafts.old.items }
+    ensures begins { IfOk result (Begins (M.setting moves.old).game (M.setting moves.new).ids drafts.old.items
+        drafts.new.items ((M.setting moves.old).ids.means care)) }
+    ensures follows { Follows (M.setting moves.old) (M.setting moves.new) }
 {
-    let found = find(moves, drafts, care, tests)?;
+    let found = find(moves, drafts, care)?;
     match found {
         Some(at) => Ok(Begun::Made(at)),
-        None => divide(moves, drafts, care, tests, left),
+        None => divide(moves, drafts, care, tests),
     }
 }
 
@@ -72,36 +79,21 @@ fn divide<M: Moves>(
     drafts: &mut Vec<Draft>,
     care: NodeId,
     tests: u32,
-    left: u32,
 ) -> Result<Begun, AllocError>
-    requires some { 0 < tests }
-    requires drafts { AreEarlier tests drafts.old.items }
-    ensures grows { Carried (M.game_data moves.old) (M.game_data moves.new) }
-    ensures begins { IfOk result (Begins tests left drafts.old.items drafts.new.items) }
+    requires care { IsCare (M.setting moves.old).game (M.setting moves.old).ids care }
+    requires tests { IsCount (M.setting moves.old).game tests }
+    requires drafts { AreDrafts (M.setting moves.old).game (M.setting moves.old).ids drafts.old.items }
+    ensures begins { IfOk result (Begins (M.setting moves.old).game (M.setting moves.new).ids drafts.old.items
+        drafts.new.items ((M.setting moves.old).ids.means care)) }
+    ensures follows { Follows (M.setting moves.old) (M.setting moves.new) }
 {
     let found = find_split(moves, care, tests)?;
-    match parts_of(found, left) {
-        Some(parts) => Ok(parts),
+    match found {
+        Some(parts) => Ok(Begun::Parts(parts)),
         None => {
-            let at = leaf(moves, drafts, care, tests)?;
+            let at = leaf(moves, drafts, care)?;
             Ok(Begun::Made(at))
         }
-    }
-}
-
-// A split, where there is one and a test is left for it.
-fn parts_of(found: Option<Split>, left: u32) -> Option<Begun>
-    ensures { (tests : ℕ) → SplitOrNot tests found → PartsOrNot tests left result }
-{
-    match found {
-        Some(split) => {
-            if left == 0 {
-                None
-            } else {
-                Some(Begun::Parts(split, left - 1))
-            }
-        }
-        None => None,
     }
 }
 
@@ -110,32 +102,30 @@ fn find<M: Moves>(
     moves: &mut M,
     drafts: &mut Vec<Draft>,
     care: NodeId,
-    tests: u32,
 ) -> Result<Option<u32>, AllocError>
-    requires drafts { AreEarlier tests drafts.old.items }
-    ensures grows { Carried (M.game_data moves.old) (M.game_data moves.new) }
-    ensures makes { IfOk result (MakesOrNot tests drafts.old.items drafts.new.items) }
+    requires known { (M.setting moves.old).ids.knows care }
+    requires drafts { AreDrafts (M.setting moves.old).game (M.setting moves.old).ids drafts.old.items }
+    ensures makes { IfOk result (MakesOrNot (M.setting moves.old).game (M.setting moves.new).ids drafts.old.items
+        drafts.new.items ((M.setting moves.old).ids.means care)) }
+    ensures follows { Follows (M.setting moves.old) (M.setting moves.new) }
 {
-    let found = known(moves, drafts.as_slice(), care, tests)?;
+    let found = known(moves, drafts.as_slice(), care)?;
     match found {
         Some(at) => Ok(Some(at)),
-        None => likely(moves, drafts, care, tests),
+        None => likely(moves, drafts, care),
     }
 }
 
 // A draft that is there and ends well at each state of a set.
-fn known<M: Moves>(
-    moves: &mut M,
-    drafts: &[Draft],
-    care: NodeId,
-    tests: u32,
-) -> Result<Option<u32>, AllocError>
-    requires drafts { AreEarlier tests drafts.now }
-    ensures grows { Carried (M.game_data moves.old) (M.game_data moves.new) }
-    ensures found { IfOk result (FoundOrNot drafts.now) }
+fn known<M: Moves>(moves: &mut M, drafts: &[Draft], care: NodeId) -> Result<Option<u32>, AllocError>
+    requires known { (M.setting moves.old).ids.knows care }
+    requires drafts { AreDrafts (M.setting moves.old).game (M.setting moves.old).ids drafts.now }
+    ensures found { IfOk result (FoundOrNot (M.setting moves.old).game drafts.now
+        ((M.setting moves.old).ids.means care)) }
+    ensures follows { Follows (M.setting moves.old) (M.setting moves.new) }
 {
     for at in 0..drafts.len() {
-        let good = drafts[at].good;
+        let good = good_of(drafts, at as u32);
         if lies_in(moves, care, good)? {
             return Ok(Some(at as u32));
         }
@@ -144,16 +134,16 @@ fn known<M: Moves>(
 }
 
 // A move that is good at all states of a set, where the one that is tried is.
-#[tactic(auto, using(crate::proofs::Growing::one_more))]
 fn likely<M: Moves>(
     moves: &mut M,
     drafts: &mut Vec<Draft>,
     care: NodeId,
-    tests: u32,
 ) -> Result<Option<u32>, AllocError>
-    requires drafts { AreEarlier tests drafts.old.items }
-    ensures grows { Carried (M.game_data moves.old) (M.game_data moves.new) }
-    ensures makes { IfOk result (MakesOrNot tests drafts.old.items drafts.new.items) }
+    requires known { (M.setting moves.old).ids.knows care }
+    requires drafts { AreDrafts (M.setting moves.old).game (M.setting moves.old).ids drafts.old.items }
+    ensures makes { IfOk result (MakesOrNot (M.setting moves.old).game (M.setting moves.new).ids drafts.old.items
+        drafts.new.items ((M.setting moves.old).ids.means care)) }
+    ensures follows { Follows (M.setting moves.old) (M.setting moves.new) }
 {
     let choice = moves.likely_move(care)?;
     let good = moves.good(choice)?;
@@ -165,33 +155,32 @@ fn likely<M: Moves>(
 }
 
 // A move that is good at the one state of a set.
-fn leaf<M: Moves>(
-    moves: &mut M,
-    drafts: &mut Vec<Draft>,
-    care: NodeId,
-    tests: u32,
-) -> Result<u32, AllocError>
-    requires drafts { AreEarlier tests drafts.old.items }
-    ensures grows { Carried (M.game_data moves.old) (M.game_data moves.new) }
-    ensures makes { IfOk result (Makes tests drafts.old.items drafts.new.items) }
+fn leaf<M: Moves>(moves: &mut M, drafts: &mut Vec<Draft>, care: NodeId) -> Result<u32, AllocError>
+    requires care { IsCare (M.setting moves.old).game (M.setting moves.old).ids care }
+    requires uniform { AreUniform (M.setting moves.old).game ((M.setting moves.old).ids.means care)
+        (all_tests (M.setting moves.old).game) }
+    requires drafts { AreDrafts (M.setting moves.old).game (M.setting moves.old).ids drafts.old.items }
+    ensures makes { IfOk result (λ at. Makes (M.setting moves.old).game (M.setting moves.new).ids drafts.old.items
+        drafts.new.items at ((M.setting moves.old).ids.means care)) }
+    ensures follows { Follows (M.setting moves.old) (M.setting moves.new) }
 {
     let choice = moves.some_move(care)?;
-    let at = plain(moves, drafts, choice, tests)?;
+    let at = plain(moves, drafts, choice)?;
     Ok(at)
 }
 
 // A draft of a move.
-#[tactic(auto, using(crate::proofs::Growing::one_more, crate::proofs::Growing::count_more))]
 pub(crate) fn plain<M: Moves>(
     moves: &mut M,
     drafts: &mut Vec<Draft>,
     choice: MoveChoice,
-    tests: u32,
 ) -> Result<u32, AllocError>
-    requires drafts { AreEarlier tests drafts.old.items }
-    ensures grows { Carried (M.game_data moves.old) (M.game_data moves.new) }
-    ensures makes { IfOk result (Makes tests drafts.old.items drafts.new.items) }
-    ensures one { IfOk result (λ at. length drafts.new.items ≡ 1 + length drafts.old.items) }
+    requires drafts { AreDrafts (M.setting moves.old).game (M.setting moves.old).ids drafts.old.items }
+    ensures makes { IfOk result (λ at. Makes (M.setting moves.old).game (M.setting moves.new).ids drafts.old.items
+        drafts.new.items at (good_now (M.setting moves.old).game choice)) }
+    ensures blocks { IfOk result (λ at.
+        blocks_of drafts.new.items ≡ blocks_of drafts.old.items ++ blocks.Move choice ∷ []) }
+    ensures follows { Follows (M.setting moves.old) (M.setting moves.new) }
 {
     let good = moves.good(choice)?;
     let at = put(drafts, DraftBlock::Move(choice), good)?;
@@ -199,22 +188,26 @@ pub(crate) fn plain<M: Moves>(
 }
 
 // A test of which each side leads on to a draft.
-#[tactic(auto, using(crate::proofs::Growing::one_more, crate::proofs::Growing::count_more))]
 pub(crate) fn join<M: Moves>(
     moves: &mut M,
     drafts: &mut Vec<Draft>,
     test: u32,
     first: u32,
     second: u32,
-    tests: u32,
 ) -> Result<u32, AllocError>
-    requires test { test < tests }
+    requires test { test < all_tests (M.setting moves.old).game }
     requires first { first < length drafts.old.items }
     requires second { second < length drafts.old.items }
-    requires drafts { AreEarlier tests drafts.old.items }
-    ensures grows { Carried (M.game_data moves.old) (M.game_data moves.new) }
-    ensures makes { IfOk result (Makes tests drafts.old.items drafts.new.items) }
-    ensures one { IfOk result (λ at. length drafts.new.items ≡ 1 + length drafts.old.items) }
+    requires drafts { AreDrafts (M.setting moves.old).game (M.setting moves.old).ids drafts.old.items }
+    ensures makes { IfOk result (λ at. (a b : StateSet)
+        → IsMade (M.setting moves.old).game drafts.old.items first a
+        → IsMade (M.setting moves.old).game drafts.old.items second b
+        → Makes (M.setting moves.old).game (M.setting moves.new).ids drafts.old.items drafts.new.items at
+        (chosen (passes (M.setting moves.old).game test) a b)) }
+    ensures at { IfOk result (λ at. at ≡ length drafts.old.items) }
+    ensures blocks { IfOk result (λ at.
+        blocks_of drafts.new.items ≡ blocks_of drafts.old.items ++ blocks.Test test first second ∷ []) }
+    ensures follows { Follows (M.setting moves.old) (M.setting moves.new) }
 {
     let holds = moves.test(test)?;
     let one = good_of(drafts.as_slice(), first);
@@ -241,6 +234,7 @@ fn put(drafts: &mut Vec<Draft>, block: DraftBlock, good: NodeId) -> Result<u32, 
 // The set of a draft.
 fn good_of(drafts: &[Draft], at: u32) -> NodeId
     requires { at < length drafts.now }
+    ensures { (d : DraftData) → slice_get drafts.now at ≡ Some d → d.good ≡ result }
 {
     drafts[at as usize].good
 }

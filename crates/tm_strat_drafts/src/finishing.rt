@@ -1,6 +1,9 @@
 //! Drafts as blocks in order.
 ghost use Rattle.std.specs.Prelude.{◌≡◌, ◌<◌, ℕ, IfOk, Some, length, slice_get};
-ghost use Rattle.tm_strat_drafts.specs.Drafts.{AreEarlier, AreLater, FitsBelow, turned_block};
+ghost use Rattle.tm_solve.specs.Sets.{StateSet};
+ghost use Rattle.tm_strat_drafts.specs.Blocks.{AreGood, AreLater};
+ghost use Rattle.tm_strat_drafts.specs.Drafts.{AreEarlier, blocks_of, FitsBelow, turned_block};
+ghost use Rattle.tm_strat_drafts.specs.Moves.{Game};
 ghost use Rattle.tm_strat_drafts.specs.declared.drafts.Draft.{Draft as DraftData};
 
 use crate::drafts::{Draft, DraftBlock};
@@ -8,7 +11,6 @@ use std::alloc::{AllocError, Global};
 
 // The blocks from one of the drafts down to the first one, numbered the other way round, so that each leads on to later
 // ones.
-#[tactic(auto, using(crate::proofs::Growing::none_turned))]
 pub(crate) fn finish(
     alloc: Global,
     drafts: &[Draft],
@@ -16,7 +18,9 @@ pub(crate) fn finish(
 ) -> Result<Vec<DraftBlock>, AllocError>
     requires root { root < length drafts.now }
     requires earlier { (tests : ℕ) × AreEarlier tests drafts.now }
-    ensures { IfOk result (λ bs. (tests : ℕ) → AreEarlier tests drafts.now → AreLater tests bs.items) }
+    ensures good { IfOk result (λ bs. (g : Game) (set : StateSet)
+        → AreGood g (blocks_of drafts.now) root set → AreGood g bs.items 0 set) }
+    ensures later { IfOk result (λ bs. (tests : ℕ) → AreEarlier tests drafts.now → AreLater tests bs.items) }
 {
     let mut blocks = Vec::new(alloc);
     let count = root as usize + 1;
@@ -28,7 +32,7 @@ pub(crate) fn finish(
 }
 
 // The block of a draft.
-fn block_at(drafts: &[Draft], at: usize) -> DraftBlock
+pub(crate) fn block_at(drafts: &[Draft], at: usize) -> DraftBlock
     requires { at < length drafts.now }
     ensures { (d : DraftData) → slice_get drafts.now at ≡ Some d → d.block ≡ result }
 {

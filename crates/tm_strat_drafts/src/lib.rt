@@ -5,6 +5,7 @@ mod building;
 mod drafts;
 mod finishing;
 mod goals;
+mod ids;
 mod moves;
 mod splitting;
 

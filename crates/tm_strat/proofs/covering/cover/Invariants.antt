@@ -1,5 +1,5 @@
 use Rattle.tm_strat_drafts.specs.Growth.{Carried}
 use Rattle.tm_strat.proofs.covering.cover.Given as goal
 
-abbrev pub invariant-adding : goal.invariant-adding
-invariant-adding l = Carried l.fn.game l.game
+abbrev pub invariant-loop-added : goal.invariant-loop-added
+invariant-loop-added l = Carried l.fn.game l.game

@@ -5,7 +5,7 @@ use Rattle.tm_strat.proofs.splits.contested.Goals.{else-sharing-test, then-shari
 
 pub returns : goal.returns
 returns c = λ base b.
-    c.rest-2.ensures base
+    c.rest-2.ensures.grows base
     (elim c.sharing-test.branch [
       | else-sharing-test w ↦
           subst (λ (g : GameData). Grows base g) (sym w.game-is) (c.sharing.invariant base b)

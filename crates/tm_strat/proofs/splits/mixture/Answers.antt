@@ -10,5 +10,5 @@ returns c = λ base b.
           subst (λ (g : GameData). Grows base g) (sym w.game-is) (c.sharing.invariant base b)
       | then-sharing-test+in_ok-share+in_ok-left+then-eq w ↦
           subst (λ (g : GameData). Grows base g) (sym w.game-is)
-          (w.rest.ensures base (w.largest.ensures base (c.sharing.invariant base b)))
+          (w.rest.ensures.grows base (w.largest.ensures base (c.sharing.invariant base b)))
     ]

@@ -1,11 +1,11 @@
-use Rattle.std.proofs.Common.{◌<◌, length}
-use Rattle.tm_strat_drafts.specs.Growth.{Carried}
-use Rattle.tm_strat_drafts.specs.Drafts.{AreEarlier}
+use Rattle.std.proofs.Common.{ℕ}
+use Rattle.tm_strat_drafts.specs.Drafts.{HasRoots}
+use Rattle.tm_strat_drafts.specs.Growth.{at_goal, Follows}
 use Rattle.tm_strat_drafts.proofs.goals.strategies.Given as goal
 
 abbrev pub invariant-loop-goal : goal.invariant-loop-goal
 invariant-loop-goal g l = record {
-  grows : Carried (g.M.Moves.game_data l.fn.moves) (g.M.Moves.game_data l.moves);
-  drafts : AreEarlier l.tests l.drafts.items;
-  root : l.root < length l.drafts.items;
+  pending : ℕ;
+  follows : Follows (at_goal pending (g.M.Moves.setting l.fn.moves)) (g.M.Moves.setting l.moves);
+  roots : HasRoots (g.M.Moves.setting l.fn.moves).game l.drafts.items l.root l.goal;
 }

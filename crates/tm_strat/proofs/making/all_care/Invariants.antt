@@ -1,5 +1,0 @@
-use Rattle.tm_strat_drafts.specs.Growth.{Carried}
-use Rattle.tm_strat.proofs.making.all_care.Given as goal
-
-abbrev pub invariant-loop-good : goal.invariant-loop-good
-invariant-loop-good l = Carried l.fn.game l.game

@@ -1,5 +1,0 @@
-use Rattle.tm_strat_drafts.specs.Growth.{Carried}
-use Rattle.tm_strat.proofs.making.push_bits.Given as goal
-
-abbrev pub invariant-loop-index : goal.invariant-loop-index
-invariant-loop-index l = Carried l.fn.game l.game

@@ -1,0 +1,35 @@
+use Rattle.tm_game.proofs.Growing.{grows_then}
+use Rattle.tm_solve_exact.proofs.Growing.{kept_exact}
+use Rattle.tm_strat.proofs.Carrying.{grown, sized_stays}
+use Rattle.tm_strat.proofs.Testing.{sets_none}
+use Rattle.tm_strat.proofs.tables.all_tests.Goals as goal
+use Rattle.tm_syntax.specs.Design.View.{design_tree}
+
+pub push_first-requires-clause-tests : goal.push_first-requires-clause-tests
+push_first-requires-clause-tests c =
+    sets_none (design_tree c.args.design.now) c.args.game.now c.args.counts c.new.result.items c.new-2.result.items
+    c.new.ensures.items c.new-2.ensures.items
+
+pub push_bits-requires-clause-exact : goal.push_bits-requires-clause-exact
+push_bits-requires-clause-exact c =
+    kept_exact (design_tree c.args.design.now) c.args.game.now c.requires.exact c.push_first.new.game
+    (grown c.args.game.now c.push_first.new.game c.push_first.ensures.grows)
+
+pub push_bits-requires-clause-sized : goal.push_bits-requires-clause-sized
+push_bits-requires-clause-sized c =
+    sized_stays c.args.game.now c.push_first.new.game c.push_first.ensures.grows c.requires.sized
+
+pub push_bits-requires-clause-tests : goal.push_bits-requires-clause-tests
+push_bits-requires-clause-tests c = c.in_ok-push_first.ensures.sets
+
+pub returns-clause-sets : goal.returns-clause-sets
+returns-clause-sets c = c.in_ok-last.ensures.sets
+
+pub returns-clause-bits : goal.returns-clause-bits
+returns-clause-bits c = c.in_ok-last.ensures.bits
+
+pub returns-in_err-last-clause-grows : goal.returns-in_err-last-clause-grows
+returns-in_err-last-clause-grows c = λ base b. c.push_bits.ensures.grows base (c.push_first.ensures.grows base b)
+
+pub returns-clause-grows : goal.returns-clause-grows
+returns-clause-grows c = λ base b. c.push_bits.ensures.grows base (c.push_first.ensures.grows base b)

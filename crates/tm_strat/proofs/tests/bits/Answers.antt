@@ -1,0 +1,22 @@
+use Rattle.std.proofs.Common.{◌≡◌, ℕ, ◌+◌, ◌<◌, ◌^◌, List, length, get_or, take, refl, ap, ◌∙◌, subst, arith}
+use Rattle.std.proofs.lemmas.List.{take_all}
+use Rattle.tm_strat.proofs.Testing.{no_bits, number_bits}
+use Rattle.tm_strat.specs.Tested.{AreAllBits}
+use Rattle.tm_strat.specs.Trees.{number_in}
+use Rattle.tm_strat.proofs.tests.bits.Goals as goal
+
+pub loop-index-init : goal.loop-index-init
+loop-index-init c = λ few. no_bits c.args.counts c.args.widths.now c.new-found.result.items
+
+pub loop-index-preserved : goal.loop-index-preserved
+loop-index-preserved c = λ few.
+    let below = c.loop-index-test.true in
+    let small : c.loop-index.index < 2 ^ 32 = omega (arith, below, few) in
+    number_bits c.args.counts c.args.widths.now c.loop-index.index (get_or c.args.widths.now c.loop-index.index 0)
+    c.number_at-number.result c.loop-index.found.items c.push_bits.new.found.items (c.loop-index.invariant few) below
+    refl (c.number_at-number.ensures ∙ ap (number_in c.args.counts) (c.narrow.ensures small)) c.in_ok-push_bits.ensures
+
+pub returns : goal.returns
+returns c = λ few.
+    subst (λ (l : List ℕ). AreAllBits c.args.counts l c.loop-index.found.items)
+    (take_all c.loop-index.index c.args.widths.now c.loop-index-test.false) (c.loop-index.invariant few)

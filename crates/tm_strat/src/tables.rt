@@ -1,0 +1,264 @@
+//! The tests of states that are tried, in C and as sets.
+ghost use Rattle.std.specs.Prelude.{◌≡◌, ◌++◌, ◌∷◌, [], IfOk, length};
+ghost use Rattle.tm_check.specs.Reads.{IsSized};
+ghost use Rattle.tm_game.specs.Game.{IsOf};
+ghost use Rattle.tm_sem.specs.StateBits.{state_widths as design_widths};
+ghost use Rattle.tm_solve_exact.specs.Exact.{IsExactOf};
+ghost use Rattle.tm_strat.specs.Fitting.{FitsCounts};
+ghost use Rattle.tm_strat.specs.Tested.{AreTestSets, AreTestsOf, HasAllBits, IsTestOf};
+ghost use Rattle.tm_strat.specs.declared.numbers.Counts.{Counts as CountsData};
+ghost use Rattle.tm_strat_drafts.specs.Growth.{Carried};
+ghost use Rattle.tm_syntax.specs.Design.{DesignTree};
+ghost use Rattle.tm_syntax.specs.Design.View.{design_tree};
+
+use crate::choosing::TestTable;
+use crate::good::{GoodMoves, id_at};
+use crate::numbers::Counts;
+use crate::predicates::Predicate;
+use crate::reading::read_tests;
+use crate::sets::{both, either, rest};
+use crate::tests::{bits, predicates};
+use indexmap::IndexSet;
+use std::alloc::{AllocError, Global};
+use tm_dd::{FALSE, NodeId};
+use tm_game::Game;
+use tm_syntax::design::Design;
+
+// Tests of states, in C and the valid states at which they hold.
+#[derive(Drop)]
+struct Tests {
+    predicates: Vec<Predicate>,
+    holds: Vec<NodeId>,
+}
+
+/// Tests of states, in C and in tiers.
+#[derive(Drop)]
+pub(crate) struct AllTests {
+    pub(crate) predicates: Vec<Predicate>,
+    pub(crate) table: TestTable,
+}
+
+/// The tests that are tried: each of the first ones once that tells some states apart at which a move is good, and then
+/// the bits of a state, those of who moved last in a tier of their own.
+pub(crate) fn all_tests(
+    alloc: Global,
+    game: &mut Game,
+    design: &Design,
+    counts: Counts,
+    goods: &[GoodMoves],
+) -> Result<AllTests, AllocError>
+    requires exact { IsExactOf (design_tree design.now) game.old }
+    requires sized { IsSized game.old }
+    requires counts { FitsCounts (design_tree design.now) counts }
+    ensures grows { Carried game.old game.new }
+    ensures sets { IfOk result (λ all. AreTestSets (design_tree design.now) game.new counts all.predicates.items
+        all.table.holds.items) }
+    ensures bits { IfOk result (λ all. HasAllBits (design_tree design.now) counts all.predicates.items) }
+{
+    let mut tests = Tests {
+        predicates: Vec::new(alloc),
+        holds: Vec::new(alloc),
+    };
+    push_first(alloc, game, design, counts, goods, &mut tests)?;
+    let first_tier = tests.holds.len();
+    let last = push_bits(alloc, game, design, counts, &mut tests)?;
+    let second_tier = tests.holds.len().saturating_sub(last);
+    Ok(AllTests {
+        predicates: tests.predicates,
+        table: TestTable {
+            holds: tests.holds,
+            first_tier,
+            second_tier,
+        },
+    })
+}
+
+// Puts the tests that are tried first behind others.
+fn push_first(
+    alloc: Global,
+    game: &mut Game,
+    design: &Design,
+    counts: Counts,
+    goods: &[GoodMoves],
+    tests: &mut Tests,
+) -> Result<(), AllocError>
+    requires exact { IsExactOf (design_tree design.now) game.old }
+    requires sized { IsSized game.old }
+    requires counts { FitsCounts (design_tree design.now) counts }
+    requires tests { AreTestSets (design_tree design.now) game.old counts tests.old.predicates.items
+        tests.old.holds.items }
+    ensures grows { Carried game.old game.new }
+    ensures sets { IfOk result (λ done. AreTestSets (design_tree design.now) game.new counts
+        tests.new.predicates.items tests.new.holds.items) }
+{
+    let all = predicates(alloc, game, design, counts)?;
+    let holds = read_tests(alloc, design, game, counts, &all)?;
+    let care = all_care(game, goods)?;
+    push_telling(alloc, game, tests, &all, &holds, care)?;
+    Ok(())
+}
+
+// Puts those of some tests behind others that tell states of a set apart.
+fn push_telling(
+    alloc: Global,
+    game: &mut Game,
+    tests: &mut Tests,
+    all: &[Predicate],
+    holds: &[NodeId],
+    care: NodeId,
+) -> Result<(), AllocError>
+    ensures grows { Carried game.old game.new }
+    ensures sets { IfOk result (λ done. (d : DesignTree) (c : CountsData) → IsExactOf d game.old
+        → AreTestsOf d game.old c all.now holds.now (length all.now)
+        → AreTestSets d game.old c tests.old.predicates.items tests.old.holds.items
+        → AreTestSets d game.new c tests.new.predicates.items tests.new.holds.items) }
+{
+    let mut seen = IndexSet::new(alloc);
+    for index in 0..all.len() {
+        let there = id_at(holds, index);
+        push_test(game, tests, &mut seen, all[index], there, care)?;
+    }
+    Ok(())
+}
+
+// Puts a test behind others where it tells states of a set apart as no earlier one does.
+fn push_test(
+    game: &mut Game,
+    tests: &mut Tests,
+    seen: &mut IndexSet<NodeId>,
+    predicate: Predicate,
+    holds: NodeId,
+    care: NodeId,
+) -> Result<(), AllocError>
+    ensures grows { Carried game.old game.new }
+    ensures sets { IfOk result (λ done. (d : DesignTree) (c : CountsData) → IsExactOf d game.old
+        → IsTestOf d game.old c predicate holds
+        → AreTestSets d game.old c tests.old.predicates.items tests.old.holds.items
+        → AreTestSets d game.new c tests.new.predicates.items tests.new.holds.items) }
+{
+    let is_new = tells_apart(game, seen, holds, care)?;
+    if !is_new {
+        return Ok(());
+    }
+    push_valid(game, tests, predicate, holds)?;
+    Ok(())
+}
+
+// Whether a test tells states of a set apart that no earlier one tells apart alike.
+fn tells_apart(
+    game: &mut Game,
+    seen: &mut IndexSet<NodeId>,
+    holds: NodeId,
+    care: NodeId,
+) -> Result<bool, AllocError>
+    ensures { Carried game.old game.new }
+{
+    let here = both(game, holds, care)?;
+    let others = rest(game, care, holds)?;
+    if here == FALSE || others == FALSE || seen.contains(&here) || seen.contains(&others) {
+        return Ok(false);
+    }
+    seen.insert(here)?;
+    Ok(true)
+}
+
+// Puts a test behind others, and the valid states at which it holds.
+fn push_valid(
+    game: &mut Game,
+    tests: &mut Tests,
+    predicate: Predicate,
+    holds: NodeId,
+) -> Result<(), AllocError>
+    ensures grows { Carried game.old game.new }
+    ensures sets { IfOk result (λ done. (d : DesignTree) (c : CountsData) → IsExactOf d game.old
+        → IsTestOf d game.old c predicate holds
+        → AreTestSets d game.old c tests.old.predicates.items tests.old.holds.items
+        → AreTestSets d game.new c tests.new.predicates.items tests.new.holds.items) }
+    ensures there { IfOk result (λ done. tests.new.predicates.items ≡ tests.old.predicates.items ++ predicate ∷ []) }
+{
+    let valid = game.valid();
+    let there = both(game, holds, valid)?;
+    tests.predicates.push(predicate)?;
+    tests.holds.push(there)?;
+    Ok(())
+}
+
+// The states at which some move is good for some goal.
+fn all_care(game: &mut Game, goods: &[GoodMoves]) -> Result<NodeId, AllocError>
+    ensures { Carried game.old game.new }
+{
+    let mut care = FALSE;
+    for good in goods {
+        care = either(game, care, good.care)?;
+    }
+    Ok(care)
+}
+
+// Puts the bits of a state behind other tests, and answers how many bits who moved last has.
+fn push_bits(
+    alloc: Global,
+    game: &mut Game,
+    design: &Design,
+    counts: Counts,
+    tests: &mut Tests,
+) -> Result<usize, AllocError>
+    requires exact { IsExactOf (design_tree design.now) game.old }
+    requires sized { IsSized game.old }
+    requires counts { FitsCounts (design_tree design.now) counts }
+    requires tests { AreTestSets (design_tree design.now) game.old counts tests.old.predicates.items
+        tests.old.holds.items }
+    ensures grows { Carried game.old game.new }
+    ensures sets { IfOk result (λ done. AreTestSets (design_tree design.now) game.new counts
+        tests.new.predicates.items tests.new.holds.items) }
+    ensures bits { IfOk result (λ last. HasAllBits (design_tree design.now) counts tests.new.predicates.items) }
+{
+    let widths = state_widths(alloc, game, counts)?;
+    let all = bits(alloc, &widths, counts)?;
+    let holds = read_tests(alloc, design, game, counts, &all)?;
+    push_all(game, tests, &all, &holds)?;
+    Ok(last_of(&widths))
+}
+
+// Puts some tests behind others.
+fn push_all(
+    game: &mut Game,
+    tests: &mut Tests,
+    all: &[Predicate],
+    holds: &[NodeId],
+) -> Result<(), AllocError>
+    ensures grows { Carried game.old game.new }
+    ensures sets { IfOk result (λ done. (d : DesignTree) (c : CountsData) → IsExactOf d game.old
+        → AreTestsOf d game.old c all.now holds.now (length all.now)
+        → AreTestSets d game.old c tests.old.predicates.items tests.old.holds.items
+        → AreTestSets d game.new c tests.new.predicates.items tests.new.holds.items) }
+    ensures there { IfOk result (λ done. tests.new.predicates.items ≡ tests.old.predicates.items ++ all.now) }
+{
+    for index in 0..all.len() {
+        let there = id_at(holds, index);
+        push_valid(game, tests, all[index], there)?;
+    }
+    Ok(())
+}
+
+// The last of some widths.
+fn last_of(widths: &[u8]) -> usize {
+    if widths.is_empty() {
+        return 0;
+    }
+    usize::from(widths[widths.len() - 1])
+}
+
+// The widths of the numbers of a state.
+fn state_widths(alloc: Global, game: &Game, counts: Counts) -> Result<Vec<u8>, AllocError>
+    ensures { IfOk result (λ widths. (d : DesignTree) → IsOf d game.now → FitsCounts d counts
+        → widths.items ≡ design_widths d) }
+{
+    let numbers = counts.vars.saturating_add(counts.processes);
+    let widths = &game.flat().widths;
+    let count = widths.len();
+    let all = widths.as_slice();
+    if numbers < count {
+        return Vec::from_slice(alloc, &all[..numbers + 1]);
+    }
+    Vec::from_slice(alloc, all)
+}
