@@ -330,12 +330,13 @@ module _ (d : DesignTree) (g : GameData) (is : IsExactOf d g) (regular : IsRegul
             values = w;
             below = let count = made.pairs.count_is in omega (arith, below, count);
             same = same;
-            good = (made.pairs.each k shape below at_shape).all w
-                (task,
-                subst (λ (t : StateData).
-                IsZoneMove d g made.zones made.targets (length made.targets) t (game.move_at d g.order shape w))
-                (sym state)
-                (subst (IsZoneMove d g made.zones made.targets (length made.targets) s) (sym is_move) zone_move));
+            good = (made.pairs.each k shape below at_shape).all w (
+              task,
+              subst (λ (t : StateData).
+                  IsZoneMove d g made.zones made.targets (length made.targets) t (game.move_at d g.order shape w))
+                  (sym state)
+                  (subst (IsZoneMove d g made.zones made.targets (length made.targets) s) (sym is_move) zone_move),
+            );
           }
 
       all_there : sp.shapes.items ≡ all_shapes (length d.processes) (length d.tasks)

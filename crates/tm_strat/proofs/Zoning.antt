@@ -47,21 +47,21 @@ module _ (g h : GameData) (carried : Carried g h) where
         IsFunction h.diagrams.table id (λ v. f v && k v)
     both_of answer =
         let is = answer a_is.known b_is.known in
-        record { known = is.known; meaning = λ v. is.meaning v ∙ (λ i. one v i && other v i); }
+        record { known = is.known; meaning = λ v. is.meaning v ∙ (λ i. one v i && other v i) }
 
     pub rest_of : (Knows g.diagrams.table a → Knows g.diagrams.table b → IsFunction h.diagrams.table id
         (λ v. means h.diagrams.table a v && not (means h.diagrams.table b v))) →
         IsFunction h.diagrams.table id (λ v. f v && not (k v))
     rest_of answer =
         let is = answer a_is.known b_is.known in
-        record { known = is.known; meaning = λ v. is.meaning v ∙ (λ i. one v i && not (other v i)); }
+        record { known = is.known; meaning = λ v. is.meaning v ∙ (λ i. one v i && not (other v i)) }
 
     pub either_of : (Knows g.diagrams.table a → Knows g.diagrams.table b → IsFunction h.diagrams.table id
         (λ v. means h.diagrams.table a v || means h.diagrams.table b v)) →
         IsFunction h.diagrams.table id (λ v. f v || k v)
     either_of answer =
         let is = answer a_is.known b_is.known in
-        record { known = is.known; meaning = λ v. is.meaning v ∙ (λ i. one v i || other v i); }
+        record { known = is.known; meaning = λ v. is.meaning v ∙ (λ i. one v i || other v i) }
 
   pub zones_kept : (z : Zoning) (n : ℕ) (ids : List NodeId) → AreZones g.diagrams.table z n ids →
       AreZones h.diagrams.table z n ids
@@ -86,12 +86,12 @@ module _ (g h : GameData) (carried : Carried g h) where
   }
 
 pub nothing_of : (t : Table) → IsFunction t FALSE nothing
-nothing_of t = record { known = omega arith; meaning = λ v. means-FALSE t v; }
+nothing_of t = record { known = omega arith; meaning = λ v. means-FALSE t v }
 
 -- an id of the same function
 pub function_same : (t : Table) (id : NodeId) (f k : Function) → ((v : Assignment) → f v ≡ k v) → IsFunction t id f →
     IsFunction t id k
-function_same t id f k same is = record { known = is.known; meaning = λ v. is.meaning v ∙ same v; }
+function_same t id f k same is = record { known = is.known; meaning = λ v. is.meaning v ∙ same v }
 
 -- past the last rank there is none
 pub past : (rs : List Rank) (k : ℕ) → length rs ≤ k →
@@ -155,19 +155,19 @@ module _ (t : Table) (z : Zoning) where
   pub no_waits : (waits : List NewStates) → waits ≡ [] → AreWaits t z 0 waits
   no_waits waits none =
       subst (AreWaits t z 0) (sym none)
-      (record { count = refl; waiting_is = λ k w there. absurd (cc); falling_is = λ k w there. absurd (cc); })
+      (record { count = refl; waiting_is = λ k w there. absurd (cc); falling_is = λ k w there. absurd (cc) })
 
   pub first_zone : (ids none : List NodeId) (id : NodeId) → none ≡ [] → ids ≡ none ++ id ∷ [] →
       IsFunction t id (met z) → AreZones t z 1 ids
   first_zone ids none id empty items is =
       zones_push 0 none ids id
-      (subst (AreZones t z 0) (sym empty) (record { count = refl; each = λ k x there. absurd (cc); })) is items
+      (subst (AreZones t z 0) (sym empty) (record { count = refl; each = λ k x there. absurd (cc) })) is items
 
   pub first_target : (ids none : List NodeId) (id : NodeId) → none ≡ [] → ids ≡ none ++ id ∷ [] →
       IsFunction t id z.region → AreTargets t z 1 ids
   first_target ids none id empty items is =
       targets_push 0 none ids id
-      (subst (AreTargets t z 0) (sym empty) (record { count = refl; each = λ k x there. absurd (cc); })) is items
+      (subst (AreTargets t z 0) (sym empty) (record { count = refl; each = λ k x there. absurd (cc) })) is items
 
   and_false : (b : Bool) → false ≡ (b && false)
   and_false true = refl

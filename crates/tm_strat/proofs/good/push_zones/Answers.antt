@@ -1,11 +1,10 @@
 use Rattle.std.proofs.Common.{◌≡◌, ℕ, suc, ◌+◌, length, subst, arith}
-
 use Rattle.tm_strat.proofs.Zoning.{zones_step}
 use Rattle.tm_strat.specs.Zones.{AreZones}
 use Rattle.tm_strat.proofs.good.push_zones.Goals as goal
 
 pub loop-index-init : goal.loop-index-init
-loop-index-init c = record { grows = λ base b. b; are = λ z zoned waits. zoned; }
+loop-index-init c = record { grows = λ base b. b; are = λ z zoned waits. zoned }
 
 pub loop-index-preserved : goal.loop-index-preserved
 loop-index-preserved c =

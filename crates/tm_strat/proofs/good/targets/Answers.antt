@@ -1,5 +1,4 @@
 use Rattle.std.proofs.Common.{◌≡◌, ℕ, suc, ◌+◌, length, sym, subst, arith}
-
 use Rattle.tm_game.proofs.MadeSets.{false_set}
 use Rattle.tm_strat.proofs.Carrying.{one_set, sets_more, sets_stay, set_stays}
 use Rattle.tm_strat.proofs.Zoning.{either_set, first_target, none_before, targets_step, within_step}
@@ -12,10 +11,11 @@ loop-index-init c = record {
   sets = one_set c.args.game.now c.new-targets.result.items c.push.new.self.items c.args.region
       c.new-targets.ensures.items c.requires.region c.in_ok-push.ensures.items;
   set = false_set c.args.game.now;
-  are = λ j z tells.
-      (first_target c.args.game.now.diagrams.table z c.push.new.self.items c.new-targets.result.items c.args.region
-      c.new-targets.ensures.items c.in_ok-push.ensures.items tells.region_is,
-      none_before c.args.game.now.diagrams.table z);
+  are = λ j z tells. (
+    first_target c.args.game.now.diagrams.table z c.push.new.self.items c.new-targets.result.items c.args.region
+        c.new-targets.ensures.items c.in_ok-push.ensures.items tells.region_is,
+    none_before c.args.game.now.diagrams.table z,
+  );
 }
 
 pub loop-index-preserved : goal.loop-index-preserved
@@ -40,13 +40,14 @@ loop-index-preserved c =
           let so_far = c.loop-index.invariant.are j z tells in
           let here = within_step c.args.game.now c.loop-index.game c.either.new.game begun c.either.ensures.grows z
           c.args.region c.args.ranks.now j tells i (i + 1) next r there c.loop-index.within c.in_ok-within.within
-          so_far.1 c.in_ok-within.ensures.answer in
-          (targets_step c.args.game.now c.loop-index.game c.either.new.game begun c.either.ensures.grows z c.args.region
-          c.args.ranks.now j tells i (i + 1) next r there c.loop-index.targets.items
-          c.push-in-loop-index.new.self.items c.in_ok-within.within
-          (subst (λ (n : ℕ). AreTargets c.loop-index.game.diagrams.table z n c.loop-index.targets.items) (sym next)
-          so_far.0) here c.in_ok-push-2.ensures.items,
-          here);
+          so_far.1 c.in_ok-within.ensures.answer in (
+            targets_step c.args.game.now c.loop-index.game c.either.new.game begun c.either.ensures.grows z c.args.region
+                c.args.ranks.now j tells i (i + 1) next r there c.loop-index.targets.items
+                c.push-in-loop-index.new.self.items c.in_ok-within.within
+                (subst (λ (n : ℕ). AreTargets c.loop-index.game.diagrams.table z n c.loop-index.targets.items) (sym next)
+                so_far.0) here c.in_ok-push-2.ensures.items,
+            here,
+          );
     }
 
 pub returns-clause-are : goal.returns-clause-are
