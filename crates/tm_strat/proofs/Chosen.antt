@@ -30,16 +30,6 @@ use Rattle.tm_strat.specs.declared.choosing.GoalMoves.{GoalMoves}
 use Rattle.tm_strat_drafts.specs.Growth.{Carried}
 use Rattle.tm_strat_drafts.specs.Moves.{passes}
 
--- a known id means its set
-pub known_is : (g : GameData) (id : NodeId) → IsStateSet g id → Is (exact_game g).states (exact_ids g) id (set_of g id)
-known_is g id known = record { known = known; means = record { same = λ s among. refl } }
-
--- the same under another name
-pub same_is : (g : GameData) (id other : NodeId) → id ≡ other → IsStateSet g other →
-    Is (exact_game g).states (exact_ids g) id (set_of g other)
-same_is g id other same known =
-    subst (λ (i : NodeId). Is (exact_game g).states (exact_ids g) i (set_of g other)) (sym same) (known_is g other known)
-
 pub nothing_is : (g : GameData) → Is (exact_game g).states (exact_ids g) FALSE nowhere
 nothing_is g = record {
   known = empty_known g;
@@ -101,9 +91,6 @@ module _ (g h : GameData) (of : HasDesign g) (carried : Carried g h) (a b : Node
       (answer in_t.set.known in_a.set.known in_b.set.known))
 
 -- ---- tests
-lt_true : (k n : ℕ) → k < n → nat_lt k n ≡ true
-lt_true k n below = grind (arith, nat_tests, below)
-
 lt_false : (k n : ℕ) → n ≤ k → nat_lt k n ≡ false
 lt_false k n above = grind (arith, nat_tests, above)
 
@@ -118,13 +105,6 @@ module _ (g : GameData) (tests : List NodeId) (goals : List GoalMoves) (is : IsC
     known = there.known;
     means = record { same = λ s among. there.means.same s among ∙ same s };
   }
-
-  pub state_test : k < length tests → id ≡ id_in tests k → IsTest
-  state_test below same =
-      by_choice (set_of g (id_in tests k))
-      (λ s. ap (λ (t : Bool). if t then set_of g (id_in tests k) s else k == length tests + pending)
-      (sym (lt_true k (length tests) below)))
-      (same_is g id (id_in tests k) same (is.sets k))
 
   goal_test : length tests ≤ k → (b : Bool) → (k == length tests + pending) ≡ b →
       Is (exact_game g).states (exact_ids g) id (λ s. b) → IsTest

@@ -81,9 +81,6 @@ number_more bits first i number b more so_far is same =
     ∙ sym double
     ∙ sym (ap number_of (map-range_with_len_more (bit_in bits) first i (first + i) refl))
 
-pub no_number : (bits first : ℕ) → 0 ≡ number_at (bit_in bits) first 0
-no_number bits first = refl
-
 -- a number of so many bits is small
 pub number_small : (bits first i : ℕ) → number_at (bit_in bits) first i < 2 ^ i
 number_small bits first i =
