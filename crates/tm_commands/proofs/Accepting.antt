@@ -41,7 +41,7 @@ use Rattle.tm_commands.specs.Migrate.{refuses_cert}
 use Rattle.tm_commands.specs.Run as runs
 use Rattle.tm_commands.specs.Run.{RunMayEnd}
 use Rattle.tm_commands.specs.Synthesis.{TellsGood, TellsLost, AcceptsGood, AcceptsLost}
-use Rattle.tm_commands.specs.Synthesise.{SynthesiseMayEnd, may_be_unproved, may_have_driver, may_have_none}
+use Rattle.tm_commands.specs.Synthesise.{SynthesiseMayEnd, may_have_driver, may_have_none}
 use Rattle.tm_commands.specs.Synthesise.{may_not_be_specified}
 use Rattle.tm_commands.specs.Words.{Command, run, synthesise, check_driver, check_environment, generate, migrate}
 use Rattle.tm_commands.specs.World.{FilesData}
@@ -116,7 +116,6 @@ refusing_synthesis : {ending : Ending} → SynthesiseMayEnd ending → IsRefusin
 refusing_synthesis (may_not_be_specified refused) = refused_spec refused
 refusing_synthesis (may_have_driver ranks nodes) = (λ is. is, λ is. is)
 refusing_synthesis (may_have_none levels many chain) = (λ is. is, λ is. is)
-refusing_synthesis (may_be_unproved condition goal s) = (λ is. is, λ is. is)
 
 -- a driver is no environment
 no_lost_driver : {driver cert : List ℕ} {ending : Ending} → CheckDriverMayEnd driver cert ending → IsLostEnd ending →

@@ -1,27 +1,33 @@
--- What `synth` finds, from what it leaves in the files.
-use Rattle.std.proofs.Common.{◌≡◌, ℕ, Option, None, Some, Result, Ok, List, refl, subst}
-use Rattle.std.specs.Prelude.{IfOk}
+-- What `synth` finds, from what it leaves in the files, and that it finds a driver or that there is none.
+use Rattle.std.proofs.Common.{◌≡◌, ℕ, Option, None, Some, Result, Ok, Err, List, [], ◌∷◌, refl, subst}
+use Rattle.std.specs.Prelude.{IfErr, IfOk}
 use Rattle.tm_cir.specs.Answer.{Answers}
 use Rattle.tm_sem.proofs.Sums.{waits_for_less_than_all}
 use Rattle.tm_report.specs.declared.ending.Ending.{Ending}
 use Rattle.tm_report.specs.declared.ending.Ending.TheVariants.{Driver, Environment}
 use Rattle.tm_report.specs.declared.ending.Failure.{Failure}
+use Rattle.tm_report.specs.declared.ending.Failure.TheVariants.{ReadFault, WriteFault, Memory}
+use Rattle.tm_report.specs.Output.{SinkData}
+use Rattle.tm_syntax.specs.Design.{DesignTree}
 use Rattle.tm_verdict.specs.declared.verdict.Verdict.TheVariants as verdicts
 use Rattle.tm_commands.specs.Check.{CheckDriverMayEnd, may_refuse_design, may_refuse_blocks, may_refuse_cert}
 use Rattle.tm_commands.specs.Check.{may_judge_driver, CheckEnvironmentMayEnd, may_refuse_spec, may_refuse_levels}
 use Rattle.tm_commands.specs.Check.{may_judge_environment}
 use Rattle.tm_commands.specs.Commands.{MayEnd}
-use Rattle.tm_commands.specs.Headline.{KeepsFiles}
+use Rattle.tm_commands.specs.Headline.{HasCause, IsShown, KeepsFiles}
 use Rattle.tm_commands.specs.Inputs.{RefusesSpecification, refuses_specification, RefusesBlocks, refuses_long_driver}
 use Rattle.tm_commands.specs.Inputs.{refuses_bad_driver, RefusesScript, refuses_long_choices, refuses_bad_choices}
-use Rattle.tm_commands.specs.Inputs.{RefusesCert, refuses_long_cert, refuses_bad_cert}
+use Rattle.tm_commands.specs.Inputs.{RefusesCert, TellsSpecification, refuses_long_cert, refuses_bad_cert}
 use Rattle.tm_commands.specs.Migrate.{MigrateMayEnd, may_be_refused, may_migrate, refuses_spec, refuses_cert}
 use Rattle.tm_commands.specs.Run as runs
 use Rattle.tm_commands.specs.Run.{RunMayEnd}
-use Rattle.tm_commands.specs.Synthesis.{FindsGood, FindsLost, TellsLost, WritesGood}
-use Rattle.tm_commands.specs.Synthesise.{HoldsDriver, HoldsEnvironment}
+use Rattle.tm_commands.specs.Synthesis.{AlwaysDecides, FindsGood, FindsLost, HasDecided, ShowsNoFault, TellsLost}
+use Rattle.tm_commands.specs.Synthesis.{WritesGood, found_driver, found_none, wants_memory}
+use Rattle.tm_commands.specs.Synthesise.{HoldsDriver, HoldsEnvironment, SynthesiseEnds, has_driver, has_none}
+use Rattle.tm_commands.specs.Synthesise.{not_specified}
 use Rattle.tm_commands.specs.Words.{Command, run, synthesise, check_driver, check_environment, generate, migrate}
 use Rattle.tm_commands.specs.World.{FilesData}
+use Rattle.tm_commands.proofs.Telling.{specification_read}
 
 -- ---- ends of other commands
 -- an end of `synth` that tells what was found
@@ -127,3 +133,30 @@ module _ (command : Option Command) (old new : FilesData) where
       let kept = subst (λ (o : Result Ending Failure). KeepsFiles command old new o) is keeps in
       let left = subst (λ (c : Option Command). KeepsFiles c old new (Ok (Environment levels many chain))) by.2 kept in
       (by.0, by.1, by.2, holds_lost old.contents new.contents by.0 by.1 levels many chain (left.left tells))
+
+-- ---- that something is found
+-- an end of `synth` over a design tells what was found
+ended_so : (contents : List ℕ → Option (List ℕ)) (spec : List ℕ) (d : DesignTree) (text : List ℕ) (ending : Ending) →
+    TellsSpecification contents spec d → SynthesiseEnds contents spec text ending → HasDecided (Ok ending)
+ended_so contents spec d _ ending told (not_specified none) =
+    absurd (specification_read contents spec d ending told none)
+ended_so contents spec d _ _ told (has_driver ranks nodes specified good) = found_driver ranks nodes
+ended_so contents spec d _ _ told (has_none levels many chain specified lost) = found_none levels many chain
+
+module _ (old new : FilesData) (out after : SinkData) where
+  -- a failure that shows by no count is want of memory
+  failed_so : (command : Option Command) (failure : Failure) → ShowsNoFault command old new out after →
+      IsShown command old new out after failure → HasDecided (Err failure)
+  failed_so command (ReadFault name) none shown = absurd (none.reads name shown.0 shown.1)
+  failed_so command (WriteFault []) none shown = absurd (none.puts shown)
+  failed_so command (WriteFault (b ∷ bs)) none shown = absurd (none.writes (b ∷ bs) shown.0 shown.1)
+  failed_so command Memory none shown = wants_memory
+
+  -- so `synth` decides
+  pub always_decides : (command : Option Command) (outcome : Result Ending Failure) → HasCause old command outcome →
+      IfErr outcome (IsShown command old new out after) → AlwaysDecides old new out after command outcome
+  always_decides command (Ok ending) cause shown tells spec name d is told none =
+      let ends = subst (λ (c : Option Command). HasCause old c (Ok ending)) is cause tells in
+      ended_so old.contents spec d ends.0 ending told ends.1
+  always_decides command (Err failure) cause shown tells spec name d is told none =
+      failed_so command failure none shown

@@ -32,12 +32,12 @@ use Rattle.tm_commands.specs.Inner.Reading.{IsRead}
 use Rattle.tm_commands.specs.Inner.Stopping.{StopsBy, stop_outcome, IsLoadFailure, IsRefusal, IsWriteFailure}
 use Rattle.tm_commands.specs.Inner.Synthesising.{BreaksOff, FailsSo, Finishes, HasPutPart, IsDriverUnwritten}
 use Rattle.tm_commands.specs.Inner.Synthesising.{LeavesDriver, Synthesises, at_cert, at_driver, at_loss, finds_driver}
-use Rattle.tm_commands.specs.Inner.Synthesising.{finds_no_proof, finds_none, no_cert, no_driver}
+use Rattle.tm_commands.specs.Inner.Synthesising.{finds_none, no_cert, no_driver}
 use Rattle.tm_commands.specs.Inputs.{NoSpecification, RefusesSpecification, faulty_spec}
 use Rattle.tm_commands.specs.Inputs.{refuses_specification}
 use Rattle.tm_commands.specs.Synthesise.{AreAlike, SynthesiseBreaksOff, SynthesiseEnds, SynthesiseLeaves}
 use Rattle.tm_commands.specs.Synthesise.{SynthesiseMayEnd, cert_name, cert_unwritten, driver_name, driver_unwritten}
-use Rattle.tm_commands.specs.Synthesise.{has_driver, has_none, is_unproved, loss_unwritten, may_be_unproved}
+use Rattle.tm_commands.specs.Synthesise.{has_driver, has_none, loss_unwritten}
 use Rattle.tm_commands.specs.Synthesise.{may_have_driver, may_have_none, may_not_be_specified, not_specified}
 use Rattle.tm_commands.specs.Words.{synthesise}
 use Rattle.tm_commands.specs.World.{FilesData, HasFailedWrite, OnlyReads, OnlyTouches, OnlyWrites, files_data}
@@ -56,23 +56,18 @@ module _ (contents : List ℕ → Option (List ℕ)) (spec : List ℕ) where
       absurd (specification_read contents spec d (Faulty f) told (faulty_spec p))
   alike _ _ _ _ (not_specified (faulty_spec {f = f} p)) (has_none {d = d} levels many chain told lost) =
       absurd (specification_read contents spec d (Faulty f) told (faulty_spec p))
-  alike _ _ _ _ (not_specified (faulty_spec {f = f} p)) (is_unproved {d = d} letter condition goal s told) =
-      absurd (specification_read contents spec d (Faulty f) told (faulty_spec p))
   alike _ _ _ _ (has_driver {d = d} ranks nodes told good) (not_specified (faulty_spec {f = f} p)) =
       absurd (specification_read contents spec d (Faulty f) told (faulty_spec p))
   alike _ _ _ _ (has_driver {d = d} ranks nodes told good) (has_driver others many also fine) = tt
   alike _ _ _ _ (has_driver {d = d} {bs = bs} ranks nodes told good) (has_none {d = e} levels many chain also lost) =
       absurd (good_is_not_lost d told.is.sound.numbered (Answers bs) ranks good
       (subst Lost (sym (told_specification contents spec d e told also)) lost.lost))
-  alike _ _ _ _ (has_driver {d = d} ranks nodes told good) (is_unproved letter condition goal s also) = tt
   alike _ _ _ _ (has_none {d = d} levels many chain told lost) (not_specified (faulty_spec {f = f} p)) =
       absurd (specification_read contents spec d (Faulty f) told (faulty_spec p))
   alike _ _ _ _ (has_none {d = d} levels many chain told lost) (has_driver {d = e} {bs = bs} ranks nodes also good) =
       absurd (good_is_not_lost e also.is.sound.numbered (Answers bs) ranks good
       (subst Lost (told_specification contents spec d e told also) lost.lost))
   alike _ _ _ _ (has_none levels many chain told lost) (has_none others ones most also loss) = tt
-  alike _ _ _ _ (has_none levels many chain told lost) (is_unproved letter condition goal s also) = tt
-  alike _ _ _ _ (is_unproved letter condition goal s told) ends = tt
 
 -- ---- before it writes
 module _ (spec out : List ℕ) (old new : FilesData) where
@@ -160,17 +155,6 @@ pub touches_cert : (out : List ℕ) (old new : FilesData) → OnlyWrites (cert_n
     OnlyTouches [] (driver_name out ∷ cert_name out ∷ []) old new
 touches_cert out old new wrote =
     touches_one (driver_name out) (cert_name out) (cert_name out) old new (inr refl) wrote
-
--- neither
-touches_nothing : (writes : List (List ℕ)) (files : FilesData) → OnlyTouches [] writes files files
-touches_nothing writes files = record {
-  same_others = λ n other. refl;
-  no_fewer_read_faults = λ n. omega arith;
-  no_fewer_write_faults = λ n. omega arith;
-  no_fewer_bytes = omega arith;
-  nothing_read = λ is. (refl, refl);
-  nothing_written = λ is. refl;
-}
 
 -- one of them behind the other
 pub touches_then : {writes : List (List ℕ)} {old mid new : FilesData} → OnlyTouches [] writes old mid →
@@ -337,11 +321,6 @@ module _ (d : DesignTree) (out : List ℕ) (old new : FilesData) where
         fails (WriteFault []) failed part = (failed.1, part)
         fails (WriteFault (b ∷ bs)) failed part = let none : b ∷ bs ≡ [] = failed.0 in cc
 
--- no proof is claimed, and no file written
-pub unproved_touches : (out : List ℕ) (files : FilesData) →
-    OnlyTouches [] (driver_name out ∷ cert_name out ∷ []) files files
-unproved_touches out files = touches_nothing (driver_name out ∷ cert_name out ∷ []) files
-
 -- ---- all of it
 module _ (spec out : List ℕ) {A : Type 0} (F : FilesGhosts A) (x y z : A) {B : Type 0} (O : SinkGhosts B) (a b : B)
     (d : DesignTree) (left : OnlyReads (files_data F x) (files_data F y))
@@ -353,14 +332,11 @@ module _ (spec out : List ℕ) {A : Type 0} (F : FilesGhosts A) (x y z : A) {B :
       has_driver {bs = found.blocks} ranks nodes (specified read tells) found.good
   as_it_ends _ _ (finds_none levels many chain found cert same) tells =
       has_none levels many chain (specified read tells) (record { lost = found.lost; within = found.within })
-  as_it_ends _ _ (finds_no_proof letter condition goal s same) tells =
-      is_unproved letter condition goal s (specified read tells)
 
   may_end : (text : List ℕ) (ending : Ending) →
       Finishes d out (files_data F y) (files_data F z) text ending → SynthesiseMayEnd ending
   may_end _ _ (finds_driver ranks nodes found driver cert) = may_have_driver ranks nodes
   may_end _ _ (finds_none levels many chain found cert same) = may_have_none levels many chain
-  may_end _ _ (finds_no_proof letter condition goal s same) = may_be_unproved condition goal s
 
   not_long : (text : List ℕ) (ending : Ending) →
       Finishes d out (files_data F y) (files_data F z) text ending →
@@ -368,8 +344,6 @@ module _ (spec out : List ℕ) {A : Type 0} (F : FilesGhosts A) (x y z : A) {B :
   not_long _ _ (finds_driver ranks nodes found driver cert) =
       record { specification = λ is. cc; file = λ name is. cc }
   not_long _ _ (finds_none levels many chain found cert same) =
-      record { specification = λ is. cc; file = λ name is. cc }
-  not_long _ _ (finds_no_proof letter condition goal s same) =
       record { specification = λ is. cc; file = λ name is. cc }
 
   as_it_leaves : (text : List ℕ) (ending : Ending) →
@@ -392,7 +366,6 @@ module _ (spec out : List ℕ) {A : Type 0} (F : FilesGhosts A) (x y z : A) {B :
     found = found;
     no_driver = same ∙ ap (λ (f : List ℕ → Option (List ℕ)). f (driver_name out)) left.same_contents;
   }
-  as_it_leaves _ _ (finds_no_proof letter condition goal s same) tells = same ∙ left.same_contents
 
   broken_off : (name : List ℕ) → BreaksOff d out (files_data F y) (files_data F z) name → IsTrue F.tells →
       SynthesiseBreaksOff (F.contents x) (F.contents z) spec out name

@@ -1,7 +1,7 @@
 -- What it means that `check` accepts, and what `synth` finds: over the contents of the files, and in words of plays
 -- alone.
-use Rattle.std.specs.Prelude.{◌≡◌, ℕ, ◌+◌, ◌*◌, ◌<◌, false, Option, Some, Result, Ok, List, [], ◌++◌, length, sum}
-use Rattle.std.specs.Prelude.{IsTrue}
+use Rattle.std.specs.Prelude.{◌≡◌, ℕ, ◌+◌, ◌*◌, ◌<◌, false, Option, Some, Result, Ok, Err, List, [], ◌++◌, length, sum}
+use Rattle.std.specs.Prelude.{Contains, IsTrue}
 use Rattle.std.specs.List.{AllByRecursion}
 use Rattle.tm_cir.specs.Answer.{Answers}
 use Rattle.tm_cir.specs.Text.{IsDriverText}
@@ -16,10 +16,13 @@ use Rattle.tm_syntax.specs.Design.{DesignTree}
 use Rattle.tm_report.specs.declared.ending.Ending.{Ending}
 use Rattle.tm_report.specs.declared.ending.Ending.TheVariants.{Driver, Environment, Accepted, AcceptedEnvironment}
 use Rattle.tm_report.specs.declared.ending.Failure.{Failure}
+use Rattle.tm_report.specs.declared.ending.Failure.TheVariants.{Memory}
+use Rattle.tm_report.specs.Output.{SinkData, HasFailedPut}
+use Rattle.tm_commands.specs.Commands.{read_names, write_names}
 use Rattle.tm_commands.specs.Inputs.{Tells, TellsSpecification, TellsBlocks}
 use Rattle.tm_commands.specs.Synthesise.{driver_name}
 use Rattle.tm_commands.specs.Words.{Command, synthesise, check_driver, check_environment}
-use Rattle.tm_commands.specs.World.{FilesData}
+use Rattle.tm_commands.specs.World.{FilesData, HasFailedRead, HasFailedWrite}
 
 -- SPEC tells a design, and DRIVER tells blocks over it that are a good driver: no play that they drive, whatever the
 -- environment chooses, meets an error or a forbidden move, any stretch in which a goal is pending and holds nowhere has
@@ -89,3 +92,23 @@ FindsLost old command outcome =
     IsTrue old.tells → (levels conditions chain : ℕ) → outcome ≡ Ok (Environment levels conditions chain) →
     (spec : List ℕ) × (out : List ℕ) × (command ≡ Some (synthesise spec out))
     × TellsLost old.contents spec levels conditions chain
+
+-- no fault shows by a count: of no file that a command reads or writes, nor of the output
+pub record ShowsNoFault (command : Option Command) (old new : FilesData) (out after : SinkData) : Type 0 where
+  pub reads : (name : List ℕ) → Contains (read_names command) name → ¬ HasFailedRead old new name
+  pub writes : (name : List ℕ) → Contains (write_names command) name → ¬ HasFailedWrite old new name
+  pub puts : ¬ HasFailedPut out after
+
+-- a driver was found, or that there is none, or memory ran out
+pub data HasDecided : Result Ending Failure → Type 0 where
+  found_driver : (ranks : List ℕ) (nodes : ℕ) → HasDecided (Ok (Driver ranks nodes))
+  found_none : (levels conditions chain : ℕ) → HasDecided (Ok (Environment levels conditions chain))
+  wants_memory : HasDecided (Err Memory)
+
+-- `synth SPEC OUT` decides the game of whatever design SPEC tells: unless a fault shows or memory runs out, it finds a
+-- driver, or that there is none
+abbrev pub AlwaysDecides :
+    FilesData → FilesData → SinkData → SinkData → Option Command → Result Ending Failure → Type 0
+AlwaysDecides old new out after command outcome =
+    IsTrue old.tells → (spec name : List ℕ) (d : DesignTree) → command ≡ Some (synthesise spec name) →
+    TellsSpecification old.contents spec d → ShowsNoFault command old new out after → HasDecided outcome

@@ -3,9 +3,9 @@
 use Rattle.std.specs.Prelude.{◌≡◌, ℕ, ◌+◌, ◌*◌, Option, List, [], ◌++◌, codes}
 use Rattle.tm_cir.specs.Answer.{Answers}
 use Rattle.tm_cir.specs.Tree.{BlockTree}
-use Rattle.tm_report.specs.Report.{driver_found_text, environment_found_text, unproved_text}
+use Rattle.tm_report.specs.Report.{driver_found_text, environment_found_text}
 use Rattle.tm_report.specs.declared.ending.Ending.{Ending}
-use Rattle.tm_report.specs.declared.ending.Ending.TheVariants.{Driver, Environment, Unproved}
+use Rattle.tm_report.specs.declared.ending.Ending.TheVariants.{Driver, Environment}
 use Rattle.tm_sem.specs.Loss.{Beats, Lost}
 use Rattle.tm_sem.specs.State.{StateData}
 use Rattle.tm_sem.specs.Step.{IsInitial}
@@ -22,8 +22,7 @@ pub record IsLostBy (d : DesignTree) (levels many chain : ℕ) : Type 0 where
   pub within : (n : ℕ) → (first : StateData) × IsInitial d first
       × Beats d (levels * (n * (many * chain) + 1)) [] first n
 
--- how it ends, with its lines: SPEC has a fault, or there is a good driver with these ranks, or the design is lost, or
--- the checker refuses what was found
+-- how it ends, with its lines: SPEC has a fault, or there is a good driver with these ranks, or the design is lost
 pub data SynthesiseEnds (contents : List ℕ → Option (List ℕ)) (spec : List ℕ) : List ℕ → Ending → Type 0 where
   not_specified : {ending : Ending} → NoSpecification contents spec ending → SynthesiseEnds contents spec [] ending
   has_driver : {d : DesignTree} {bs : List BlockTree} (ranks : List ℕ) (nodes : ℕ) →
@@ -32,24 +31,17 @@ pub data SynthesiseEnds (contents : List ℕ → Option (List ℕ)) (spec : List
   has_none : {d : DesignTree} (levels many chain : ℕ) → TellsSpecification contents spec d →
       IsLostBy d levels many chain →
       SynthesiseEnds contents spec (environment_found_text levels many chain) (Environment levels many chain)
-  is_unproved : {d : DesignTree} (letter : List ℕ) (condition goal : ℕ) (s : StateData) →
-      TellsSpecification contents spec d →
-      SynthesiseEnds contents spec (unproved_text d letter condition goal s) (Unproved condition goal s)
 
 -- the ends that it may have, whatever SPEC holds
 pub data SynthesiseMayEnd : Ending → Type 0 where
   may_not_be_specified : {ending : Ending} → RefusesSpecification ending → SynthesiseMayEnd ending
   may_have_driver : (ranks : List ℕ) (nodes : ℕ) → SynthesiseMayEnd (Driver ranks nodes)
   may_have_none : (levels many chain : ℕ) → SynthesiseMayEnd (Environment levels many chain)
-  may_be_unproved : (condition goal : ℕ) (s : StateData) → SynthesiseMayEnd (Unproved condition goal s)
 
 -- two of its ends are alike: which of many drivers or certificates is found is left open, and so are their numbers
 abbrev pub AreAlike : Ending → Ending → Type 0
-AreAlike (Unproved condition goal s) other = Unit {0}
 AreAlike (Driver ranks nodes) (Driver other_ranks other_nodes) = Unit {0}
-AreAlike (Driver ranks nodes) (Unproved condition goal s) = Unit {0}
 AreAlike (Environment levels many chain) (Environment other_levels other_many other_chain) = Unit {0}
-AreAlike (Environment levels many chain) (Unproved condition goal s) = Unit {0}
 AreAlike one other = one ≡ other
 
 -- ---- what it leaves in the files
@@ -83,7 +75,7 @@ pub record HoldsEnvironment (old new : List ℕ → Option (List ℕ)) (spec out
   pub found : IsEnvironmentFound design cert levels many chain
   pub no_driver : new (driver_name out) ≡ old (driver_name out)
 
--- what its ends leave in the files; all is as it was where SPEC has a fault, or the checker refuses what was found
+-- what its ends leave in the files; all is as it was where SPEC has a fault
 abbrev pub SynthesiseLeaves : (old new : List ℕ → Option (List ℕ)) → (spec out : List ℕ) → Ending → Type 0
 SynthesiseLeaves old new spec out (Driver ranks nodes) = HoldsDriver old new spec out ranks nodes
 SynthesiseLeaves old new spec out (Environment levels many chain) =

@@ -8,7 +8,7 @@ ghost use Rattle.tm_report.specs.Output.{sink_data};
 ghost use Rattle.tm_commands.specs.Status.{outcome_of};
 ghost use Rattle.tm_commands.specs.Headline.{HasCause, IsComplete, IsShown, IsLongShown, Reports, EndsWithLines};
 ghost use Rattle.tm_commands.specs.Headline.{KeepsFiles};
-ghost use Rattle.tm_commands.specs.Synthesis.{AcceptsGood, AcceptsLost, FindsGood, FindsLost};
+ghost use Rattle.tm_commands.specs.Synthesis.{AcceptsGood, AcceptsLost, AlwaysDecides, FindsGood, FindsLost};
 ghost use Rattle.tm_commands.specs.Inner.Obeying.{IsSpelled, Obeys};
 
 use crate::commands::check_driver::check_driver;
@@ -98,10 +98,14 @@ pub fn obey_and_report<F: Files, O: Sink>(
         (command_of (map string_bytes words.now)) (outcome_of result) }
 
     // The synthesis theorem. A driver that is found or accepted is a good one with the ranks that are answered, and a
-    // design without a driver, or whose environment is accepted, is lost, where the files tell.
+    // design without a driver, or whose environment is accepted, is lost, where the files tell; and `synth` finds a
+    // driver of each design or that there is none, unless a fault shows or memory runs out.
     ensures found_good { FindsGood (files_data ⟦<F as Files>⟧ files.old) (files_data ⟦<F as Files>⟧ files.new)
         (command_of (map string_bytes words.now)) (outcome_of result) }
     ensures found_lost { FindsLost (files_data ⟦<F as Files>⟧ files.old)
+        (command_of (map string_bytes words.now)) (outcome_of result) }
+    ensures decided { AlwaysDecides (files_data ⟦<F as Files>⟧ files.old) (files_data ⟦<F as Files>⟧ files.new)
+        (sink_data ⟦<O as Sink>⟧ out.old) (sink_data ⟦<O as Sink>⟧ out.new)
         (command_of (map string_bytes words.now)) (outcome_of result) }
     ensures good { AcceptsGood (files_data ⟦<F as Files>⟧ files.old)
         (command_of (map string_bytes words.now)) (outcome_of result) }

@@ -26,13 +26,6 @@ pub enum Status {
         conditions: u64,
         chain: u64,
     },
-    /// The checker refuses what was found: a condition fails, with the goal and the state that are reported. Nothing is
-    /// written.
-    Unproved {
-        condition: u8,
-        goal: u32,
-        state: State,
-    },
     /// The driver has its certificate, with so many ranked regions for each goal.
     Accepted {
         ranks: Ranks,
@@ -88,7 +81,6 @@ impl Status {
             Status::Generated(_) => 0,
             Status::Migrated => 0,
             Status::Environment { .. } => 1,
-            Status::Unproved { .. } => 1,
             Status::Refused { .. } => 1,
             Status::Usage => 2,
             Status::Faulty(_) => 3,
@@ -121,17 +113,6 @@ pub fn status_of(outcome: Result<Ending, Failure>) -> Status
             levels,
             conditions,
             chain,
-        },
-        Ok(
-            Ending::Unproved {
-                condition,
-                goal,
-                state,
-            },
-        ) => Status::Unproved {
-            condition,
-            goal,
-            state,
         },
         Ok(Ending::Accepted { ranks }) => Status::Accepted { ranks },
         Ok(

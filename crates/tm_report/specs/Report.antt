@@ -22,7 +22,7 @@ use Rattle.tm_syntax.specs.Design.{DesignTree}
 use Rattle.tm_report.specs.declared.ending.Ending.{Ending}
 use Rattle.tm_report.specs.declared.ending.Ending.TheVariants.{Usage, Faulty, Play, Generated, Migrated}
 use Rattle.tm_report.specs.declared.ending.Ending.TheVariants.{BadText, Accepted, AcceptedEnvironment, Refused}
-use Rattle.tm_report.specs.declared.ending.Ending.TheVariants.{Environment, Unproved}
+use Rattle.tm_report.specs.declared.ending.Ending.TheVariants.{Environment}
 use Rattle.tm_report.specs.declared.ending.Ending.TheVariants as endings
 use Rattle.tm_report.specs.declared.ending.Failure.{Failure}
 use Rattle.tm_report.specs.declared.ending.Failure.TheVariants.{ReadFault, WriteFault, Memory}
@@ -135,12 +135,6 @@ abbrev pub environment_found_text : (levels conditions chain : ℕ) → List ℕ
 environment_found_text levels conditions chain =
     codes "environment\n" ++ (track_line ++ numbers_line levels conditions chain)
 
--- the line of a condition that fails of what was found, with its letter
-abbrev pub unproved_text : DesignTree → (letter : List ℕ) (condition goal : ℕ) → StateData → List ℕ
-unproved_text d letter condition goal s =
-    codes "unproved " ++ letter ++ decimal condition ++ codes " goal " ++ decimal goal ++ codes " "
-    ++ state_text d s ++ codes "\n"
-
 -- the line of a condition that fails, with its letter: its number, the goal, and the state that are reported
 abbrev pub refused_text : DesignTree → (letter : List ℕ) (condition goal : ℕ) → StateData → List ℕ
 refused_text d letter condition goal s =
@@ -165,7 +159,6 @@ ending_text (Faulty f) = fault_line f
 ending_text (Play end) = end_text end
 ending_text (endings.Driver ranks nodes) = []
 ending_text (Environment levels conditions chain) = []
-ending_text (Unproved condition goal s) = []
 ending_text (Accepted ranks) = []
 ending_text (AcceptedEnvironment levels conditions chain) = []
 ending_text (Refused condition goal s) = []

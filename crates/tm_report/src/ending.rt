@@ -57,13 +57,6 @@ pub enum Ending {
         conditions: u64,
         chain: u64,
     },
-    /// The checker refuses what was found: a condition fails, with the goal and the state that are reported. Nothing is
-    /// written.
-    Unproved {
-        condition: u8,
-        goal: u32,
-        state: State,
-    },
     /// The driver has its certificate: every condition holds.
     Accepted {
         ranks: Ranks,

@@ -11,5 +11,5 @@ mod verdict;
 pub use ending::{Bad, Ending, Failure, Ranks};
 pub use outcome::put_outcome;
 pub use put::{failure_of, put_line};
-pub use synthesis::{put_driver, put_environment, put_unproved};
+pub use synthesis::{put_driver, put_environment};
 pub use verdict::{put_accepted, put_levels, put_refused};

@@ -164,7 +164,6 @@ fn put_ending<O: Sink>(alloc: Global, ending: &Ending, out: &mut O) -> Result<()
         }
         Ending::Driver { .. } => Ok(()),
         Ending::Environment { .. } => Ok(()),
-        Ending::Unproved { .. } => Ok(()),
         Ending::Accepted { .. } => Ok(()),
         Ending::AcceptedEnvironment { .. } => Ok(()),
         Ending::Refused { .. } => Ok(()),

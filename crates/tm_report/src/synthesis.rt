@@ -4,7 +4,7 @@ ghost use Rattle.std.specs.List.{flat_map, range_with_len};
 ghost use Rattle.tm_report.specs.Output.{sink_data};
 ghost use Rattle.tm_report.specs.Putting.{HasPut};
 ghost use Rattle.tm_report.specs.Report.{driver_found_text, environment_found_text, goal_line};
-ghost use Rattle.tm_report.specs.Report.{nodes_line as line_of_nodes, numbers_line, track_line, unproved_text};
+ghost use Rattle.tm_report.specs.Report.{nodes_line as line_of_nodes, numbers_line, track_line};
 ghost use Rattle.tm_syntax.specs.Design.View.{design_tree};
 
 use crate::ending::Failure;
@@ -12,8 +12,7 @@ use crate::put::put_line;
 use crate::verdict::{put_goals, put_numbers};
 use std::alloc::{AllocError, Global};
 use tm_base::Sink;
-use tm_play::{push, push_number, push_state};
-use tm_sem::state::State;
+use tm_play::{push, push_number};
 use tm_syntax::design::Design;
 
 // The line of the number of nodes of a certificate.
@@ -131,48 +130,4 @@ pub fn put_environment<O: Sink>(
         Ok(()) => put_tracked_environment(alloc, levels, conditions, chain, out),
         Err(failure) => Err(failure),
     }
-}
-
-// The line of a condition that fails of what was found.
-#[tactic(auto, using(tm_play::proofs::Appending::append_assoc))]
-fn unproved_line(
-    alloc: Global,
-    design: &Design,
-    letter: &[u8],
-    condition: u8,
-    goal: u32,
-    state: &State,
-) -> Result<Vec<u8>, AllocError>
-    ensures { IfOk result (λ line.
-        line.items ≡ unproved_text (design_tree design.now) letter.now condition goal state.now) }
-{
-    let mut line = Vec::from_slice(alloc, b"unproved ")?;
-    push(&mut line, letter)?;
-    push_number(&mut line, u64::from(condition))?;
-    push(&mut line, b" goal ")?;
-    push_number(&mut line, u64::from(goal))?;
-    push(&mut line, b" ")?;
-    push_state(&mut line, design, state)?;
-    push(&mut line, b"\n")?;
-    Ok(line)
-}
-
-/// Puts the line of a condition that fails of what was found: its letter and number, and the goal and the state that
-/// are reported.
-pub fn put_unproved<O: Sink>(
-    alloc: Global,
-    design: &Design,
-    letter: &[u8],
-    condition: u8,
-    goal: u32,
-    state: &State,
-    out: &mut O,
-) -> Result<(), Failure>
-    ensures { HasPut (unproved_text (design_tree design.now) letter.now condition goal state.now)
-        (sink_data ⟦<O as Sink>⟧ out.old) (sink_data ⟦<O as Sink>⟧ out.new) result }
-{
-    let Ok(line) = unproved_line(alloc, design, letter, condition, goal, state) else {
-        return Err(Failure::Memory);
-    };
-    put_line(alloc, out, &line)
 }

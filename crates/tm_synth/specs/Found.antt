@@ -19,7 +19,7 @@ use Rattle.tm_verdict.specs.Sets.{driver_sets, levels_of}
 use Rattle.tm_judge.specs.Shape.{shape_of}
 use Rattle.tm_syntax.specs.Design.{DesignTree}
 use Rattle.tm_synth.specs.declared.found.Synthesis.{Synthesis}
-use Rattle.tm_synth.specs.declared.found.Synthesis.TheVariants.{Driver, Environment, Unproved}
+use Rattle.tm_synth.specs.declared.found.Synthesis.TheVariants.{Driver, Environment}
 
 -- the texts are blocks and a certificate of theirs, in the weight order, and the blocks are a good driver with these
 -- ranks; the certificate has so many nodes
@@ -49,8 +49,7 @@ pub record IsEnvironmentFound (d : DesignTree) (cert : List ℕ) (levels many ch
   pub within : (n : ℕ) → (first : StateData) × IsInitial d first
       × Beats d (levels * (n * (many * chain) + 1)) [] first n
 
--- what is found of a design; what was made for the environment is never refused
+-- what is found of a design: a driver, or that there is none
 abbrev pub IsFound : DesignTree → Synthesis → Type 0
 IsFound d (Driver f) = IsDriverFound d f.driver.items f.cert.items f.ranks.items f.nodes
 IsFound d (Environment f) = IsEnvironmentFound d f.cert.items f.levels f.conditions f.chain
-IsFound d (Unproved kind condition goal s) = kind ≡ kinds.Driver

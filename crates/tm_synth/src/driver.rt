@@ -1,9 +1,10 @@
 //! The files of a driver.
 ghost use Rattle.std.specs.Prelude.{IfOk};
 ghost use Rattle.tm_check.specs.Reads.{IsSized};
+ghost use Rattle.tm_cir.specs.Answer.{Answers};
 ghost use Rattle.tm_cir.specs.View.{trees_of};
 ghost use Rattle.tm_judge.specs.Judged.{CanJudgeDriver};
-ghost use Rattle.tm_solve.specs.Exact.{MeetsRanks};
+ghost use Rattle.tm_sem.specs.Certificates.{MeetsDriver, MeetsMoveForm};
 ghost use Rattle.tm_solve.specs.Iterates as solution;
 ghost use Rattle.tm_solve.specs.Iterates.{KnowsAll};
 ghost use Rattle.tm_solve_exact.specs.Exact.{IsExactOf, exact_ids};
@@ -11,10 +12,11 @@ ghost use Rattle.tm_syntax.specs.Design.View.{design_tree};
 ghost use Rattle.tm_syntax.specs.Faults.{IsOfText, IsSound};
 ghost use Rattle.tm_synth.specs.Found.{IsDriverFound, IsFound};
 ghost use Rattle.tm_synth.specs.Shown.{IsDriverShown, IsWeightOrder};
+ghost use Rattle.tm_verdict.specs.Sets.{driver_sets};
 
 use crate::found::{DriverFiles, Synthesis};
 use std::alloc::{AllocError, Global};
-use tm_cert::{Cert, DriverCert, Kind, write_shaped};
+use tm_cert::{Cert, DriverCert, write_shaped};
 use tm_cir::Blocks;
 use tm_cprint::print;
 use tm_ddops::Manager;
@@ -46,8 +48,10 @@ fn certify(
     requires exact { IsExactOf (design_tree design.now) game }
     requires sized { IsSized game }
     requires known { KnowsAll (exact_ids game) iterates.now }
-    requires ranks { MeetsRanks (design_tree design.now) (solution.driver_sets (exact_ids game) iterates.now) }
-    ensures { IfOk result (λ made. CanJudgeDriver (design_tree design.now) (trees_of made.blocks) made.cert) }
+    requires meets { MeetsMoveForm (design_tree design.now) (solution.driver_sets (exact_ids game) iterates.now) }
+    ensures can { IfOk result (λ made. CanJudgeDriver (design_tree design.now) (trees_of made.blocks) made.cert) }
+    ensures meets { IfOk result (λ made. MeetsDriver (design_tree design.now) (Answers (trees_of made.blocks))
+        (driver_sets (design_tree design.now) made.cert)) }
 {
     let cert = driver_cert(alloc, &game, iterates)?;
     let driven = driver(alloc, game, design, iterates)?;
@@ -84,7 +88,8 @@ fn files_of(
     })
 }
 
-/// The files of the driver of the iterates of a game, where the checker accepts what was made.
+/// The files of the driver of the iterates of a game. The checker accepts what is made, since the blocks make a good
+/// move for the ranked sets of the iterates wherever it is their turn.
 pub(crate) fn driver_files(
     alloc: Global,
     design: &Design,
@@ -98,7 +103,7 @@ pub(crate) fn driver_files(
     requires exact { IsExactOf (design_tree design.now) game }
     requires sized { IsSized game }
     requires known { KnowsAll (exact_ids game) iterates.now }
-    requires ranks { MeetsRanks (design_tree design.now) (solution.driver_sets (exact_ids game) iterates.now) }
+    requires meets { MeetsMoveForm (design_tree design.now) (solution.driver_sets (exact_ids game) iterates.now) }
     ensures { IfOk result (IsFound (design_tree design.now)) }
 {
     let made = certify(alloc, design, game, iterates)?;
@@ -107,15 +112,6 @@ pub(crate) fn driver_files(
             let files = files_of(alloc, design, &made, weight)?;
             Ok(Synthesis::Driver(files))
         }
-        Verdict::Refused {
-            condition,
-            goal,
-            state,
-        } => Ok(Synthesis::Unproved {
-            kind: Kind::Driver,
-            condition,
-            goal,
-            state,
-        }),
+        Verdict::Refused { .. } => unreachable!(),
     }
 }

@@ -1,8 +1,5 @@
 //! What is found of a design.
 
-use tm_cert::Kind;
-use tm_sem::state::State;
-
 /// The files of a driver, and the numbers that are reported of it.
 #[derive(Drop)]
 pub struct DriverFiles {
@@ -34,11 +31,4 @@ pub struct EnvironmentFiles {
 pub enum Synthesis {
     Driver(DriverFiles),
     Environment(EnvironmentFiles),
-    /// The checker refuses what was made, for a driver or for the environment: so nothing is claimed.
-    Unproved {
-        kind: Kind,
-        condition: u8,
-        goal: u32,
-        state: State,
-    },
 }

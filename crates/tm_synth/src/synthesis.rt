@@ -9,6 +9,7 @@ ghost use Rattle.tm_syntax.specs.Design.{DesignTree};
 ghost use Rattle.tm_syntax.specs.Design.View.{design_tree};
 ghost use Rattle.tm_syntax.specs.Faults.{IsOfText, IsSound};
 ghost use Rattle.tm_synth.specs.Found.{IsFound};
+ghost use Rattle.tm_synth.specs.Region.{HoldsInitial};
 
 use crate::driver::driver_files;
 use crate::environment::environment_files;
@@ -37,6 +38,8 @@ fn initial_outside(game: &mut Game, region: NodeId) -> Result<NodeId, AllocError
         (exact_game game.new) (exact_ids game.new) }
     ensures lost { IfOk result (λ id. (d : DesignTree) → IsExactOf d game.old → id ≢ empty
         → LeavesOut d (set_of game.old region)) }
+    ensures held { IfOk result (λ id. (d : DesignTree) → IsExactOf d game.old → id ≡ empty
+        → HoldsInitial d (set_of game.old region)) }
 {
     let initial = game.initial();
     let answer = game.and(initial, region.complement());

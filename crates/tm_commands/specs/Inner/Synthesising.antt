@@ -3,20 +3,19 @@
 use Rattle.std.specs.Prelude.{◌≡◌, ◌⊎◌, ◌++◌, ◌≤◌, ℕ, Result, List, [], ◌∷◌, IsTrue, IfOk, IfErr}
 use Rattle.tm_base.specs.Sink.{AppendsPrefix}
 use Rattle.tm_report.specs.Output.{SinkData, HasFailedPut}
-use Rattle.tm_report.specs.Report.{driver_found_text, environment_found_text, unproved_text}
+use Rattle.tm_report.specs.Report.{driver_found_text, environment_found_text}
 use Rattle.tm_report.specs.declared.ending.Ending.{Ending}
-use Rattle.tm_report.specs.declared.ending.Ending.TheVariants.{Driver, Environment, Unproved}
+use Rattle.tm_report.specs.declared.ending.Ending.TheVariants.{Driver, Environment}
 use Rattle.tm_report.specs.declared.ending.Failure.{Failure}
 use Rattle.tm_report.specs.declared.ending.Failure.TheVariants.{ReadFault, WriteFault, Memory}
 use Rattle.tm_sem.specs.Loss.{Lost}
-use Rattle.tm_sem.specs.State.{StateData}
 use Rattle.tm_synth.specs.Found.{IsDriverFound, IsEnvironmentFound}
 use Rattle.tm_syntax.specs.Design.{DesignTree}
 use Rattle.tm_commands.specs.Inputs.{Tells}
 use Rattle.tm_commands.specs.Synthesise.{cert_name, driver_name}
 use Rattle.tm_commands.specs.World.{FilesData, HasFailedWrite, OnlyTouches}
 
--- it comes to an end, with its lines: the files of a driver are written, or that of the environment, or none
+-- it comes to an end, with its lines: the files of a driver are written, or that of the environment
 pub data Finishes (d : DesignTree) (out : List ℕ) (old new : FilesData) : List ℕ → Ending → Type 0 where
   finds_driver : {driver cert : List ℕ} (ranks : List ℕ) (nodes : ℕ) → IsDriverFound d driver cert ranks nodes →
       (IsTrue old.tells → Tells new.contents (driver_name out) driver) →
@@ -26,8 +25,6 @@ pub data Finishes (d : DesignTree) (out : List ℕ) (old new : FilesData) : List
       (IsTrue old.tells → Tells new.contents (cert_name out) cert) →
       new.contents (driver_name out) ≡ old.contents (driver_name out) →
       Finishes d out old new (environment_found_text levels many chain) (Environment levels many chain)
-  finds_no_proof : (letter : List ℕ) (condition goal : ℕ) (s : StateData) → new.contents ≡ old.contents →
-      Finishes d out old new (unproved_text d letter condition goal s) (Unproved condition goal s)
 
 -- a write fails, at OUT.c or at OUT.cert: what the other file holds
 pub data BreaksOff (d : DesignTree) (out : List ℕ) (old new : FilesData) (name : List ℕ) : Type 0 where

@@ -17,9 +17,7 @@ use crate::commands::write::write_file;
 use crate::input::specification::load_specification;
 use std::alloc::{AllocError, Global};
 use tm_base::{Files, Sink};
-use tm_cert::Kind;
-use tm_report::{Ending, Failure, Ranks, put_driver, put_environment, put_unproved};
-use tm_sem::state::State;
+use tm_report::{Ending, Failure, Ranks, put_driver, put_environment};
 use tm_syntax::design::Design;
 use tm_synth::{DriverFiles, EnvironmentFiles, Synthesis};
 
@@ -132,37 +130,6 @@ fn end_with_environment<F: Files, O: Sink>(
     }
 }
 
-// The letter of the conditions of a kind of certificates.
-fn letter_of(kind: Kind) -> &'static [u8] {
-    match kind {
-        Kind::Environment => b"E",
-        Kind::Driver | Kind::Either => b"C",
-    }
-}
-
-// Puts the line of a condition that fails of what was found.
-fn end_unproved<O: Sink>(
-    alloc: Global,
-    out: &mut O,
-    design: &Design,
-    kind: Kind,
-    condition: u8,
-    goal: u32,
-    state: State,
-) -> Result<Ending, Failure>
-    ensures { (name : List ℕ) (files : FilesData) → Synthesises (design_tree design.now) name files files
-        (sink_data ⟦<O as Sink>⟧ out.old) (sink_data ⟦<O as Sink>⟧ out.new) result }
-{
-    match put_unproved(alloc, design, letter_of(kind), condition, goal, &state, out) {
-        Ok(()) => Ok(Ending::Unproved {
-            condition,
-            goal,
-            state,
-        }),
-        Err(failure) => Err(failure),
-    }
-}
-
 // Writes what was found of a design, and puts its lines.
 fn end_with<F: Files, O: Sink>(
     alloc: Global,
@@ -181,12 +148,6 @@ fn end_with<F: Files, O: Sink>(
     match found {
         Synthesis::Driver(made) => end_with_driver(alloc, files, out, design, name, made),
         Synthesis::Environment(made) => end_with_environment(alloc, files, out, name, &made),
-        Synthesis::Unproved {
-            kind,
-            condition,
-            goal,
-            state,
-        } => end_unproved(alloc, out, design, kind, condition, goal, state),
     }
 }
 

@@ -1,3 +1,7 @@
+use Rattle.std.proofs.Common.{sym, subst}
+use Rattle.tm_cir.specs.Answer.{Answers}
+use Rattle.tm_cir.specs.View.{trees_of}
+use Rattle.tm_sem.specs.Certificates.{DriverSets, MeetsDriver}
 use Rattle.tm_syntax.specs.Design.View.{design_tree}
 use Rattle.tm_synth.proofs.driver.certify.Goals as goal
 
@@ -7,11 +11,17 @@ driver-requires-clause-of c = c.requires.exact.ordered.of
 pub driver-requires-clause-known : goal.driver-requires-clause-known
 driver-requires-clause-known c = c.requires.known
 
-pub returns : goal.returns
-returns c = record {
+pub returns-clause-can : goal.returns-clause-can
+returns-clause-can c = record {
   sound = c.requires.sound;
   of_text = c.requires.of_text;
   blocks = c.in_ok-driven.ensures.fits;
   cert = c.in_ok-cert.ensures.fits (design_tree c.args.design.now) c.requires.exact.ordered.of
-      c.requires.ranks.goals c.requires.ranks.fairs;
+      c.requires.meets.goals c.requires.meets.fairs;
 }
+
+pub returns-clause-meets : goal.returns-clause-meets
+returns-clause-meets c =
+    let d = design_tree c.args.design.now in
+    subst (λ (sets : DriverSets). MeetsDriver d (Answers (trees_of c.in_ok-driven.driven.blocks)) sets)
+    (sym (c.in_ok-cert.ensures.sets d c.requires.exact.ordered.of)) (c.in_ok-driven.ensures.meets c.requires.meets)

@@ -4,10 +4,9 @@ use Rattle.tm_game_bits.specs.Order.{IsOrder}
 use Rattle.tm_game.specs.Game.{GameData}
 use Rattle.tm_judge.proofs.Numbers.{few_conditions}
 use Rattle.tm_judge.specs.Ordered.{IsOrderedGame}
-use Rattle.tm_sem.specs.Certificates.{DriverSets, Level, MeetsEnvironment}
+use Rattle.tm_sem.specs.Certificates.{DriverSets, Level, MeetsEnvironment, MeetsMoveForm}
 use Rattle.tm_sem.specs.StateBits.{state_widths}
-use Rattle.tm_solve.proofs.Following.{told_other}
-use Rattle.tm_solve.specs.Exact.{MeetsRanks}
+use Rattle.tm_solve.proofs.Following.{told_other, told_same}
 use Rattle.tm_syntax.specs.Design.View.{design_tree}
 use Rattle.tm_syntax.proofs.Limits as limits
 use Rattle.tm_synth.proofs.Games.{can_solve, same_levels, same_sets, still_known, still_sized}
@@ -46,9 +45,8 @@ driver_files-requires c =
     let made = c.new-exact.ensures.exact d c.in_ok-game.ensures.of in
     let solved = c.solve.ensures.exact d made in
     let follows = c.initial_outside.ensures.follows d solved in
-    let can = can_solve d c.new-exact.result.game made
-    (c.sound_designs_of_texts_are_regular.ensures c.args.design.now c.requires.sound c.requires.of_text)
-    c.requires.sound.numbered in
+    let regular = c.sound_designs_of_texts_are_regular.ensures c.args.design.now c.requires.sound c.requires.of_text in
+    let can = can_solve d c.new-exact.result.game made regular c.requires.sound.numbered in
     record {
       weight = record {
         is = c.deref-then-is_empty.ensures.value ∙ c.in_ok-orders.ensures.by_weight;
@@ -62,9 +60,11 @@ driver_files-requires c =
           (subst (λ (g : GameData). IsOrderedGame d c.deref.result.now g) (sym c.new-exact.ensures.game)
           c.in_ok-game.ensures) made (follows.extends.of d solved);
       known = still_known _ _ follows.extends c.in_ok-iterates.iterates c.in_ok-iterates.ensures.known;
-      ranks = subst (λ (s : DriverSets). MeetsRanks d s)
+      meets = subst (λ (s : DriverSets). MeetsMoveForm d s)
           (sym (same_sets _ _ follows.extends c.in_ok-iterates.iterates c.in_ok-iterates.ensures.known))
-          (c.in_ok-iterates.ensures.ranks d can);
+          ((c.in_ok-iterates.ensures.driver d can).0
+          (λ s first. c.in_ok-lost.ensures.held d solved (told_same c.if-is_empty.ensures) s (regular.initial s first)
+          first));
     }
 
 pub environment_files-requires : goal.environment_files-requires
