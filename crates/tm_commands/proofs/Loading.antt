@@ -1,5 +1,5 @@
 -- Why files are not loaded.
-use Rattle.std.proofs.Common.{◌≡◌, ℕ, ◌+◌, ◌≤◌, Option, None, Some, List, refl, sym, subst, ◌∙◌, arith}
+use Rattle.std.proofs.Common.{◌≡◌, ℕ, ◌+◌, ◌≤◌, Option, None, Some, List, refl, sym, ap, subst, ◌∙◌, arith}
 use Rattle.std.specs.Prelude.{IsTrue, Contains}
 use Rattle.tm_syntax.specs.Limits.{file_limit, specification_limit}
 use Rattle.tm_base.specs.Files.{IsLonger}
@@ -11,7 +11,7 @@ use Rattle.tm_report.specs.declared.ending.Failure.TheVariants.{ReadFault, Write
 use Rattle.tm_report.proofs.Counts.{rose_later}
 use Rattle.tm_commands.specs.declared.stop.Stop.{Stop}
 use Rattle.tm_commands.specs.declared.stop.Stop.TheVariants.{Ends, Fails}
-use Rattle.tm_commands.specs.World.{FilesData, files_data, OnlyReads}
+use Rattle.tm_commands.specs.World.{FilesData, files_data, OnlyCounts, OnlyReads}
 use Rattle.tm_commands.specs.Inputs.{TellsFault}
 use Rattle.tm_commands.specs.Headline.{long_fault, IsLongShown}
 use Rattle.tm_commands.specs.Inner.Stopping.{StopsBy, IsLoadFailure, IsReadFailure, IsMemory, IsRefusal}
@@ -59,7 +59,23 @@ reads_on first second = record {
   same_contents = second.same_contents ∙ first.same_contents;
 }
 
+-- and counts nothing
+pub counts_none : {IsOne : List ℕ → Type 0} (data_of : FilesData) → OnlyCounts IsOne data_of data_of
+counts_none f tells name other = refl
+
 module _ {A : Type 0} (F : FilesGhosts A) (x y z : A) where
+  -- a file that is due was read behind others that were
+  pub counts_later : {IsDue : List ℕ → Type 0} (one : List ℕ) → OnlyCounts IsDue (files_data F x) (files_data F y) →
+      (IsTrue F.tells → IsDue one) → OnlyCounts (λ n. n ≡ one) (files_data F y) (files_data F z) →
+      OnlyCounts IsDue (files_data F x) (files_data F z)
+  counts_later {IsDue} one before due after tells name other =
+      after tells name (λ is. other (subst IsDue (sym is) (due tells))) ∙ before tells name other
+
+  -- nothing was read behind
+  pub counts_still : {IsDue : List ℕ → Type 0} → OnlyCounts IsDue (files_data F x) (files_data F y) →
+      F.read_faults z ≡ F.read_faults y → OnlyCounts IsDue (files_data F x) (files_data F z)
+  counts_still before same tells name other = ap (λ (f : List ℕ → ℕ). f name) same ∙ before tells name other
+
   long_later : (ending : Ending) → OnlyReads (files_data F x) (files_data F y) →
       IsLongShown (files_data F y) (files_data F z) ending → IsLongShown (files_data F x) (files_data F z) ending
   long_later ending reads shown = record {

@@ -31,6 +31,7 @@ pub record Keeps (command : Option Command) (old new : FilesData) (out after : S
   pub possible : IfOk outcome (MayEnd command)
   pub long : IfOk outcome (IsLongShown old new)
   pub fault : IfErr outcome (IsShown command old new out after)
+  pub no_fewer_faults : out.faults ≤ after.faults
   pub report : Reports command old new out after outcome
   pub last_line : EndsWithLines out after outcome
   pub files : KeepsFiles command old new outcome
@@ -90,6 +91,7 @@ module _ (command : Option Command) (old new : FilesData) {B : Type 0} (O : Sink
     possible = obeys.may_end;
     long = obeys.long;
     fault = tt;
+    no_fewer_faults = omega (arith, obeys.no_fewer_faults, le);
     report = λ told sink. (
       (obeys.ends told).0,
       (obeys.ends told).1,
@@ -107,6 +109,7 @@ module _ (command : Option Command) (old new : FilesData) {B : Type 0} (O : Sink
     possible = tt;
     long = tt;
     fault = shown_on failure le obeys.shown;
+    no_fewer_faults = omega (arith, obeys.no_fewer_faults, le);
     report = λ told sink. takes_failure failure obeys.shown (obeys.cut told sink) (lines sink);
     last_line = λ sink. (
       (obeys.grows sink).0,
@@ -188,13 +191,14 @@ module _ (command : Option Command) (old new : FilesData) {B : Type 0} (O : Sink
       Obeys command old new (sink_data O x) (sink_data O y) outcome →
       (IsTrue O.tells → AppendsPrefix (outcome_text outcome) (O.written y) (O.written z)) →
       IsSinkFailure (sink_data O y) (sink_data O z) failure → (outcome ≡ Err Memory → ⊥) →
-      Keeps command old new (sink_data O x) (sink_data O z) (Err failure)
-  keeps_cut outcome failure obeys cut failed some = record {
+      O.faults y ≤ O.faults z → Keeps command old new (sink_data O x) (sink_data O z) (Err failure)
+  keeps_cut outcome failure obeys cut failed some le = record {
     cause = λ told. tt;
     complete = λ told. tt;
     possible = tt;
     long = tt;
     fault = shown_later failure obeys.no_fewer_faults failed;
+    no_fewer_faults = omega (arith, obeys.no_fewer_faults, le);
     report = λ told sink. takes_cut failure failed (cut_outcome outcome obeys told sink (cut sink));
     last_line = λ sink. (
       (obeys.grows sink).0 ++ take (cut sink).0 (outcome_text outcome),

@@ -1,5 +1,5 @@
 -- What files show: what they hold, and counts of what went wrong.
-use Rattle.std.specs.Prelude.{◌≡◌, ◌≢◌, ℕ, ◌+◌, ◌≤◌, Bool, false, Option, List, [], Contains}
+use Rattle.std.specs.Prelude.{◌≡◌, ◌≢◌, ℕ, ◌+◌, ◌≤◌, Bool, false, Option, List, [], Contains, IsTrue}
 use Rattle.tm_base.specs.Count.{Rose, RoseBy}
 use Rattle.tm_base.specs.declared.files.Files.{Ghosts as FilesGhosts}
 
@@ -46,6 +46,11 @@ pub record OnlyTouches (reads writes : List (List ℕ)) (old new : FilesData) : 
   pub no_fewer_bytes : old.bytes_taken ≤ new.bytes_taken
   pub nothing_read : reads ≡ [] → (new.read_faults ≡ old.read_faults) × (new.bytes_taken ≡ old.bytes_taken)
   pub nothing_written : writes ≡ [] → new.write_faults ≡ old.write_faults
+
+-- where the files tell, the count of failed reads has changed of no file but those of which this holds
+abbrev pub OnlyCounts : (List ℕ → Type 0) → FilesData → FilesData → Type 0
+OnlyCounts IsOne old new =
+    IsTrue old.tells → (name : List ℕ) → ¬ IsOne name → new.read_faults name ≡ old.read_faults name
 
 -- a read of this file failed, which its count shows
 abbrev pub HasFailedRead : FilesData → FilesData → List ℕ → Type 0

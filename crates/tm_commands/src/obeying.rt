@@ -1,9 +1,10 @@
 //! What the words of a command line ask for, done and reported.
-ghost use Rattle.std.specs.Prelude.{Some, map, IfOk, IfErr};
+ghost use Rattle.std.specs.Prelude.{◌≤◌, Some, map, IfOk, IfErr};
 ghost use Rattle.std.specs.String.{string_bytes};
 ghost use Rattle.tm_commands.specs.Words.{command_of, command_view};
 ghost use Rattle.tm_commands.specs.Commands.{MayEnd};
-ghost use Rattle.tm_commands.specs.World.{files_data};
+ghost use Rattle.tm_commands.specs.Order.{IsDue};
+ghost use Rattle.tm_commands.specs.World.{OnlyCounts, files_data};
 ghost use Rattle.tm_report.specs.Output.{sink_data};
 ghost use Rattle.tm_commands.specs.Status.{outcome_of};
 ghost use Rattle.tm_commands.specs.Headline.{HasCause, IsComplete, IsShown, IsLongShown, Reports, EndsWithLines};
@@ -32,9 +33,11 @@ fn obey<F: Files, O: Sink>(
     out: &mut O,
 ) -> Result<Ending, Failure>
     requires { IsSpelled (command_view command) }
-    ensures { Obeys (Some (command_view command.entry))
+    ensures obeys { Obeys (Some (command_view command.entry))
         (files_data ⟦<F as Files>⟧ files.old) (files_data ⟦<F as Files>⟧ files.new)
         (sink_data ⟦<O as Sink>⟧ out.old) (sink_data ⟦<O as Sink>⟧ out.new) result }
+    ensures counts { OnlyCounts (IsDue (F.contents files.old) (Some (command_view command.entry)))
+        (files_data ⟦<F as Files>⟧ files.old) (files_data ⟦<F as Files>⟧ files.new) }
 {
     match command {
         Command::Run {
@@ -68,9 +71,11 @@ fn obey_words<F: Files, O: Sink>(
     files: &mut F,
     out: &mut O,
 ) -> Result<Ending, Failure>
-    ensures { Obeys (command_of (map string_bytes words.now))
+    ensures obeys { Obeys (command_of (map string_bytes words.now))
         (files_data ⟦<F as Files>⟧ files.old) (files_data ⟦<F as Files>⟧ files.new)
         (sink_data ⟦<O as Sink>⟧ out.old) (sink_data ⟦<O as Sink>⟧ out.new) result }
+    ensures counts { OnlyCounts (IsDue (F.contents files.old) (command_of (map string_bytes words.now)))
+        (files_data ⟦<F as Files>⟧ files.old) (files_data ⟦<F as Files>⟧ files.new) }
 {
     match read_words(alloc, words)? {
         None => Ok(Ending::Usage),
@@ -122,6 +127,14 @@ pub fn obey_and_report<F: Files, O: Sink>(
     ensures fault { IfErr (outcome_of result) (IsShown (command_of (map string_bytes words.now))
         (files_data ⟦<F as Files>⟧ files.old) (files_data ⟦<F as Files>⟧ files.new)
         (sink_data ⟦<O as Sink>⟧ out.old) (sink_data ⟦<O as Sink>⟧ out.new)) }
+
+    // Whatever is answered, each file is judged before the next one is read: where the files tell, no read of a file
+    // failed that was not due.
+    ensures order { OnlyCounts (IsDue (F.contents files.old) (command_of (map string_bytes words.now)))
+        (files_data ⟦<F as Files>⟧ files.old) (files_data ⟦<F as Files>⟧ files.new) }
+
+    // The count of failed puts does not fall.
+    ensures no_fewer_faults { O.faults out.old ≤ O.faults out.new }
 
     // What the output took is the report, or where it failed or memory ran out some first part of one.
     ensures report { Reports (command_of (map string_bytes words.now))

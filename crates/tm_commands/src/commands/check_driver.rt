@@ -6,8 +6,9 @@ ghost use Rattle.tm_commands.specs.Inner.Judging.{HasCutDriver, HasJudgedDriver}
 ghost use Rattle.tm_commands.specs.Inner.Obeying.{Obeys};
 ghost use Rattle.tm_report.specs.Putting.{HasPut};
 ghost use Rattle.tm_report.specs.Putting.{IsSinkFailure};
+ghost use Rattle.tm_commands.specs.Order.{IsDue};
 ghost use Rattle.tm_commands.specs.Words.{check_driver as check_words};
-ghost use Rattle.tm_commands.specs.World.{files_data};
+ghost use Rattle.tm_commands.specs.World.{OnlyCounts, files_data};
 ghost use Rattle.tm_report.specs.Output.{sink_data};
 ghost use Rattle.tm_judge.specs.Judged.{CanJudgeDriver};
 ghost use Rattle.tm_syntax.specs.Design.View.{design_tree};
@@ -97,9 +98,11 @@ pub fn check_driver<F: Files, O: Sink>(
     driver: &str,
     cert: &str,
 ) -> Result<Ending, Failure>
-    ensures { Obeys (Some (check_words spec.now driver.now cert.now))
+    ensures obeys { Obeys (Some (check_words spec.now driver.now cert.now))
         (files_data ⟦<F as Files>⟧ files.old) (files_data ⟦<F as Files>⟧ files.new)
         (sink_data ⟦<O as Sink>⟧ out.old) (sink_data ⟦<O as Sink>⟧ out.new) result }
+    ensures counts { OnlyCounts (IsDue (F.contents files.old) (Some (check_words spec.now driver.now cert.now)))
+        (files_data ⟦<F as Files>⟧ files.old) (files_data ⟦<F as Files>⟧ files.new) }
 {
     let inputs = match load_driver(alloc, files, spec, driver, cert) {
         Ok(inputs) => inputs,

@@ -5,8 +5,9 @@ ghost use Rattle.tm_commands.specs.Inner.Judging.{HasCutEnvironment, HasJudgedEn
 ghost use Rattle.tm_commands.specs.Inner.Obeying.{Obeys};
 ghost use Rattle.tm_report.specs.Putting.{HasPut};
 ghost use Rattle.tm_report.specs.Putting.{IsSinkFailure};
+ghost use Rattle.tm_commands.specs.Order.{IsDue};
 ghost use Rattle.tm_commands.specs.Words.{check_environment as check_words};
-ghost use Rattle.tm_commands.specs.World.{files_data};
+ghost use Rattle.tm_commands.specs.World.{OnlyCounts, files_data};
 ghost use Rattle.tm_report.specs.Output.{sink_data};
 ghost use Rattle.tm_judge.specs.Judged.{CanJudgeEnvironment};
 ghost use Rattle.tm_sem.specs.Certificates.{longest_chain as chain_of_levels};
@@ -122,9 +123,11 @@ pub fn check_environment<F: Files, O: Sink>(
     spec: &str,
     cert: &str,
 ) -> Result<Ending, Failure>
-    ensures { Obeys (Some (check_words spec.now cert.now))
+    ensures obeys { Obeys (Some (check_words spec.now cert.now))
         (files_data ⟦<F as Files>⟧ files.old) (files_data ⟦<F as Files>⟧ files.new)
         (sink_data ⟦<O as Sink>⟧ out.old) (sink_data ⟦<O as Sink>⟧ out.new) result }
+    ensures counts { OnlyCounts (IsDue (F.contents files.old) (Some (check_words spec.now cert.now)))
+        (files_data ⟦<F as Files>⟧ files.old) (files_data ⟦<F as Files>⟧ files.new) }
 {
     let inputs = match load_environment(alloc, files, spec, cert) {
         Ok(inputs) => inputs,

@@ -1,7 +1,8 @@
 //! The command `gen`.
 ghost use Rattle.std.specs.Prelude.{Some};
+ghost use Rattle.tm_commands.specs.Order.{IsDue};
 ghost use Rattle.tm_commands.specs.Words.{generate as generate_words};
-ghost use Rattle.tm_commands.specs.World.{files_data};
+ghost use Rattle.tm_commands.specs.World.{OnlyCounts, files_data};
 ghost use Rattle.tm_report.specs.Output.{sink_data};
 ghost use Rattle.tm_commands.specs.Inner.Obeying.{IsSpelled, Obeys};
 
@@ -20,9 +21,11 @@ pub fn generate<F: Files, O: Sink>(
     name: &str,
 ) -> Result<Ending, Failure>
     requires { IsSpelled (generate_words registers name.now) }
-    ensures { Obeys (Some (generate_words registers name.now))
+    ensures obeys { Obeys (Some (generate_words registers name.now))
         (files_data ⟦<F as Files>⟧ files.old) (files_data ⟦<F as Files>⟧ files.new)
         (sink_data ⟦<O as Sink>⟧ out.old) (sink_data ⟦<O as Sink>⟧ out.new) result }
+    ensures counts { OnlyCounts (IsDue (F.contents files.old) (Some (generate_words registers name.now)))
+        (files_data ⟦<F as Files>⟧ files.old) (files_data ⟦<F as Files>⟧ files.new) }
 {
     let text = match tm_gen::generate(alloc, registers) {
         Ok(text) => text,

@@ -1,7 +1,8 @@
 //! The command `migrate`.
 ghost use Rattle.std.specs.Prelude.{Some};
+ghost use Rattle.tm_commands.specs.Order.{IsDue};
 ghost use Rattle.tm_commands.specs.Words.{migrate as migrate_words};
-ghost use Rattle.tm_commands.specs.World.{files_data};
+ghost use Rattle.tm_commands.specs.World.{OnlyCounts, files_data};
 ghost use Rattle.tm_report.specs.Output.{sink_data};
 ghost use Rattle.tm_commands.specs.Inner.Obeying.{IsSpelled, Obeys};
 
@@ -23,9 +24,11 @@ pub fn migrate<F: Files, O: Sink>(
     name: &str,
 ) -> Result<Ending, Failure>
     requires { IsSpelled (migrate_words spec.now cert.now name.now) }
-    ensures { Obeys (Some (migrate_words spec.now cert.now name.now))
+    ensures obeys { Obeys (Some (migrate_words spec.now cert.now name.now))
         (files_data ⟦<F as Files>⟧ files.old) (files_data ⟦<F as Files>⟧ files.new)
         (sink_data ⟦<O as Sink>⟧ out.old) (sink_data ⟦<O as Sink>⟧ out.new) result }
+    ensures counts { OnlyCounts (IsDue (F.contents files.old) (Some (migrate_words spec.now cert.now name.now)))
+        (files_data ⟦<F as Files>⟧ files.old) (files_data ⟦<F as Files>⟧ files.new) }
 {
     let migration = match load_migration(alloc, files, spec, cert) {
         Ok(migration) => migration,

@@ -5,8 +5,9 @@ ghost use Rattle.tm_syntax.specs.Design.View.{design_tree};
 ghost use Rattle.tm_cir.specs.View.{trees_of};
 ghost use Rattle.tm_cir.specs.Fit.{FitBlocks};
 ghost use Rattle.tm_cir.specs.Tree.{BlockTree};
+ghost use Rattle.tm_commands.specs.Order.{IsDue};
 ghost use Rattle.tm_commands.specs.Words.{run as run_words};
-ghost use Rattle.tm_commands.specs.World.{files_data};
+ghost use Rattle.tm_commands.specs.World.{OnlyCounts, files_data};
 ghost use Rattle.tm_report.specs.Output.{sink_data};
 ghost use Rattle.tm_report.specs.declared.ending.Ending.TheVariants.{Play};
 ghost use Rattle.tm_play.specs.declared.ending.PlayEnd.{PlayEnd};
@@ -87,9 +88,11 @@ pub fn run<F: Files, O: Sink>(
     driver: &str,
     choices: &str,
 ) -> Result<Ending, Failure>
-    ensures { Obeys (Some (run_words spec.now driver.now choices.now))
+    ensures obeys { Obeys (Some (run_words spec.now driver.now choices.now))
         (files_data ⟦<F as Files>⟧ files.old) (files_data ⟦<F as Files>⟧ files.new)
         (sink_data ⟦<O as Sink>⟧ out.old) (sink_data ⟦<O as Sink>⟧ out.new) result }
+    ensures counts { OnlyCounts (IsDue (F.contents files.old) (Some (run_words spec.now driver.now choices.now)))
+        (files_data ⟦<F as Files>⟧ files.old) (files_data ⟦<F as Files>⟧ files.new) }
 {
     let inputs = match load(alloc, files, spec, driver, choices) {
         Ok(inputs) => inputs,

@@ -5,8 +5,9 @@ ghost use Rattle.tm_commands.specs.Inner.Obeying.{Obeys};
 ghost use Rattle.tm_commands.specs.Inner.Stopping.{IsWriteFailure};
 ghost use Rattle.tm_commands.specs.Inner.Synthesising.{IsDriverUnwritten, Synthesises};
 ghost use Rattle.tm_commands.specs.Synthesise.{cert_name, driver_name};
+ghost use Rattle.tm_commands.specs.Order.{IsDue};
 ghost use Rattle.tm_commands.specs.Words.{synthesise as synthesise_words};
-ghost use Rattle.tm_commands.specs.World.{FilesData, OnlyTouches, OnlyWrites, files_data};
+ghost use Rattle.tm_commands.specs.World.{OnlyCounts, OnlyTouches, OnlyWrites, files_data};
 ghost use Rattle.tm_report.specs.Output.{sink_data};
 ghost use Rattle.tm_synth.specs.Found.{IsDriverFound, IsEnvironmentFound, IsFound};
 ghost use Rattle.tm_syntax.specs.Design.{DesignTree};
@@ -160,9 +161,11 @@ pub fn synthesise<F: Files, O: Sink>(
     spec: &str,
     name: &str,
 ) -> Result<Ending, Failure>
-    ensures { Obeys (Some (synthesise_words spec.now name.now))
+    ensures obeys { Obeys (Some (synthesise_words spec.now name.now))
         (files_data ⟦<F as Files>⟧ files.old) (files_data ⟦<F as Files>⟧ files.new)
         (sink_data ⟦<O as Sink>⟧ out.old) (sink_data ⟦<O as Sink>⟧ out.new) result }
+    ensures counts { OnlyCounts (IsDue (F.contents files.old) (Some (synthesise_words spec.now name.now)))
+        (files_data ⟦<F as Files>⟧ files.old) (files_data ⟦<F as Files>⟧ files.new) }
 {
     let design = match load_specification(alloc, files, spec) {
         Ok(design) => design,

@@ -4,7 +4,7 @@ ghost use Rattle.tm_syntax.specs.Design.{DesignTree};
 ghost use Rattle.tm_cert.specs.declared.shape.Kind.{Kind as Wanted};
 ghost use Rattle.tm_cert.specs.CertValue.{IsCertText};
 ghost use Rattle.tm_judge.specs.Shape.{shape_of};
-ghost use Rattle.tm_commands.specs.World.{files_data, OnlyReads};
+ghost use Rattle.tm_commands.specs.World.{files_data, OnlyCounts, OnlyReads};
 ghost use Rattle.tm_commands.specs.Inputs.{TellsCert, NoCert, RefusesCert};
 ghost use Rattle.tm_commands.specs.Inner.Reading.{IsBadCert};
 ghost use Rattle.tm_commands.specs.Inner.Stopping.{StopsBy, IsMemory, IsReadFailure, IsRefusal};
@@ -42,6 +42,7 @@ pub fn load_cert<F: Files>(
         (IsReadFailure cert.now
         (files_data ⟦<F as Files>⟧ files.old) (files_data ⟦<F as Files>⟧ files.new))) }
     ensures files { OnlyReads (files_data ⟦<F as Files>⟧ files.old) (files_data ⟦<F as Files>⟧ files.new) }
+    ensures counts { OnlyCounts (λ n. n ≡ cert.now) (files_data ⟦<F as Files>⟧ files.old) (files_data ⟦<F as Files>⟧ files.new) }
 {
     let Some(text) = read_file(alloc, files, cert, TEXT_BYTES)? else {
         return Err(bad_text(alloc, cert, Bad::TooLong));

@@ -1,5 +1,5 @@
 //! Reading and judging the files of `check` with a driver.
-ghost use Rattle.std.specs.Prelude.{[], ◌∷◌, IsTrue, IfOk, IfErr, length, sum};
+ghost use Rattle.std.specs.Prelude.{◌≡◌, [], ◌∷◌, IsTrue, IfOk, IfErr, length, sum};
 ghost use Rattle.tm_cert.specs.declared.cert.Cert.TheVariants as certs;
 ghost use Rattle.tm_cert.specs.declared.shape.Kind.TheVariants.{Driver};
 ghost use Rattle.tm_cir.specs.View.{trees_of};
@@ -9,7 +9,7 @@ ghost use Rattle.tm_verdict.specs.Fitting.{FitsDriver};
 ghost use Rattle.tm_syntax.specs.Design.View.{design_tree};
 ghost use Rattle.tm_syntax.specs.Faults.{IsOfText, IsSound};
 ghost use Rattle.tm_commands.specs.Check.{CheckDriverMayEnd, NoDriver};
-ghost use Rattle.tm_commands.specs.World.{files_data, OnlyReads};
+ghost use Rattle.tm_commands.specs.World.{files_data, OnlyCounts, OnlyReads};
 ghost use Rattle.tm_commands.specs.Inputs.{TellsCert, NoCert, RefusesCert};
 ghost use Rattle.tm_commands.specs.Order.{IsDueOfThree};
 ghost use Rattle.tm_commands.specs.Inner.Judging.{IsDriverRead};
@@ -53,6 +53,7 @@ fn load_driver_cert<F: Files>(
         (IsReadFailure cert.now
         (files_data ⟦<F as Files>⟧ files.old) (files_data ⟦<F as Files>⟧ files.new))) }
     ensures files { OnlyReads (files_data ⟦<F as Files>⟧ files.old) (files_data ⟦<F as Files>⟧ files.new) }
+    ensures counts { OnlyCounts (λ n. n ≡ cert.now) (files_data ⟦<F as Files>⟧ files.old) (files_data ⟦<F as Files>⟧ files.new) }
 {
     let shape = cert_shape(alloc, design, Kind::Driver)?;
     let read = match load_cert(alloc, files, cert, shape) {
@@ -84,6 +85,8 @@ pub fn load_driver<F: Files>(
         (IsDueOfThree (F.contents files.old) spec.now driver.now cert.now)
         (files_data ⟦<F as Files>⟧ files.old) (files_data ⟦<F as Files>⟧ files.new))) }
     ensures files { OnlyReads (files_data ⟦<F as Files>⟧ files.old) (files_data ⟦<F as Files>⟧ files.new) }
+    ensures counts { OnlyCounts (IsDueOfThree (F.contents files.old) spec.now driver.now cert.now)
+        (files_data ⟦<F as Files>⟧ files.old) (files_data ⟦<F as Files>⟧ files.new) }
 {
     let design = match load_specification(alloc, files, spec) {
         Ok(design) => design,

@@ -8,7 +8,7 @@ ghost use Rattle.tm_verdict.specs.Fitting.{FitsEnvironment};
 ghost use Rattle.tm_syntax.specs.Design.View.{design_tree};
 ghost use Rattle.tm_syntax.specs.Faults.{IsOfText, IsSound};
 ghost use Rattle.tm_commands.specs.Check.{CheckEnvironmentMayEnd, NoEnvironment};
-ghost use Rattle.tm_commands.specs.World.{files_data, OnlyReads};
+ghost use Rattle.tm_commands.specs.World.{files_data, OnlyCounts, OnlyReads};
 ghost use Rattle.tm_commands.specs.Inputs.{TellsCert, NoCert, RefusesCert};
 ghost use Rattle.tm_commands.specs.Order.{IsDueOfTwo};
 ghost use Rattle.tm_commands.specs.Inner.Judging.{IsEnvironmentRead};
@@ -59,6 +59,7 @@ fn load_levels<F: Files>(
         (IsReadFailure cert.now
         (files_data ⟦<F as Files>⟧ files.old) (files_data ⟦<F as Files>⟧ files.new))) }
     ensures files { OnlyReads (files_data ⟦<F as Files>⟧ files.old) (files_data ⟦<F as Files>⟧ files.new) }
+    ensures counts { OnlyCounts (λ n. n ≡ cert.now) (files_data ⟦<F as Files>⟧ files.old) (files_data ⟦<F as Files>⟧ files.new) }
 {
     let shape = cert_shape(alloc, design, Kind::Environment)?;
     let read = match load_cert(alloc, files, cert, shape) {
@@ -89,6 +90,8 @@ pub fn load_environment<F: Files>(
         (IsLoadFailure (spec.now ∷ cert.now ∷ []) (IsDueOfTwo (F.contents files.old) spec.now cert.now)
         (files_data ⟦<F as Files>⟧ files.old) (files_data ⟦<F as Files>⟧ files.new))) }
     ensures files { OnlyReads (files_data ⟦<F as Files>⟧ files.old) (files_data ⟦<F as Files>⟧ files.new) }
+    ensures counts { OnlyCounts (IsDueOfTwo (F.contents files.old) spec.now cert.now)
+        (files_data ⟦<F as Files>⟧ files.old) (files_data ⟦<F as Files>⟧ files.new) }
 {
     let design = match load_specification(alloc, files, spec) {
         Ok(design) => design,

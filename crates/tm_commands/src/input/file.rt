@@ -1,7 +1,7 @@
 //! Reading one file, and what stops a command that cannot use it.
 ghost use Rattle.std.specs.Prelude.{◌≡◌, ◌≤◌, length, Some, IsTrue, IsNone, IfOk, IfErr, IfSome};
 ghost use Rattle.tm_base.specs.Files.{IsLonger};
-ghost use Rattle.tm_commands.specs.World.{files_data, OnlyReads, TookMoreThan};
+ghost use Rattle.tm_commands.specs.World.{files_data, OnlyCounts, OnlyReads, TookMoreThan};
 ghost use Rattle.tm_commands.specs.Inner.Stopping.{StopsBy, IsReadFailure, IsMemory};
 
 use crate::stop::Stop;
@@ -28,6 +28,7 @@ pub fn read_file<F: Files>(
     ensures failure { IfErr result (IsReadFailure name.now
         (files_data ⟦<F as Files>⟧ files.old) (files_data ⟦<F as Files>⟧ files.new)) }
     ensures files { OnlyReads (files_data ⟦<F as Files>⟧ files.old) (files_data ⟦<F as Files>⟧ files.new) }
+    ensures counts { OnlyCounts (λ n. n ≡ name.now) (files_data ⟦<F as Files>⟧ files.old) (files_data ⟦<F as Files>⟧ files.new) }
 {
     match files.read(name, limit) {
         Ok(bytes) => Ok(Some(bytes)),

@@ -3,7 +3,7 @@ ghost use Rattle.std.specs.Prelude.{◌≡◌, [], ◌∷◌, IsTrue, IfOk, IfEr
 ghost use Rattle.tm_syntax.specs.Design.View.{design_tree};
 ghost use Rattle.tm_cir.specs.View.{trees_of};
 ghost use Rattle.tm_cir.specs.Fit.{FitBlocks};
-ghost use Rattle.tm_commands.specs.World.{files_data, OnlyReads};
+ghost use Rattle.tm_commands.specs.World.{files_data, OnlyCounts, OnlyReads};
 ghost use Rattle.tm_commands.specs.Inputs.{TellsBlocks, TellsScript, NoBlocks, NoScript, RefusesBlocks, RefusesScript};
 ghost use Rattle.tm_commands.specs.Order.{IsDueOfThree};
 ghost use Rattle.tm_commands.specs.Run.{Loads, Refused, RunMayEnd};
@@ -45,6 +45,7 @@ pub fn load_blocks<F: Files>(
         (IsReadFailure driver.now
         (files_data ⟦<F as Files>⟧ files.old) (files_data ⟦<F as Files>⟧ files.new))) }
     ensures files { OnlyReads (files_data ⟦<F as Files>⟧ files.old) (files_data ⟦<F as Files>⟧ files.new) }
+    ensures counts { OnlyCounts (λ n. n ≡ driver.now) (files_data ⟦<F as Files>⟧ files.old) (files_data ⟦<F as Files>⟧ files.new) }
 {
     let Some(text) = read_file(alloc, files, driver, TEXT_BYTES)? else {
         return Err(bad_text(alloc, driver, Bad::TooLong));
@@ -73,6 +74,7 @@ fn load_script<F: Files>(
         (IsReadFailure choices.now
         (files_data ⟦<F as Files>⟧ files.old) (files_data ⟦<F as Files>⟧ files.new))) }
     ensures files { OnlyReads (files_data ⟦<F as Files>⟧ files.old) (files_data ⟦<F as Files>⟧ files.new) }
+    ensures counts { OnlyCounts (λ n. n ≡ choices.now) (files_data ⟦<F as Files>⟧ files.old) (files_data ⟦<F as Files>⟧ files.new) }
 {
     let Some(text) = read_file(alloc, files, choices, TEXT_BYTES)? else {
         return Err(bad_text(alloc, choices, Bad::TooLong));
@@ -105,6 +107,8 @@ pub fn load<F: Files>(
         (IsDueOfThree (F.contents files.old) spec.now driver.now choices.now)
         (files_data ⟦<F as Files>⟧ files.old) (files_data ⟦<F as Files>⟧ files.new))) }
     ensures files { OnlyReads (files_data ⟦<F as Files>⟧ files.old) (files_data ⟦<F as Files>⟧ files.new) }
+    ensures counts { OnlyCounts (IsDueOfThree (F.contents files.old) spec.now driver.now choices.now)
+        (files_data ⟦<F as Files>⟧ files.old) (files_data ⟦<F as Files>⟧ files.new) }
 {
     let design = match load_specification(alloc, files, spec) {
         Ok(design) => design,

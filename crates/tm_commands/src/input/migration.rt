@@ -1,6 +1,6 @@
 //! Reading and judging the files of `migrate`.
 ghost use Rattle.std.specs.Prelude.{[], ◌∷◌, IfOk, IfErr};
-ghost use Rattle.tm_commands.specs.World.{files_data, OnlyReads};
+ghost use Rattle.tm_commands.specs.World.{files_data, OnlyCounts, OnlyReads};
 ghost use Rattle.tm_commands.specs.Migrate.{MigrateEnds, MigrateRefuses};
 ghost use Rattle.tm_commands.specs.Order.{IsDueOfTwo};
 ghost use Rattle.tm_commands.specs.Inner.Reading.{IsMigration};
@@ -36,6 +36,8 @@ pub fn load_migration<F: Files>(
         (IsLoadFailure (spec.now ∷ cert.now ∷ []) (IsDueOfTwo (F.contents files.old) spec.now cert.now)
         (files_data ⟦<F as Files>⟧ files.old) (files_data ⟦<F as Files>⟧ files.new))) }
     ensures files { OnlyReads (files_data ⟦<F as Files>⟧ files.old) (files_data ⟦<F as Files>⟧ files.new) }
+    ensures counts { OnlyCounts (IsDueOfTwo (F.contents files.old) spec.now cert.now)
+        (files_data ⟦<F as Files>⟧ files.old) (files_data ⟦<F as Files>⟧ files.new) }
 {
     let design = match load_specification(alloc, files, spec) {
         Ok(design) => design,

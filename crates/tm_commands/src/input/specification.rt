@@ -2,7 +2,7 @@
 ghost use Rattle.std.specs.Prelude.{◌≡◌, IfOk, IfErr};
 ghost use Rattle.tm_syntax.specs.Design.View.{design_tree};
 ghost use Rattle.tm_commands.specs.Headline.{long_fault as fault_of_long_text};
-ghost use Rattle.tm_commands.specs.World.{files_data, OnlyReads};
+ghost use Rattle.tm_commands.specs.World.{files_data, OnlyCounts, OnlyReads};
 ghost use Rattle.tm_commands.specs.Inputs.{NoSpecification, RefusesSpecification};
 ghost use Rattle.tm_commands.specs.Inner.Reading.{IsRead, refusal_of};
 ghost use Rattle.tm_commands.specs.Inner.Stopping.{StopsBy, IsReadFailure, IsRefusal};
@@ -57,6 +57,7 @@ pub fn load_specification<F: Files>(
         (IsReadFailure spec.now
         (files_data ⟦<F as Files>⟧ files.old) (files_data ⟦<F as Files>⟧ files.new))) }
     ensures files { OnlyReads (files_data ⟦<F as Files>⟧ files.old) (files_data ⟦<F as Files>⟧ files.new) }
+    ensures counts { OnlyCounts (λ n. n ≡ spec.now) (files_data ⟦<F as Files>⟧ files.old) (files_data ⟦<F as Files>⟧ files.new) }
 {
     let Some(text) = read_file(alloc, files, spec, SPEC_BYTES)? else {
         return Err(Stop::Ends(Ending::Faulty(long_fault())));

@@ -17,7 +17,7 @@ returns-in-Ok g c =
     (sink_data g.O.Sink c.args.out.now) (sink_data g.O.Sink c.put_outcome.new.out) o) (sym c.status_of.ensures)
     (keeps_whole (command_of (map string_bytes c.args.words.now)) (files_data g.F.Files c.args.files.now)
     (files_data g.F.Files c.obey_words-outcome.new.files) g.O.Sink c.args.out.now c.obey_words-outcome.new.out
-    c.put_outcome.new.out c.obey_words-outcome.result c.obey_words-outcome.ensures c.in-Ok.ensures.ok
+    c.put_outcome.new.out c.obey_words-outcome.result c.obey_words-outcome.ensures.obeys c.in-Ok.ensures.ok
     c.put_outcome.ensures.no_fewer_faults) in record {
       cause = kept.cause;
       complete = kept.complete;
@@ -36,6 +36,8 @@ returns-in-Ok g c =
       possible = kept.possible;
       long = kept.long;
       fault = kept.fault;
+      order = c.obey_words-outcome.ensures.counts;
+      no_fewer_faults = kept.no_fewer_faults;
       report = kept.report;
       last_line = kept.last_line;
       files = kept.files;
@@ -48,8 +50,8 @@ returns-in-Err g c =
     (sink_data g.O.Sink c.args.out.now) (sink_data g.O.Sink c.put_outcome.new.out) o) (sym c.status_of-in-Err.ensures)
     (keeps_cut (command_of (map string_bytes c.args.words.now)) (files_data g.F.Files c.args.files.now)
     (files_data g.F.Files c.obey_words-outcome.new.files) g.O.Sink c.args.out.now c.obey_words-outcome.new.out
-    c.put_outcome.new.out c.obey_words-outcome.result c.in-Err.failure c.obey_words-outcome.ensures
-    c.in-Err.ensures.err c.in-Err.ensures.failure c.in-Err.ensures.told) in record {
+    c.put_outcome.new.out c.obey_words-outcome.result c.in-Err.failure c.obey_words-outcome.ensures.obeys
+    c.in-Err.ensures.err c.in-Err.ensures.failure c.in-Err.ensures.told c.put_outcome.ensures.no_fewer_faults) in record {
       cause = kept.cause;
       complete = kept.complete;
       found_good = finds_good (command_of (map string_bytes c.args.words.now)) (files_data g.F.Files c.args.files.now)
@@ -67,6 +69,8 @@ returns-in-Err g c =
       possible = kept.possible;
       long = kept.long;
       fault = kept.fault;
+      order = c.obey_words-outcome.ensures.counts;
+      no_fewer_faults = kept.no_fewer_faults;
       report = kept.report;
       last_line = kept.last_line;
       files = kept.files;

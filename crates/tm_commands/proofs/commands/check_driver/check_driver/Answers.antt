@@ -5,8 +5,8 @@ use Rattle.tm_report.specs.Output.{sink_data}
 use Rattle.tm_commands.proofs.Checking.{checked_obeys, stopped_checking}
 use Rattle.tm_commands.proofs.commands.check_driver.check_driver.Goals as goal
 
-pub returns-in-Err : goal.returns-in-Err
-returns-in-Err g c =
+pub returns-in-Err-clause-obeys : goal.returns-in-Err-clause-obeys
+returns-in-Err-clause-obeys g c =
     stopped_checking c.args.spec.now c.args.driver.now c.args.cert.now (files_data g.F.Files c.args.files.now)
     (files_data g.F.Files c.load_driver.new.files) (sink_data g.O.Sink c.args.out.now) c.in-Err.stop c.outcome.result
     c.outcome.ensures c.load_driver.ensures.files c.in-Err.ensures.stopped
@@ -14,10 +14,16 @@ returns-in-Err g c =
 pub judge-requires : goal.judge-requires
 judge-requires g c = c.in-Ok.ensures.read.can
 
-pub returns : goal.returns
-returns g c =
+pub returns-clause-obeys : goal.returns-clause-obeys
+returns-clause-obeys g c =
     checked_obeys c.args.spec.now c.args.driver.now c.args.cert.now (files_data g.F.Files c.args.files.now)
     (files_data g.F.Files c.load_driver.new.files) (sink_data g.O.Sink c.args.out.now)
     (sink_data g.O.Sink c.judge.new.out) (design_tree c.in-Ok.inputs.design) (trees_of c.in-Ok.inputs.blocks)
     c.in-Ok.inputs.cert c.load_driver.ensures.files c.in-Ok.ensures.read c.judge.ensures.no_fewer_faults
     c.judge.result c.judge.ensures.judged c.judge.ensures.cut c.judge.ensures.failure
+
+pub returns-in-Err-clause-counts : goal.returns-in-Err-clause-counts
+returns-in-Err-clause-counts g c = c.load_driver.ensures.counts
+
+pub returns-clause-counts : goal.returns-clause-counts
+returns-clause-counts g c = c.load_driver.ensures.counts

@@ -8,7 +8,7 @@ use Rattle.tm_commands.specs.Check.{may_refuse_cert}
 use Rattle.tm_commands.specs.Inputs.{TellsBlocks, TellsCert, NoBlocks, NoCert}
 use Rattle.tm_commands.specs.Order.{IsDueOfThree, spec_is_due, driver_is_due, third_is_due}
 use Rattle.tm_commands.specs.World.{files_data}
-use Rattle.tm_commands.proofs.Loading.{reads_none, reads_on, stops_later}
+use Rattle.tm_commands.proofs.Loading.{counts_later, counts_none, reads_none, reads_on, stops_later}
 use Rattle.tm_commands.proofs.Specifying.{specified, text_of}
 use Rattle.tm_commands.proofs.input.driver.load_driver.Goals as goal
 
@@ -77,3 +77,41 @@ returns-clause-read g c = record {
         (c.in-Ok-load_driver_cert.ensures.told told);
   };
 }
+
+pub returns-in-Err-clause-counts : goal.returns-in-Err-clause-counts
+returns-in-Err-clause-counts g c =
+    counts_later g.F.Files c.args.files.now c.args.files.now c.load_specification.new.files c.args.spec.now
+    (counts_none (files_data g.F.Files c.args.files.now)) (λ told. spec_is_due) c.load_specification.ensures.counts
+
+pub returns-in-Err-load_blocks-clause-counts : goal.returns-in-Err-load_blocks-clause-counts
+returns-in-Err-load_blocks-clause-counts g c =
+    counts_later g.F.Files c.args.files.now c.load_specification.new.files c.load_blocks.new.files c.args.driver.now
+    (counts_later g.F.Files c.args.files.now c.args.files.now c.load_specification.new.files c.args.spec.now
+    (counts_none (files_data g.F.Files c.args.files.now)) (λ told. spec_is_due) c.load_specification.ensures.counts)
+    (λ told. driver_is_due (specified c.in-Ok.ensures.read told)) c.load_blocks.ensures.counts
+
+pub returns-in-Err-load_driver_cert-clause-counts : goal.returns-in-Err-load_driver_cert-clause-counts
+returns-in-Err-load_driver_cert-clause-counts g c =
+    counts_later g.F.Files c.args.files.now c.load_blocks.new.files c.load_driver_cert.new.files c.args.cert.now
+    (counts_later g.F.Files c.args.files.now c.load_specification.new.files c.load_blocks.new.files c.args.driver.now
+    (counts_later g.F.Files c.args.files.now c.args.files.now c.load_specification.new.files c.args.spec.now
+    (counts_none (files_data g.F.Files c.args.files.now)) (λ told. spec_is_due) c.load_specification.ensures.counts)
+    (λ told. driver_is_due (specified c.in-Ok.ensures.read told)) c.load_blocks.ensures.counts)
+    (λ told. third_is_due (specified c.in-Ok.ensures.read told)
+    (subst (λ (f : List ℕ → Option (List ℕ)).
+    TellsBlocks f c.args.driver.now (design_tree c.in-Ok.design) (trees_of c.in-Ok-load_blocks.blocks))
+    c.load_specification.ensures.files.same_contents (c.in-Ok-load_blocks.ensures.told told)))
+    c.load_driver_cert.ensures.counts
+
+pub returns-clause-counts : goal.returns-clause-counts
+returns-clause-counts g c =
+    counts_later g.F.Files c.args.files.now c.load_blocks.new.files c.load_driver_cert.new.files c.args.cert.now
+    (counts_later g.F.Files c.args.files.now c.load_specification.new.files c.load_blocks.new.files c.args.driver.now
+    (counts_later g.F.Files c.args.files.now c.args.files.now c.load_specification.new.files c.args.spec.now
+    (counts_none (files_data g.F.Files c.args.files.now)) (λ told. spec_is_due) c.load_specification.ensures.counts)
+    (λ told. driver_is_due (specified c.in-Ok.ensures.read told)) c.load_blocks.ensures.counts)
+    (λ told. third_is_due (specified c.in-Ok.ensures.read told)
+    (subst (λ (f : List ℕ → Option (List ℕ)).
+    TellsBlocks f c.args.driver.now (design_tree c.in-Ok.design) (trees_of c.in-Ok-load_blocks.blocks))
+    c.load_specification.ensures.files.same_contents (c.in-Ok-load_blocks.ensures.told told)))
+    c.load_driver_cert.ensures.counts

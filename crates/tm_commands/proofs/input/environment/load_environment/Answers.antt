@@ -6,7 +6,7 @@ use Rattle.tm_commands.specs.Check.{no_spec, no_levels, may_refuse_spec, may_ref
 use Rattle.tm_commands.specs.Inputs.{TellsCert, NoCert}
 use Rattle.tm_commands.specs.Order.{IsDueOfTwo, first_is_due, cert_is_due}
 use Rattle.tm_commands.specs.World.{files_data}
-use Rattle.tm_commands.proofs.Loading.{reads_none, reads_on, stops_later}
+use Rattle.tm_commands.proofs.Loading.{counts_later, counts_none, reads_none, reads_on, stops_later}
 use Rattle.tm_commands.proofs.Specifying.{specified, text_of}
 use Rattle.tm_commands.proofs.input.environment.load_environment.Goals as goal
 
@@ -59,3 +59,22 @@ returns-in-Err-load_levels-clause-files g c = reads_on c.load_specification.ensu
 
 pub returns-in-Ok-load_levels-clause-files : goal.returns-in-Ok-load_levels-clause-files
 returns-in-Ok-load_levels-clause-files g c = reads_on c.load_specification.ensures.files c.load_levels.ensures.files
+
+pub returns-in-Err-clause-counts : goal.returns-in-Err-clause-counts
+returns-in-Err-clause-counts g c =
+    counts_later g.F.Files c.args.files.now c.args.files.now c.load_specification.new.files c.args.spec.now
+    (counts_none (files_data g.F.Files c.args.files.now)) (λ told. first_is_due) c.load_specification.ensures.counts
+
+pub returns-in-Ok-load_levels-clause-counts : goal.returns-in-Ok-load_levels-clause-counts
+returns-in-Ok-load_levels-clause-counts g c =
+    counts_later g.F.Files c.args.files.now c.load_specification.new.files c.load_levels.new.files c.args.cert.now
+    (counts_later g.F.Files c.args.files.now c.args.files.now c.load_specification.new.files c.args.spec.now
+    (counts_none (files_data g.F.Files c.args.files.now)) (λ told. first_is_due) c.load_specification.ensures.counts)
+    (λ told. cert_is_due (specified c.in-Ok.ensures.read told)) c.load_levels.ensures.counts
+
+pub returns-in-Err-load_levels-clause-counts : goal.returns-in-Err-load_levels-clause-counts
+returns-in-Err-load_levels-clause-counts g c =
+    counts_later g.F.Files c.args.files.now c.load_specification.new.files c.load_levels.new.files c.args.cert.now
+    (counts_later g.F.Files c.args.files.now c.args.files.now c.load_specification.new.files c.args.spec.now
+    (counts_none (files_data g.F.Files c.args.files.now)) (λ told. first_is_due) c.load_specification.ensures.counts)
+    (λ told. cert_is_due (specified c.in-Ok.ensures.read told)) c.load_levels.ensures.counts

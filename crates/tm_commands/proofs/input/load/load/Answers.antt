@@ -6,7 +6,7 @@ use Rattle.tm_commands.specs.Run.{no_design, no_blocks, no_script, may_refuse_de
 use Rattle.tm_commands.specs.Run.{may_refuse_script}
 use Rattle.tm_commands.specs.Order.{IsDueOfThree, spec_is_due, driver_is_due, third_is_due}
 use Rattle.tm_commands.specs.World.{files_data}
-use Rattle.tm_commands.proofs.Loading.{reads_none, reads_on, stops_later}
+use Rattle.tm_commands.proofs.Loading.{counts_later, counts_none, reads_none, reads_on, stops_later}
 use Rattle.tm_commands.proofs.Specifying.{playable, specified}
 use Rattle.tm_commands.proofs.input.load.load.Goals as goal
 
@@ -67,3 +67,41 @@ returns-clause-told g c = λ told. record {
 
 pub returns-clause-playable : goal.returns-clause-playable
 returns-clause-playable g c = playable c.in-Ok.ensures.read
+
+pub returns-in-Err-clause-counts : goal.returns-in-Err-clause-counts
+returns-in-Err-clause-counts g c =
+    counts_later g.F.Files c.args.files.now c.args.files.now c.load_specification.new.files c.args.spec.now
+    (counts_none (files_data g.F.Files c.args.files.now)) (λ told. spec_is_due) c.load_specification.ensures.counts
+
+pub returns-in-Err-load_blocks-clause-counts : goal.returns-in-Err-load_blocks-clause-counts
+returns-in-Err-load_blocks-clause-counts g c =
+    counts_later g.F.Files c.args.files.now c.load_specification.new.files c.load_blocks.new.files c.args.driver.now
+    (counts_later g.F.Files c.args.files.now c.args.files.now c.load_specification.new.files c.args.spec.now
+    (counts_none (files_data g.F.Files c.args.files.now)) (λ told. spec_is_due) c.load_specification.ensures.counts)
+    (λ told. driver_is_due (specified c.in-Ok.ensures.read told)) c.load_blocks.ensures.counts
+
+pub returns-in-Err-load_script-clause-counts : goal.returns-in-Err-load_script-clause-counts
+returns-in-Err-load_script-clause-counts g c =
+    counts_later g.F.Files c.args.files.now c.load_blocks.new.files c.load_script.new.files c.args.choices.now
+    (counts_later g.F.Files c.args.files.now c.load_specification.new.files c.load_blocks.new.files c.args.driver.now
+    (counts_later g.F.Files c.args.files.now c.args.files.now c.load_specification.new.files c.args.spec.now
+    (counts_none (files_data g.F.Files c.args.files.now)) (λ told. spec_is_due) c.load_specification.ensures.counts)
+    (λ told. driver_is_due (specified c.in-Ok.ensures.read told)) c.load_blocks.ensures.counts)
+    (λ told. third_is_due (specified c.in-Ok.ensures.read told)
+    (subst (λ (f : List ℕ → Option (List ℕ)).
+    TellsBlocks f c.args.driver.now (design_tree c.in-Ok.design) (trees_of c.in-Ok-load_blocks.blocks))
+    c.load_specification.ensures.files.same_contents (c.in-Ok-load_blocks.ensures.told told)))
+    c.load_script.ensures.counts
+
+pub returns-clause-counts : goal.returns-clause-counts
+returns-clause-counts g c =
+    counts_later g.F.Files c.args.files.now c.load_blocks.new.files c.load_script.new.files c.args.choices.now
+    (counts_later g.F.Files c.args.files.now c.load_specification.new.files c.load_blocks.new.files c.args.driver.now
+    (counts_later g.F.Files c.args.files.now c.args.files.now c.load_specification.new.files c.args.spec.now
+    (counts_none (files_data g.F.Files c.args.files.now)) (λ told. spec_is_due) c.load_specification.ensures.counts)
+    (λ told. driver_is_due (specified c.in-Ok.ensures.read told)) c.load_blocks.ensures.counts)
+    (λ told. third_is_due (specified c.in-Ok.ensures.read told)
+    (subst (λ (f : List ℕ → Option (List ℕ)).
+    TellsBlocks f c.args.driver.now (design_tree c.in-Ok.design) (trees_of c.in-Ok-load_blocks.blocks))
+    c.load_specification.ensures.files.same_contents (c.in-Ok-load_blocks.ensures.told told)))
+    c.load_script.ensures.counts

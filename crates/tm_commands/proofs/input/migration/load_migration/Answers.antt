@@ -5,7 +5,7 @@ use Rattle.tm_commands.specs.Inputs.{TellsCert, NoCert}
 use Rattle.tm_commands.specs.Migrate.{no_spec, no_cert, refuses_spec, refuses_cert}
 use Rattle.tm_commands.specs.Order.{IsDueOfTwo, first_is_due, cert_is_due}
 use Rattle.tm_commands.specs.World.{files_data}
-use Rattle.tm_commands.proofs.Loading.{reads_none, reads_on, stops_later}
+use Rattle.tm_commands.proofs.Loading.{counts_later, counts_none, reads_none, reads_on, stops_later}
 use Rattle.tm_commands.proofs.Specifying.{specified, text_of}
 use Rattle.tm_commands.proofs.input.migration.load_migration.Goals as goal
 
@@ -51,3 +51,27 @@ returns-clause-files g c = reads_on c.load_specification.ensures.files c.load_ce
 
 pub returns-in-Ok-load_cert-clause-files : goal.returns-in-Ok-load_cert-clause-files
 returns-in-Ok-load_cert-clause-files g c = reads_on c.load_specification.ensures.files c.load_cert.ensures.files
+
+pub returns-in-Err-clause-counts : goal.returns-in-Err-clause-counts
+returns-in-Err-clause-counts g c =
+    counts_later g.F.Files c.args.files.now c.args.files.now c.load_specification.new.files c.args.spec.now
+    (counts_none (files_data g.F.Files c.args.files.now)) (λ told. first_is_due) c.load_specification.ensures.counts
+
+pub returns-in_err-cert_shape-clause-counts : goal.returns-in_err-cert_shape-clause-counts
+returns-in_err-cert_shape-clause-counts g c =
+    counts_later g.F.Files c.args.files.now c.args.files.now c.load_specification.new.files c.args.spec.now
+    (counts_none (files_data g.F.Files c.args.files.now)) (λ told. first_is_due) c.load_specification.ensures.counts
+
+pub returns-in-Ok-load_cert-clause-counts : goal.returns-in-Ok-load_cert-clause-counts
+returns-in-Ok-load_cert-clause-counts g c =
+    counts_later g.F.Files c.args.files.now c.load_specification.new.files c.load_cert.new.files c.args.cert.now
+    (counts_later g.F.Files c.args.files.now c.args.files.now c.load_specification.new.files c.args.spec.now
+    (counts_none (files_data g.F.Files c.args.files.now)) (λ told. first_is_due) c.load_specification.ensures.counts)
+    (λ told. cert_is_due (specified c.in-Ok.ensures.read told)) c.load_cert.ensures.counts
+
+pub returns-clause-counts : goal.returns-clause-counts
+returns-clause-counts g c =
+    counts_later g.F.Files c.args.files.now c.load_specification.new.files c.load_cert.new.files c.args.cert.now
+    (counts_later g.F.Files c.args.files.now c.args.files.now c.load_specification.new.files c.args.spec.now
+    (counts_none (files_data g.F.Files c.args.files.now)) (λ told. first_is_due) c.load_specification.ensures.counts)
+    (λ told. cert_is_due (specified c.in-Ok.ensures.read told)) c.load_cert.ensures.counts
