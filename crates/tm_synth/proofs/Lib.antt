@@ -1,3 +1,4 @@
+mod Calling
 mod Certificates
 mod Files
 mod Games

@@ -12,6 +12,7 @@ ghost use Rattle.tm_syntax.specs.Design.View.{design_tree};
 ghost use Rattle.tm_syntax.specs.Faults.{IsOfText, IsSound};
 ghost use Rattle.tm_synth.specs.Found.{IsDriverFound, IsFound};
 ghost use Rattle.tm_synth.specs.Shown.{IsDriverShown, IsWeightOrder};
+ghost use Rattle.tm_verdict.specs.Regular.{IsRegular};
 ghost use Rattle.tm_verdict.specs.Sets.{driver_sets};
 
 use crate::found::{DriverFiles, Synthesis};
@@ -46,6 +47,7 @@ fn certify(
     requires sound { IsSound (design_tree design.now) }
     requires of_text { IsOfText (design_tree design.now).spec }
     requires exact { IsExactOf (design_tree design.now) game }
+    requires regular { IsRegular (design_tree design.now) }
     requires sized { IsSized game }
     requires known { KnowsAll (exact_ids game) iterates.now }
     requires meets { MeetsMoveForm (design_tree design.now) (solution.driver_sets (exact_ids game) iterates.now) }
@@ -101,6 +103,7 @@ pub(crate) fn driver_files(
     requires sound { IsSound (design_tree design.now) }
     requires of_text { IsOfText (design_tree design.now).spec }
     requires exact { IsExactOf (design_tree design.now) game }
+    requires regular { IsRegular (design_tree design.now) }
     requires sized { IsSized game }
     requires known { KnowsAll (exact_ids game) iterates.now }
     requires meets { MeetsMoveForm (design_tree design.now) (solution.driver_sets (exact_ids game) iterates.now) }

@@ -56,6 +56,7 @@ driver_files-requires c =
       sound = c.requires.sound;
       of_text = c.requires.of_text;
       exact = follows.extends.of d solved;
+      regular = regular;
       sized = still_sized d _ c.new-exact.result.game _
           (subst (λ (g : GameData). IsOrderedGame d c.deref.result.now g) (sym c.new-exact.ensures.game)
           c.in_ok-game.ensures) made (follows.extends.of d solved);
