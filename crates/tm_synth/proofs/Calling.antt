@@ -121,5 +121,6 @@ can_call d sound of regular =
       few = omega (arith, limits.few_processes d sound, limits.few_tasks d sound);
       declared = declared_so d fit.typed;
       fits = λ n callee is.
-          within_room d callee.params 0 (fit.sized n callee is) (regular.room.arguments n callee is);
+          let few = within_room d callee.params 0 (fit.sized n callee is) (regular.room.arguments n callee is) in
+          omega (arith, few);
     }
