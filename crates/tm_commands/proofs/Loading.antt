@@ -60,21 +60,21 @@ reads_on first second = record {
 }
 
 -- and counts nothing
-pub counts_none : {IsOne : List ℕ → Type 0} (data_of : FilesData) → OnlyCounts IsOne data_of data_of
-counts_none f tells name other = refl
+pub counts_none : (IsOne : List ℕ → Type 0) (data_of : FilesData) → OnlyCounts IsOne data_of data_of
+counts_none IsOne f tells name other = refl
 
 module _ {A : Type 0} (F : FilesGhosts A) (x y z : A) where
   -- a file that is due was read behind others that were
-  pub counts_later : {IsDue : List ℕ → Type 0} (one : List ℕ) → OnlyCounts IsDue (files_data F x) (files_data F y) →
+  pub counts_later : (IsDue : List ℕ → Type 0) (one : List ℕ) → OnlyCounts IsDue (files_data F x) (files_data F y) →
       (IsTrue F.tells → IsDue one) → OnlyCounts (λ n. n ≡ one) (files_data F y) (files_data F z) →
       OnlyCounts IsDue (files_data F x) (files_data F z)
-  counts_later {IsDue} one before due after tells name other =
+  counts_later IsDue one before due after tells name other =
       after tells name (λ is. other (subst IsDue (sym is) (due tells))) ∙ before tells name other
 
   -- nothing was read behind
-  pub counts_still : {IsDue : List ℕ → Type 0} → OnlyCounts IsDue (files_data F x) (files_data F y) →
+  pub counts_still : (IsDue : List ℕ → Type 0) → OnlyCounts IsDue (files_data F x) (files_data F y) →
       F.read_faults z ≡ F.read_faults y → OnlyCounts IsDue (files_data F x) (files_data F z)
-  counts_still before same tells name other = ap (λ (f : List ℕ → ℕ). f name) same ∙ before tells name other
+  counts_still IsDue before same tells name other = ap (λ (f : List ℕ → ℕ). f name) same ∙ before tells name other
 
   long_later : (ending : Ending) → OnlyReads (files_data F x) (files_data F y) →
       IsLongShown (files_data F y) (files_data F z) ending → IsLongShown (files_data F x) (files_data F z) ending

@@ -42,7 +42,8 @@ pub fn load_cert<F: Files>(
         (IsReadFailure cert.now
         (files_data ⟦<F as Files>⟧ files.old) (files_data ⟦<F as Files>⟧ files.new))) }
     ensures files { OnlyReads (files_data ⟦<F as Files>⟧ files.old) (files_data ⟦<F as Files>⟧ files.new) }
-    ensures counts { OnlyCounts (λ n. n ≡ cert.now) (files_data ⟦<F as Files>⟧ files.old) (files_data ⟦<F as Files>⟧ files.new) }
+    ensures counts { OnlyCounts (λ n. n ≡ cert.now)
+        (files_data ⟦<F as Files>⟧ files.old) (files_data ⟦<F as Files>⟧ files.new) }
 {
     let Some(text) = read_file(alloc, files, cert, TEXT_BYTES)? else {
         return Err(bad_text(alloc, cert, Bad::TooLong));

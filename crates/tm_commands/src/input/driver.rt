@@ -53,7 +53,8 @@ fn load_driver_cert<F: Files>(
         (IsReadFailure cert.now
         (files_data ⟦<F as Files>⟧ files.old) (files_data ⟦<F as Files>⟧ files.new))) }
     ensures files { OnlyReads (files_data ⟦<F as Files>⟧ files.old) (files_data ⟦<F as Files>⟧ files.new) }
-    ensures counts { OnlyCounts (λ n. n ≡ cert.now) (files_data ⟦<F as Files>⟧ files.old) (files_data ⟦<F as Files>⟧ files.new) }
+    ensures counts { OnlyCounts (λ n. n ≡ cert.now)
+        (files_data ⟦<F as Files>⟧ files.old) (files_data ⟦<F as Files>⟧ files.new) }
 {
     let shape = cert_shape(alloc, design, Kind::Driver)?;
     let read = match load_cert(alloc, files, cert, shape) {

@@ -28,7 +28,8 @@ pub fn read_file<F: Files>(
     ensures failure { IfErr result (IsReadFailure name.now
         (files_data ⟦<F as Files>⟧ files.old) (files_data ⟦<F as Files>⟧ files.new)) }
     ensures files { OnlyReads (files_data ⟦<F as Files>⟧ files.old) (files_data ⟦<F as Files>⟧ files.new) }
-    ensures counts { OnlyCounts (λ n. n ≡ name.now) (files_data ⟦<F as Files>⟧ files.old) (files_data ⟦<F as Files>⟧ files.new) }
+    ensures counts { OnlyCounts (λ n. n ≡ name.now)
+        (files_data ⟦<F as Files>⟧ files.old) (files_data ⟦<F as Files>⟧ files.new) }
 {
     match files.read(name, limit) {
         Ok(bytes) => Ok(Some(bytes)),

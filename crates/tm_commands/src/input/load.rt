@@ -45,7 +45,8 @@ pub fn load_blocks<F: Files>(
         (IsReadFailure driver.now
         (files_data ⟦<F as Files>⟧ files.old) (files_data ⟦<F as Files>⟧ files.new))) }
     ensures files { OnlyReads (files_data ⟦<F as Files>⟧ files.old) (files_data ⟦<F as Files>⟧ files.new) }
-    ensures counts { OnlyCounts (λ n. n ≡ driver.now) (files_data ⟦<F as Files>⟧ files.old) (files_data ⟦<F as Files>⟧ files.new) }
+    ensures counts { OnlyCounts (λ n. n ≡ driver.now)
+        (files_data ⟦<F as Files>⟧ files.old) (files_data ⟦<F as Files>⟧ files.new) }
 {
     let Some(text) = read_file(alloc, files, driver, TEXT_BYTES)? else {
         return Err(bad_text(alloc, driver, Bad::TooLong));
@@ -74,7 +75,8 @@ fn load_script<F: Files>(
         (IsReadFailure choices.now
         (files_data ⟦<F as Files>⟧ files.old) (files_data ⟦<F as Files>⟧ files.new))) }
     ensures files { OnlyReads (files_data ⟦<F as Files>⟧ files.old) (files_data ⟦<F as Files>⟧ files.new) }
-    ensures counts { OnlyCounts (λ n. n ≡ choices.now) (files_data ⟦<F as Files>⟧ files.old) (files_data ⟦<F as Files>⟧ files.new) }
+    ensures counts { OnlyCounts (λ n. n ≡ choices.now)
+        (files_data ⟦<F as Files>⟧ files.old) (files_data ⟦<F as Files>⟧ files.new) }
 {
     let Some(text) = read_file(alloc, files, choices, TEXT_BYTES)? else {
         return Err(bad_text(alloc, choices, Bad::TooLong));

@@ -57,7 +57,8 @@ pub fn load_specification<F: Files>(
         (IsReadFailure spec.now
         (files_data ⟦<F as Files>⟧ files.old) (files_data ⟦<F as Files>⟧ files.new))) }
     ensures files { OnlyReads (files_data ⟦<F as Files>⟧ files.old) (files_data ⟦<F as Files>⟧ files.new) }
-    ensures counts { OnlyCounts (λ n. n ≡ spec.now) (files_data ⟦<F as Files>⟧ files.old) (files_data ⟦<F as Files>⟧ files.new) }
+    ensures counts { OnlyCounts (λ n. n ≡ spec.now)
+        (files_data ⟦<F as Files>⟧ files.old) (files_data ⟦<F as Files>⟧ files.new) }
 {
     let Some(text) = read_file(alloc, files, spec, SPEC_BYTES)? else {
         return Err(Stop::Ends(Ending::Faulty(long_fault())));

@@ -26,10 +26,14 @@ obey-requires g c = (
 )
 
 pub returns-in_err-read_words-clause-counts : goal.returns-in_err-read_words-clause-counts
-returns-in_err-read_words-clause-counts g c = counts_none (files_data g.F.Files c.args.files.now)
+returns-in_err-read_words-clause-counts g c =
+    counts_none (IsDue (g.F.Files.contents c.args.files.now) (command_of (map string_bytes c.args.words.now)))
+    (files_data g.F.Files c.args.files.now)
 
 pub returns-in-None-clause-counts : goal.returns-in-None-clause-counts
-returns-in-None-clause-counts g c = counts_none (files_data g.F.Files c.args.files.now)
+returns-in-None-clause-counts g c =
+    counts_none (IsDue (g.F.Files.contents c.args.files.now) (command_of (map string_bytes c.args.words.now)))
+    (files_data g.F.Files c.args.files.now)
 
 pub returns-in-Some-clause-counts : goal.returns-in-Some-clause-counts
 returns-in-Some-clause-counts g c =

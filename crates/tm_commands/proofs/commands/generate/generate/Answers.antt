@@ -34,14 +34,14 @@ returns-clause-obeys g c =
     (spelled_fit (generate c.args.registers c.args.name.now) c.requires).1 c.in-Err.ensures.failure
 
 pub returns-in-Err-Memory-clause-counts : goal.returns-in-Err-Memory-clause-counts
-returns-in-Err-Memory-clause-counts g c = counts_none (files_data g.F.Files c.args.files.now)
+returns-in-Err-Memory-clause-counts g c = counts_none (λ name. ⊥) (files_data g.F.Files c.args.files.now)
 
 pub returns-in-Ok-write_file-clause-counts : goal.returns-in-Ok-write_file-clause-counts
 returns-in-Ok-write_file-clause-counts g c =
     counts_still g.F.Files c.args.files.now c.args.files.now c.write_file.new.files
-    (counts_none (files_data g.F.Files c.args.files.now)) c.write_file.ensures.files.same_reads
+    (λ name. ⊥) (counts_none (λ name. ⊥) (files_data g.F.Files c.args.files.now)) c.write_file.ensures.files.same_reads
 
 pub returns-clause-counts : goal.returns-clause-counts
 returns-clause-counts g c =
     counts_still g.F.Files c.args.files.now c.args.files.now c.write_file.new.files
-    (counts_none (files_data g.F.Files c.args.files.now)) c.write_file.ensures.files.same_reads
+    (λ name. ⊥) (counts_none (λ name. ⊥) (files_data g.F.Files c.args.files.now)) c.write_file.ensures.files.same_reads

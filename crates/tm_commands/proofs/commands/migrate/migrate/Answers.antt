@@ -1,4 +1,5 @@
 use Rattle.std.proofs.Common.{Some, ap, ◌∙◌}
+use Rattle.tm_commands.specs.Order.{IsDueOfTwo}
 use Rattle.tm_commands.specs.Words.{migrate}
 use Rattle.tm_commands.specs.World.{files_data}
 use Rattle.tm_report.specs.Output.{sink_data}
@@ -44,9 +45,11 @@ returns-in_default-clause-counts g c = c.load_migration.ensures.counts
 pub returns-in-Ok-write_file-clause-counts : goal.returns-in-Ok-write_file-clause-counts
 returns-in-Ok-write_file-clause-counts g c =
     counts_still g.F.Files c.args.files.now c.load_migration.new.files c.write_file.new.files
-    c.load_migration.ensures.counts c.write_file.ensures.files.same_reads
+    (IsDueOfTwo (g.F.Files.contents c.args.files.now) c.args.spec.now c.args.cert.now) c.load_migration.ensures.counts
+    c.write_file.ensures.files.same_reads
 
 pub returns-clause-counts : goal.returns-clause-counts
 returns-clause-counts g c =
     counts_still g.F.Files c.args.files.now c.load_migration.new.files c.write_file.new.files
-    c.load_migration.ensures.counts c.write_file.ensures.files.same_reads
+    (IsDueOfTwo (g.F.Files.contents c.args.files.now) c.args.spec.now c.args.cert.now) c.load_migration.ensures.counts
+    c.write_file.ensures.files.same_reads

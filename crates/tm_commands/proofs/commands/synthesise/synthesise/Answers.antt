@@ -41,7 +41,8 @@ returns-in-Err-clause-counts g c = c.load_specification.ensures.counts
 pub returns-in-Ok-synthesise-clause-counts : goal.returns-in-Ok-synthesise-clause-counts
 returns-in-Ok-synthesise-clause-counts g c =
     counts_still g.F.Files c.args.files.now c.load_specification.new.files c.end_with.new.files
-    c.load_specification.ensures.counts (c.end_with.ensures.touched.nothing_read refl).0
+    (λ name. name ≡ c.args.spec.now) c.load_specification.ensures.counts (c.end_with.ensures.touched.nothing_read
+    refl).0
 
 pub returns-clause-counts : goal.returns-clause-counts
 returns-clause-counts g c = c.load_specification.ensures.counts

@@ -80,22 +80,37 @@ returns-clause-read g c = record {
 
 pub returns-in-Err-clause-counts : goal.returns-in-Err-clause-counts
 returns-in-Err-clause-counts g c =
-    counts_later g.F.Files c.args.files.now c.args.files.now c.load_specification.new.files c.args.spec.now
-    (counts_none (files_data g.F.Files c.args.files.now)) (λ told. spec_is_due) c.load_specification.ensures.counts
+    counts_later g.F.Files c.args.files.now c.args.files.now c.load_specification.new.files
+    (IsDueOfThree (g.F.Files.contents c.args.files.now) c.args.spec.now c.args.driver.now c.args.cert.now)
+    c.args.spec.now
+    (counts_none (IsDueOfThree (g.F.Files.contents c.args.files.now) c.args.spec.now c.args.driver.now c.args.cert.now)
+    (files_data g.F.Files c.args.files.now)) (λ told. spec_is_due) c.load_specification.ensures.counts
 
 pub returns-in-Err-load_blocks-clause-counts : goal.returns-in-Err-load_blocks-clause-counts
 returns-in-Err-load_blocks-clause-counts g c =
-    counts_later g.F.Files c.args.files.now c.load_specification.new.files c.load_blocks.new.files c.args.driver.now
-    (counts_later g.F.Files c.args.files.now c.args.files.now c.load_specification.new.files c.args.spec.now
-    (counts_none (files_data g.F.Files c.args.files.now)) (λ told. spec_is_due) c.load_specification.ensures.counts)
+    counts_later g.F.Files c.args.files.now c.load_specification.new.files c.load_blocks.new.files
+    (IsDueOfThree (g.F.Files.contents c.args.files.now) c.args.spec.now c.args.driver.now c.args.cert.now)
+    c.args.driver.now
+    (counts_later g.F.Files c.args.files.now c.args.files.now c.load_specification.new.files
+    (IsDueOfThree (g.F.Files.contents c.args.files.now) c.args.spec.now c.args.driver.now c.args.cert.now)
+    c.args.spec.now
+    (counts_none (IsDueOfThree (g.F.Files.contents c.args.files.now) c.args.spec.now c.args.driver.now c.args.cert.now)
+    (files_data g.F.Files c.args.files.now)) (λ told. spec_is_due) c.load_specification.ensures.counts)
     (λ told. driver_is_due (specified c.in-Ok.ensures.read told)) c.load_blocks.ensures.counts
 
 pub returns-in-Err-load_driver_cert-clause-counts : goal.returns-in-Err-load_driver_cert-clause-counts
 returns-in-Err-load_driver_cert-clause-counts g c =
-    counts_later g.F.Files c.args.files.now c.load_blocks.new.files c.load_driver_cert.new.files c.args.cert.now
-    (counts_later g.F.Files c.args.files.now c.load_specification.new.files c.load_blocks.new.files c.args.driver.now
-    (counts_later g.F.Files c.args.files.now c.args.files.now c.load_specification.new.files c.args.spec.now
-    (counts_none (files_data g.F.Files c.args.files.now)) (λ told. spec_is_due) c.load_specification.ensures.counts)
+    counts_later g.F.Files c.args.files.now c.load_blocks.new.files c.load_driver_cert.new.files
+    (IsDueOfThree (g.F.Files.contents c.args.files.now) c.args.spec.now c.args.driver.now c.args.cert.now)
+    c.args.cert.now
+    (counts_later g.F.Files c.args.files.now c.load_specification.new.files c.load_blocks.new.files
+    (IsDueOfThree (g.F.Files.contents c.args.files.now) c.args.spec.now c.args.driver.now c.args.cert.now)
+    c.args.driver.now
+    (counts_later g.F.Files c.args.files.now c.args.files.now c.load_specification.new.files
+    (IsDueOfThree (g.F.Files.contents c.args.files.now) c.args.spec.now c.args.driver.now c.args.cert.now)
+    c.args.spec.now
+    (counts_none (IsDueOfThree (g.F.Files.contents c.args.files.now) c.args.spec.now c.args.driver.now c.args.cert.now)
+    (files_data g.F.Files c.args.files.now)) (λ told. spec_is_due) c.load_specification.ensures.counts)
     (λ told. driver_is_due (specified c.in-Ok.ensures.read told)) c.load_blocks.ensures.counts)
     (λ told. third_is_due (specified c.in-Ok.ensures.read told)
     (subst (λ (f : List ℕ → Option (List ℕ)).
@@ -105,10 +120,17 @@ returns-in-Err-load_driver_cert-clause-counts g c =
 
 pub returns-clause-counts : goal.returns-clause-counts
 returns-clause-counts g c =
-    counts_later g.F.Files c.args.files.now c.load_blocks.new.files c.load_driver_cert.new.files c.args.cert.now
-    (counts_later g.F.Files c.args.files.now c.load_specification.new.files c.load_blocks.new.files c.args.driver.now
-    (counts_later g.F.Files c.args.files.now c.args.files.now c.load_specification.new.files c.args.spec.now
-    (counts_none (files_data g.F.Files c.args.files.now)) (λ told. spec_is_due) c.load_specification.ensures.counts)
+    counts_later g.F.Files c.args.files.now c.load_blocks.new.files c.load_driver_cert.new.files
+    (IsDueOfThree (g.F.Files.contents c.args.files.now) c.args.spec.now c.args.driver.now c.args.cert.now)
+    c.args.cert.now
+    (counts_later g.F.Files c.args.files.now c.load_specification.new.files c.load_blocks.new.files
+    (IsDueOfThree (g.F.Files.contents c.args.files.now) c.args.spec.now c.args.driver.now c.args.cert.now)
+    c.args.driver.now
+    (counts_later g.F.Files c.args.files.now c.args.files.now c.load_specification.new.files
+    (IsDueOfThree (g.F.Files.contents c.args.files.now) c.args.spec.now c.args.driver.now c.args.cert.now)
+    c.args.spec.now
+    (counts_none (IsDueOfThree (g.F.Files.contents c.args.files.now) c.args.spec.now c.args.driver.now c.args.cert.now)
+    (files_data g.F.Files c.args.files.now)) (λ told. spec_is_due) c.load_specification.ensures.counts)
     (λ told. driver_is_due (specified c.in-Ok.ensures.read told)) c.load_blocks.ensures.counts)
     (λ told. third_is_due (specified c.in-Ok.ensures.read told)
     (subst (λ (f : List ℕ → Option (List ℕ)).

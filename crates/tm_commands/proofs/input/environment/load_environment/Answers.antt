@@ -62,19 +62,27 @@ returns-in-Ok-load_levels-clause-files g c = reads_on c.load_specification.ensur
 
 pub returns-in-Err-clause-counts : goal.returns-in-Err-clause-counts
 returns-in-Err-clause-counts g c =
-    counts_later g.F.Files c.args.files.now c.args.files.now c.load_specification.new.files c.args.spec.now
-    (counts_none (files_data g.F.Files c.args.files.now)) (λ told. first_is_due) c.load_specification.ensures.counts
+    counts_later g.F.Files c.args.files.now c.args.files.now c.load_specification.new.files
+    (IsDueOfTwo (g.F.Files.contents c.args.files.now) c.args.spec.now c.args.cert.now) c.args.spec.now
+    (counts_none (IsDueOfTwo (g.F.Files.contents c.args.files.now) c.args.spec.now c.args.cert.now) (files_data
+    g.F.Files c.args.files.now)) (λ told. first_is_due) c.load_specification.ensures.counts
 
 pub returns-in-Ok-load_levels-clause-counts : goal.returns-in-Ok-load_levels-clause-counts
 returns-in-Ok-load_levels-clause-counts g c =
-    counts_later g.F.Files c.args.files.now c.load_specification.new.files c.load_levels.new.files c.args.cert.now
-    (counts_later g.F.Files c.args.files.now c.args.files.now c.load_specification.new.files c.args.spec.now
-    (counts_none (files_data g.F.Files c.args.files.now)) (λ told. first_is_due) c.load_specification.ensures.counts)
+    counts_later g.F.Files c.args.files.now c.load_specification.new.files c.load_levels.new.files
+    (IsDueOfTwo (g.F.Files.contents c.args.files.now) c.args.spec.now c.args.cert.now) c.args.cert.now
+    (counts_later g.F.Files c.args.files.now c.args.files.now c.load_specification.new.files
+    (IsDueOfTwo (g.F.Files.contents c.args.files.now) c.args.spec.now c.args.cert.now) c.args.spec.now
+    (counts_none (IsDueOfTwo (g.F.Files.contents c.args.files.now) c.args.spec.now c.args.cert.now) (files_data
+    g.F.Files c.args.files.now)) (λ told. first_is_due) c.load_specification.ensures.counts)
     (λ told. cert_is_due (specified c.in-Ok.ensures.read told)) c.load_levels.ensures.counts
 
 pub returns-in-Err-load_levels-clause-counts : goal.returns-in-Err-load_levels-clause-counts
 returns-in-Err-load_levels-clause-counts g c =
-    counts_later g.F.Files c.args.files.now c.load_specification.new.files c.load_levels.new.files c.args.cert.now
-    (counts_later g.F.Files c.args.files.now c.args.files.now c.load_specification.new.files c.args.spec.now
-    (counts_none (files_data g.F.Files c.args.files.now)) (λ told. first_is_due) c.load_specification.ensures.counts)
+    counts_later g.F.Files c.args.files.now c.load_specification.new.files c.load_levels.new.files
+    (IsDueOfTwo (g.F.Files.contents c.args.files.now) c.args.spec.now c.args.cert.now) c.args.cert.now
+    (counts_later g.F.Files c.args.files.now c.args.files.now c.load_specification.new.files
+    (IsDueOfTwo (g.F.Files.contents c.args.files.now) c.args.spec.now c.args.cert.now) c.args.spec.now
+    (counts_none (IsDueOfTwo (g.F.Files.contents c.args.files.now) c.args.spec.now c.args.cert.now) (files_data
+    g.F.Files c.args.files.now)) (λ told. first_is_due) c.load_specification.ensures.counts)
     (λ told. cert_is_due (specified c.in-Ok.ensures.read told)) c.load_levels.ensures.counts
