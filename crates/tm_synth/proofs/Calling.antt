@@ -73,8 +73,9 @@ module _ (d : DesignTree) (typed : HasTypedCells d) where
     of_template : (item : Item) (node : InstanceNode) → slice_get d.instances item.instance ≡ Some node →
         (o : Option TemplateTree) → slice_get d.spec.templates node.template ≡ o →
         option_and_then (λ (s : Site). option_and_then (task_called d s) item.index)
-        (option_map (λ (t : TemplateTree). let s : Site = record { number = item.instance; node = node; template = t } in
-        s) o) ≡ Some c →
+        (option_map
+        (λ (t : TemplateTree). let s : Site = record { number = item.instance; node = node; template = t } in s) o)
+        ≡ Some c →
         option_map (λ (t : TaskTree). length t.params)
         (option_and_then (λ (t : TemplateTree). option_and_then (slice_get t.tasks) item.index) o)
         ≡ Some (length c.params)
@@ -104,7 +105,8 @@ module _ (d : DesignTree) (typed : HasTypedCells d) where
 
     of_item : (o : Option Item) →
         option_and_then (λ (item : Item).
-        option_and_then (λ (s : Site). option_and_then (task_called d s) item.index) (site d item.instance)) o ≡ Some c →
+        option_and_then (λ (s : Site). option_and_then (task_called d s) item.index) (site d item.instance)) o
+        ≡ Some c →
         option_map (λ (t : TaskTree). length t.params) (option_and_then (declared_task d) o) ≡ Some (length c.params)
     of_item None called = no_thing called
     of_item (Some item) called = of_node item (slice_get d.instances item.instance) refl called

@@ -1,5 +1,5 @@
 //! The files of a driver.
-ghost use Rattle.std.specs.Prelude.{IfOk};
+ghost use Rattle.std.specs.Prelude.{◌≡◌, IfOk};
 ghost use Rattle.tm_check.specs.Reads.{IsSized};
 ghost use Rattle.tm_cir.specs.Answer.{Answers};
 ghost use Rattle.tm_cir.specs.View.{trees_of};
@@ -25,7 +25,7 @@ use tm_game::Game;
 use tm_judge::{judge_driver, ranks_of};
 use tm_reorder::reorder_driver;
 use tm_solve::Iterates;
-use tm_strat::driver;
+use tm_strat::{Driven, driver};
 use tm_strat_cert::driver_cert;
 use tm_syntax::design::Design;
 use tm_verdict::Verdict;
@@ -55,12 +55,32 @@ fn certify(
     ensures meets { IfOk result (λ made. MeetsDriver (design_tree design.now) (Answers (trees_of made.blocks))
         (driver_sets (design_tree design.now) made.cert)) }
 {
-    let cert = driver_cert(alloc, &game, iterates)?;
-    let driven = driver(alloc, game, design, iterates)?;
-    Ok(Certified {
-        blocks: driven.blocks,
-        cert,
-    })
+    let cert = match driver_cert(alloc, &game, iterates) {
+        Ok(cert) => cert,
+        Err(error) => {
+            drop(game);
+            return Err(error);
+        }
+    };
+    match driver(alloc, game, design, iterates) {
+        Ok(driven) => Ok(Certified {
+            blocks: blocks_of(driven),
+            cert,
+        }),
+        Err(error) => {
+            drop(cert);
+            Err(error)
+        }
+    }
+}
+
+// The blocks of a driver, without the game from which they were made.
+fn blocks_of(driven: Driven) -> Blocks
+    ensures { result ≡ driven.blocks }
+{
+    let Driven { game, blocks } = driven;
+    drop(game);
+    blocks
 }
 
 // The texts of a driver and of its certificate, and the numbers that are reported.

@@ -51,7 +51,8 @@ returns-in-Err g c =
     (keeps_cut (command_of (map string_bytes c.args.words.now)) (files_data g.F.Files c.args.files.now)
     (files_data g.F.Files c.obey_words-outcome.new.files) g.O.Sink c.args.out.now c.obey_words-outcome.new.out
     c.put_outcome.new.out c.obey_words-outcome.result c.in-Err.failure c.obey_words-outcome.ensures.obeys
-    c.in-Err.ensures.err c.in-Err.ensures.failure c.in-Err.ensures.told c.put_outcome.ensures.no_fewer_faults) in record {
+    c.in-Err.ensures.err c.in-Err.ensures.failure c.in-Err.ensures.told
+    c.put_outcome.ensures.no_fewer_faults) in record {
       cause = kept.cause;
       complete = kept.complete;
       found_good = finds_good (command_of (map string_bytes c.args.words.now)) (files_data g.F.Files c.args.files.now)
