@@ -108,15 +108,6 @@ pub set_at : (g : GameData) (ids : List NodeId) (k : ℕ) (id : NodeId) → AreS
     id ≡ get_or ids k id → IsSet g id
 set_at g ids k id sets below is = sets.each k id (slice_get-get_or ids k id below ∙ ap Some (sym is))
 
-pub ranked_set_at : (g : GameData) (ranks : List RankSet) (k : ℕ) (r : RankSet) → HasSets g ranks →
-    k < length ranks → r ≡ get_or ranks k r → IsSet g r.set
-ranked_set_at g ranks k r sets below is = sets.each k r (slice_get-get_or ranks k r below ∙ ap Some (sym is))
-
-pub ranked_more : (g : GameData) (ranks : List RankSet) (k : ℕ) (r : RankSet) (ids more : List NodeId) →
-    HasSets g ranks → k < length ranks → r ≡ get_or ranks k r → AreSets g ids → more ≡ ids ++ r.set ∷ [] → AreSets g more
-ranked_more g ranks k r ids more sets below is before items =
-    sets_more g ids more r.set before (ranked_set_at g ranks k r sets below is) items
-
 -- one part more is known
 pub parts_step : (t : Table) (parts : List (ℕ × NodeId)) (k : ℕ) (p : ℕ × NodeId) → k < length parts →
     p ≡ get_or parts k p → All (λ q. Knows t q.1) (take k parts) → Knows t p.1 →

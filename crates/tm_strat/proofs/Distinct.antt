@@ -94,7 +94,8 @@ module _ (c : Counts) (s : StateData) (vars : length s.values ≡ c.vars) (proce
         let place : length s.values + (i - c.vars) ≡ i = omega (arith, vars, above) in
         ap (λ (b : Bool). num_value s 0 (number_tree c (if b then numbers.Variable i
         else (if nat_lt (i - c.vars) c.processes then numbers.Location (i - c.vars) else numbers.Last)))) high
-        ∙ ap (λ (b : Bool). num_value s 0 (number_tree c (if b then numbers.Location (i - c.vars) else numbers.Last))) low
+        ∙ ap (λ (b : Bool). num_value s 0 (number_tree c (if b then numbers.Location (i - c.vars) else numbers.Last)))
+        low
         ∙ ap (λ (b : Bool). num_value s 0 (if b then location (i - c.vars) else constant 0)) low
         ∙ sym (get_or-append-add s.values s.places (i - c.vars) 0)
         ∙ ap (λ (k : ℕ). get_or (s.values ++ s.places) k 0) place
@@ -117,7 +118,8 @@ module _ (c : Counts) (s : StateData) (vars : length s.values ≡ c.vars) (proce
     number_value : (i : ℕ) → i < c.vars + (c.processes + 1) →
         num_value s 0 (number_tree c (number_in c i)) ≡ get_or (state_numbers s) i 0
     number_value i below =
-        elim (cases_lt i c.vars) as (λ _. num_value s 0 (number_tree c (number_in c i)) ≡ get_or (state_numbers s) i 0) [
+        elim (cases_lt i c.vars)
+        as (λ _. num_value s 0 (number_tree c (number_in c i)) ≡ get_or (state_numbers s) i 0) [
           | inl low ↦ variable_value i low
           | inr high ↦
               elim (cases_lt (i - c.vars) c.processes) as (λ _.

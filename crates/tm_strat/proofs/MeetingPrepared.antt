@@ -426,11 +426,21 @@ module _ (d : DesignTree) (g : GameData) (is : IsExactOf d g) (regular : IsRegul
       IsMadeFor d g it.region (option_map_or (λ (q : Ranking). q.sets.items) o []) j sp.shapes.items blocks m) there
       (prepared.moves.each j m at_goal)
 
+  as_many_goals : length goals ≡ length d.goals
+  as_many_goals = prepared.count_is ∙ sym (length-map it.ranks.items (ranked_sets (exact_ids g))) ∙ form.goals
+
   pub serves : Serves d c g sp tests goals
   serves = record {
     exact = is;
     count = sym prepared.tests_are.count_is;
-    goal_count = prepared.count_is ∙ sym (length-map it.ranks.items (ranked_sets (exact_ids g))) ∙ form.goals;
+    goal_count = as_many_goals;
+    counted = record {
+      few =
+          let count = prepared.tests_are.count_is in
+          let few = prepared.few_tests.few in
+          let all = can.counted in
+          omega (arith, count, few, all, as_many_goals);
+    };
     tests_are = λ k j s below state. test_at k j s below state;
     good = λ j x s below state at.
         let m = goal_there j below in

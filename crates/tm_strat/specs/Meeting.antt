@@ -1,5 +1,5 @@
 -- Answers that are good moves. Here c are the sets of a certificate in its move form.
-use Rattle.std.specs.Prelude.{◌≡◌, ℕ, ◌+◌, ◌<◌, ◌≤◌, true, List, Some, length, slice_get}
+use Rattle.std.specs.Prelude.{◌≡◌, ℕ, ◌+◌, ◌<◌, ◌≤◌, true, List, Some, length, slice_get, sum}
 use Rattle.tm_check.specs.Replies.{move_of}
 use Rattle.tm_cir.specs.Fit.{parameter_count}
 use Rattle.tm_cir.specs.Meaning.{holds}
@@ -7,11 +7,13 @@ use Rattle.tm_dd.specs.declared.node.NodeId.{NodeId}
 use Rattle.tm_game.specs.Game.{GameData}
 use Rattle.tm_sem.specs.Certificates.{DriverSets, IsGoodMove, IsIn}
 use Rattle.tm_sem.specs.State.{StateData}
+use Rattle.tm_sem.specs.StateBits.{state_widths}
 use Rattle.tm_sem.specs.Step.{IsState, Step, is_driver_move, is_driver_turn, task_of}
 use Rattle.tm_sem.specs.declared.state.Move.{Move}
 use Rattle.tm_sem.specs.declared.state.Outcome.TheVariants.{Next}
 use Rattle.tm_solve_exact.specs.Exact.{IsExactOf, set_of}
 use Rattle.tm_strat.specs.Choice.{care_in, good_in, id_in}
+use Rattle.tm_strat.specs.Chosen.{AreCounted}
 use Rattle.tm_strat.specs.Spelled.{choice_tree, test_tree}
 use Rattle.tm_strat.specs.declared.choosing.GoalMoves.{GoalMoves}
 use Rattle.tm_strat.specs.declared.spelling.Spelling.{Spelling}
@@ -21,10 +23,11 @@ use Rattle.tm_syntax.specs.Design.Cells.{Called}
 use Rattle.tm_syntax.specs.Faults.Limits.{limit_of}
 use Rattle.tm_syntax.specs.declared.fault.Quantity.TheVariants as quantity
 
--- the driver's moves but for their arguments are numbered in 32 bits, and each controllable task has the parameters
--- that it declares, no more than a call can have arguments
+-- 32 bits number the driver's moves but for their arguments, and 65,536 tests of the state with its bits and the goals;
+-- each controllable task has the parameters that it declares, no more than a call can have arguments
 pub record CanCall (d : DesignTree) : Type 0 where
   pub few : 1 + length d.processes + length d.tasks ≤ 4294967295
+  pub counted : 65536 + sum (state_widths d) + length d.goals ≤ 4294967295
   pub declared : (n : ℕ) (callee : Called) → task_of d n ≡ Some callee →
       parameter_count d n ≡ Some (length callee.params)
   pub fits : (n : ℕ) (callee : Called) → task_of d n ≡ Some callee →
@@ -48,6 +51,7 @@ pub record Serves (d : DesignTree) (c : DriverSets) (g : GameData) (sp : Spellin
   pub exact : IsExactOf d g
   pub count : length sp.predicates.items ≡ length tests
   pub goal_count : length goals ≡ length d.goals
+  pub counted : AreCounted tests goals
   pub tests_are : (k j : ℕ) (s : StateData) → k < length tests → IsState d s →
       set_of g (id_in tests k) s ≡ holds s j (test_tree sp k)
   pub good : (j : ℕ) (m : MoveChoice) (s : StateData) → j < length goals → IsState d s →

@@ -7,7 +7,7 @@ use Rattle.tm_game.specs.declared.moves.MoveShape.{MoveShape}
 use Rattle.tm_solve.specs.declared.iterates.Iterates.{Iterates}
 use Rattle.tm_strat.specs.Served.{AreMadeFor, candidate_trees}
 use Rattle.tm_strat.specs.Shapes.{all_shapes}
-use Rattle.tm_strat.specs.Tested.{AreTestSets}
+use Rattle.tm_strat.specs.Tested.{AreFewTests, AreTestSets}
 use Rattle.tm_strat.specs.declared.choosing.GoalMoves.{GoalMoves}
 use Rattle.tm_strat.specs.declared.spelling.Spelling.{Spelling}
 use Rattle.tm_syntax.specs.Design.{DesignTree}
@@ -25,6 +25,7 @@ AreWidthsOf g rows = map (λ row. row.items) rows ≡ g.flat.parameters
 pub record IsPrepared (d : DesignTree) (g : GameData) (it : Iterates) (s : Spelling) (tests : List NodeId)
     (goals : List GoalMoves) : Type 0 where
   pub tests_are : AreTestSets d g s.counts s.predicates.items tests
+  pub few_tests : AreFewTests d s.predicates.items
   pub shapes : AreShapesOf d s.shapes.items
   pub widths : AreWidthsOf g s.widths.items
   pub moves : AreMadeFor d g it s.shapes.items (candidate_trees d s.counts s.shapes.items s.candidates.items) goals

@@ -1,6 +1,6 @@
 -- Tests of states, in C and as sets. In this file g is a game of a design d, c are its numbers of variables and
 -- processes, and ids are those of tests.
-use Rattle.std.specs.Prelude.{◌≡◌, ℕ, ◌<◌, true, List, Contains, Some, length, slice_get}
+use Rattle.std.specs.Prelude.{◌≡◌, ℕ, ◌+◌, ◌<◌, ◌≤◌, true, List, Contains, Some, length, slice_get, sum}
 use Rattle.tm_cir.specs.Meaning.{holds}
 use Rattle.tm_dd.specs.declared.node.NodeId.{NodeId}
 use Rattle.tm_ddops.specs.Manager.{IsFunction}
@@ -36,10 +36,11 @@ pub record AreTestSets (d : DesignTree) (g : GameData) (c : Counts) (tests : Lis
   pub count_is : length ids ≡ length tests
   pub each : (k : ℕ) (p : Predicate) → slice_get tests k ≡ Some p → IsTestSet d g c p (id_in ids k)
 
--- what was among tests still is, and each bit of a number of a width is
+-- what was among tests still is, and each bit of a number of a width is; there are as many more as the width
 pub record HasBitsOf (n : Number) (width : ℕ) (olds news : List Predicate) : Type 0 where
   pub stay : (p : Predicate) → Contains olds p → Contains news p
   pub bits : (weight : ℕ) → weight < width → Contains news (Bit n weight)
+  pub count_is : length news ≡ length olds + width
 
 -- each bit of numbers of these widths is among tests
 pub record AreAllBits (c : Counts) (widths : List ℕ) (tests : List Predicate) : Type 0 where
@@ -48,3 +49,11 @@ pub record AreAllBits (c : Counts) (widths : List ℕ) (tests : List Predicate) 
 -- each bit of a state of the design is
 abbrev pub HasAllBits : DesignTree → Counts → List Predicate → Type 0
 HasAllBits d c tests = AreAllBits c (state_widths d) tests
+
+-- where there were at most 65,536 tests, there still are
+abbrev pub StayFew : List Predicate → List Predicate → Type 0
+StayFew olds news = length olds ≤ 65536 → length news ≤ 65536
+
+-- there are at most 65,536 tests more than a state of the design has bits
+pub record AreFewTests (d : DesignTree) (tests : List Predicate) : Type 0 where
+  pub few : length tests ≤ 65536 + sum (state_widths d)

@@ -1,6 +1,6 @@
 -- Moves that are good from the states of a zone, for the zone's target. In this file g is a game of a design d, zones
--- and targets are sets of it, of which the first so many count, t are diagrams to which those of the game have grown, and
--- v and w are values of levels.
+-- and targets are sets of it, of which the first so many count, t are diagrams to which those of the game have grown,
+-- and v and w are values of levels.
 use Rattle.std.specs.Prelude.{◌≡◌, ℕ, ◌<◌, true, List, Some, length, slice_get}
 use Rattle.std.specs.List.{range_with_len}
 use Rattle.tm_dd.specs.declared.node.NodeId.{NodeId}

@@ -1,6 +1,6 @@
 //! A driver's blocks from the solution of a game.
 ghost use Rattle.std.specs.List.{range_with_len};
-ghost use Rattle.std.specs.Prelude.{◌≡◌, ◌+◌, ◌<◌, ◌≤◌, ◌^◌, ℕ, true, IfOk, List, length, map};
+ghost use Rattle.std.specs.Prelude.{◌≡◌, ◌+◌, ◌<◌, ◌≤◌, ◌^◌, ℕ, false, true, IfOk, List, length, map};
 ghost use Rattle.tm_check.specs.Reads.{IsSized};
 ghost use Rattle.tm_cir.specs.Answer.{Answers};
 ghost use Rattle.tm_cir.specs.Fit.{FitBlocks};
@@ -16,7 +16,7 @@ ghost use Rattle.tm_solve.specs.Iterates as solution;
 ghost use Rattle.tm_solve.specs.Iterates.{KnowsAll};
 ghost use Rattle.tm_solve_exact.specs.Exact.{IsExactOf, exact_ids};
 ghost use Rattle.tm_strat.specs.Choice.{IsChoice};
-ghost use Rattle.tm_strat.specs.Chosen.{AreChosen, AreNumbered};
+ghost use Rattle.tm_strat.specs.Chosen.{AreChosen, AreCounted};
 ghost use Rattle.tm_strat.specs.Fitting.{FitsCounts};
 ghost use Rattle.tm_strat.specs.Goods.{AreGoodMoves, IsGoodFor};
 ghost use Rattle.tm_strat.specs.Meeting.{CanCall, Serves};
@@ -48,6 +48,9 @@ use tm_game_bits::ROOM;
 use tm_solve::Iterates;
 use tm_strat_drafts::{DraftBlock, MoveChoice, strategies};
 use tm_syntax::design::Design;
+
+// The most tests of states and goals: 32 bits number them.
+const MOST_TESTS: usize = 4294967295;
 
 /// A driver's blocks, and the game from which they were made.
 #[derive(Drop)]
@@ -292,7 +295,7 @@ fn build(
         goals,
         pending: 0,
     };
-    let drafted = make_drafts(alloc, choosing, narrow(spelling.predicates.len()))?;
+    let drafted = make_drafts(alloc, choosing)?;
     let made = spelled_driver(alloc, design, &spelling, drafted)?;
     Ok(made)
 }
@@ -326,27 +329,22 @@ fn spelled_driver(
     })
 }
 
-// Drafted blocks over so many tests of states.
-fn make_drafts(alloc: Global, mut choosing: Choosing, states: u32) -> Result<Drafted, AllocError>
+// Drafted blocks over all tests.
+fn make_drafts(alloc: Global, mut choosing: Choosing) -> Result<Drafted, AllocError>
     ensures good { IfOk result (λ drafted. AreChosen choosing.game choosing.tests.holds.items choosing.goals.items
         drafted.made.items) }
     ensures grows { IfOk result (λ drafted. Carried choosing.game drafted.game) }
     ensures later { IfOk result (λ drafted. (tests : ℕ) × AreLater tests drafted.made.items) }
 {
-    let made = drafted_blocks(alloc, &mut choosing, states)?;
+    let made = drafted_blocks(alloc, &mut choosing)?;
     Ok(Drafted {
         game: choosing.game,
         made,
     })
 }
 
-// Drafted blocks over so many tests of states, or one that idles where there is no goal. More tests and goals than 32
-// bits number are want of memory, as more blocks are.
-fn drafted_blocks(
-    alloc: Global,
-    choosing: &mut Choosing,
-    states: u32,
-) -> Result<Vec<DraftBlock>, AllocError>
+// Drafted blocks over all tests, or one that idles where there is no goal or 32 bits do not number tests and goals.
+fn drafted_blocks(alloc: Global, choosing: &mut Choosing) -> Result<Vec<DraftBlock>, AllocError>
     ensures grows { Carried choosing.old.game choosing.new.game }
     ensures later { IfOk result (λ bs. (tests : ℕ) × AreLater tests bs.items) }
     ensures good { IfOk result (λ bs. AreChosen choosing.old.game choosing.old.tests.holds.items
@@ -355,25 +353,23 @@ fn drafted_blocks(
     if choosing.goals.is_empty() {
         return idle_block(alloc);
     }
-    let goals = narrow(choosing.goals.len());
-    if !are_numbered(choosing, states, goals) {
-        return Err(AllocError);
+    if !are_counted(choosing) {
+        return idle_block(alloc);
     }
+    let states = narrow(choosing.tests.holds.len());
+    let goals = narrow(choosing.goals.len());
     let blocks = strategies(alloc, choosing, states, goals)?;
     Ok(blocks)
 }
 
-// Whether so many tests of states and goals are all that there are, and 32 bits number both.
-fn are_numbered(choosing: &Choosing, states: u32, goals: u32) -> bool
-    ensures { result ≡ true → AreNumbered choosing.now.tests.holds.items choosing.now.goals.items states goals }
+// Whether 32 bits number all tests of states and goals.
+fn are_counted(choosing: &Choosing) -> bool
+    ensures yes { result ≡ true → AreCounted choosing.now.tests.holds.items choosing.now.goals.items }
+    ensures no { result ≡ false → ¬ AreCounted choosing.now.tests.holds.items choosing.now.goals.items }
 {
-    if choosing.tests.holds.len() != states as usize {
-        return false;
-    }
-    if choosing.goals.len() != goals as usize {
-        return false;
-    }
-    goals <= u32::MAX - states
+    let tests = choosing.tests.holds.len();
+    let goals = choosing.goals.len();
+    tests <= MOST_TESTS && goals <= MOST_TESTS - tests
 }
 
 // One block, which idles.

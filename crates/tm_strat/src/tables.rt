@@ -1,11 +1,11 @@
 //! The tests of states that are tried, in C and as sets.
-ghost use Rattle.std.specs.Prelude.{◌≡◌, ◌++◌, ◌∷◌, [], IfOk, length};
+ghost use Rattle.std.specs.Prelude.{◌≡◌, ◌+◌, ◌++◌, ◌∷◌, [], IfOk, length, sum};
 ghost use Rattle.tm_check.specs.Reads.{IsSized};
 ghost use Rattle.tm_game.specs.Game.{IsOf};
 ghost use Rattle.tm_sem.specs.StateBits.{state_widths as design_widths};
 ghost use Rattle.tm_solve_exact.specs.Exact.{IsExactOf};
 ghost use Rattle.tm_strat.specs.Fitting.{FitsCounts};
-ghost use Rattle.tm_strat.specs.Tested.{AreTestSets, AreTestsOf, HasAllBits, IsTestOf};
+ghost use Rattle.tm_strat.specs.Tested.{AreFewTests, AreTestSets, AreTestsOf, HasAllBits, IsTestOf, StayFew};
 ghost use Rattle.tm_strat.specs.declared.numbers.Counts.{Counts as CountsData};
 ghost use Rattle.tm_strat_drafts.specs.Growth.{Carried};
 ghost use Rattle.tm_syntax.specs.Design.{DesignTree};
@@ -24,6 +24,9 @@ use tm_dd::{FALSE, NodeId};
 use tm_game::Game;
 use tm_syntax::design::Design;
 
+// The most tests that are tried before the bits of a state, so that 32 bits number all tests of states and goals.
+const MOST_FIRST: usize = 65_536;
+
 // Tests of states, in C and the valid states at which they hold.
 #[derive(Drop)]
 struct Tests {
@@ -38,8 +41,8 @@ pub(crate) struct AllTests {
     pub(crate) table: TestTable,
 }
 
-/// The tests that are tried: each of the first ones once that tells some states apart at which a move is good, and then
-/// the bits of a state, those of who moved last in a tier of their own.
+/// The tests that are tried: each of the first ones once that tells some states apart at which a move is good, at most
+/// 65,536 of them, and then the bits of a state, those of who moved last in a tier of their own.
 pub(crate) fn all_tests(
     alloc: Global,
     game: &mut Game,
@@ -54,6 +57,7 @@ pub(crate) fn all_tests(
     ensures sets { IfOk result (λ all. AreTestSets (design_tree design.now) game.new counts all.predicates.items
         all.table.holds.items) }
     ensures bits { IfOk result (λ all. HasAllBits (design_tree design.now) counts all.predicates.items) }
+    ensures few { IfOk result (λ all. AreFewTests (design_tree design.now) all.predicates.items) }
 {
     let mut tests = Tests {
         predicates: Vec::new(alloc),
@@ -90,6 +94,7 @@ fn push_first(
     ensures grows { Carried game.old game.new }
     ensures sets { IfOk result (λ done. AreTestSets (design_tree design.now) game.new counts
         tests.new.predicates.items tests.new.holds.items) }
+    ensures few { IfOk result (λ done. StayFew tests.old.predicates.items tests.new.predicates.items) }
 {
     let all = predicates(alloc, game, design, counts)?;
     let holds = read_tests(alloc, design, game, counts, &all)?;
@@ -112,6 +117,7 @@ fn push_telling(
         → AreTestsOf d game.old c all.now holds.now (length all.now)
         → AreTestSets d game.old c tests.old.predicates.items tests.old.holds.items
         → AreTestSets d game.new c tests.new.predicates.items tests.new.holds.items) }
+    ensures few { IfOk result (λ done. StayFew tests.old.predicates.items tests.new.predicates.items) }
 {
     let mut seen = IndexSet::new(alloc);
     for index in 0..all.len() {
@@ -121,7 +127,7 @@ fn push_telling(
     Ok(())
 }
 
-// Puts a test behind others where it tells states of a set apart as no earlier one does.
+// Puts a test behind others where it tells states of a set apart as no earlier one does and there is room for it.
 fn push_test(
     game: &mut Game,
     tests: &mut Tests,
@@ -135,7 +141,11 @@ fn push_test(
         → IsTestOf d game.old c predicate holds
         → AreTestSets d game.old c tests.old.predicates.items tests.old.holds.items
         → AreTestSets d game.new c tests.new.predicates.items tests.new.holds.items) }
+    ensures few { IfOk result (λ done. StayFew tests.old.predicates.items tests.new.predicates.items) }
 {
+    if tests.predicates.len() >= MOST_FIRST {
+        return Ok(());
+    }
     let is_new = tells_apart(game, seen, holds, care)?;
     if !is_new {
         return Ok(());
@@ -211,6 +221,8 @@ fn push_bits(
     ensures sets { IfOk result (λ done. AreTestSets (design_tree design.now) game.new counts
         tests.new.predicates.items tests.new.holds.items) }
     ensures bits { IfOk result (λ last. HasAllBits (design_tree design.now) counts tests.new.predicates.items) }
+    ensures count { IfOk result (λ last. length tests.new.predicates.items
+        ≡ length tests.old.predicates.items + sum (design_widths (design_tree design.now))) }
 {
     let widths = state_widths(alloc, game, counts)?;
     let all = bits(alloc, &widths, counts)?;

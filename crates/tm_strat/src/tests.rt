@@ -1,5 +1,5 @@
 //! The tests that are tried.
-ghost use Rattle.std.specs.Prelude.{◌<◌, ◌^◌, IfOk, length};
+ghost use Rattle.std.specs.Prelude.{◌≡◌, ◌<◌, ◌^◌, IfOk, length, sum};
 ghost use Rattle.tm_strat.specs.Tested.{AreAllBits, HasBitsOf};
 
 use crate::atoms::predicate_of;
@@ -239,7 +239,8 @@ pub(crate) fn bits(
     widths: &[u8],
     counts: Counts,
 ) -> Result<Vec<Predicate>, AllocError>
-    ensures { IfOk result (λ found. length widths.now < 2 ^ 32 → AreAllBits counts widths.now found.items) }
+    ensures bits { IfOk result (λ found. length widths.now < 2 ^ 32 → AreAllBits counts widths.now found.items) }
+    ensures count { IfOk result (λ found. length found.items ≡ sum widths.now) }
 {
     let mut found = Vec::new(alloc);
     for index in 0..widths.len() {

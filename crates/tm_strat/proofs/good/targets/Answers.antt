@@ -41,11 +41,11 @@ loop-index-preserved c =
           let here = within_step c.args.game.now c.loop-index.game c.either.new.game begun c.either.ensures.grows z
           c.args.region c.args.ranks.now j tells i (i + 1) next r there c.loop-index.within c.in_ok-within.within
           so_far.1 c.in_ok-within.ensures.answer in (
-            targets_step c.args.game.now c.loop-index.game c.either.new.game begun c.either.ensures.grows z c.args.region
-                c.args.ranks.now j tells i (i + 1) next r there c.loop-index.targets.items
+            targets_step c.args.game.now c.loop-index.game c.either.new.game begun c.either.ensures.grows z
+                c.args.region c.args.ranks.now j tells i (i + 1) next r there c.loop-index.targets.items
                 c.push-in-loop-index.new.self.items c.in_ok-within.within
-                (subst (λ (n : ℕ). AreTargets c.loop-index.game.diagrams.table z n c.loop-index.targets.items) (sym next)
-                so_far.0) here c.in_ok-push-2.ensures.items,
+                (subst (λ (n : ℕ). AreTargets c.loop-index.game.diagrams.table z n c.loop-index.targets.items)
+                (sym next) so_far.0) here c.in_ok-push-2.ensures.items,
             here,
           );
     }

@@ -25,13 +25,13 @@ loop-index-preserved c =
           let so_far = c.loop-index.invariant.are region j z tells fails in (
             waits_kept c.new_states.new.game c.either.new.game c.either.ensures.grows z (i + 1)
                 c.push.new.self.items
-                (waits_step c.args.game.now c.loop-index.game c.new_states.new.game begun c.new_states.ensures.grows z region
-                c.args.ranks.now j tells i (i + 1) next r there c.args.failing fails c.loop-index.before so_far.1
+                (waits_step c.args.game.now c.loop-index.game c.new_states.new.game begun c.new_states.ensures.grows z
+                region c.args.ranks.now j tells i (i + 1) next r there c.args.failing fails c.loop-index.before so_far.1
                 c.loop-index.waits.items c.push.new.self.items c.in_ok-states.states so_far.0 c.in_ok-states.ensures.are
                 c.in_ok-push.ensures.items),
             within_step c.args.game.now c.new_states.new.game c.either.new.game
-                (λ base b. c.new_states.ensures.grows base (begun base b)) c.either.ensures.grows z region c.args.ranks.now j
-                tells i (i + 1) next r there c.loop-index.before c.in_ok-before.before
+                (λ base b. c.new_states.ensures.grows base (begun base b)) c.either.ensures.grows z region
+                c.args.ranks.now j tells i (i + 1) next r there c.loop-index.before c.in_ok-before.before
                 (function_kept c.loop-index.game c.new_states.new.game c.new_states.ensures.grows c.loop-index.before
                 (before z i) so_far.1) c.in_ok-before.ensures.answer,
           );

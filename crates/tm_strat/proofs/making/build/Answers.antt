@@ -1,4 +1,3 @@
-use Rattle.tm_cir.specs.View.{trees_of}
 use Rattle.tm_strat.proofs.MeetingDriver.{driver_meets}
 use Rattle.tm_strat.proofs.making.build.Goals as goal
 use Rattle.tm_syntax.specs.Design.View.{design_tree}
@@ -11,4 +10,4 @@ returns-clause-meets c =
     λ sets serves form.
     driver_meets (design_tree c.args.design.now) sets c.args.game c.args.prepared.spelling
     c.args.prepared.tests.holds.items c.args.prepared.goals.items serves c.in_ok-drafted.drafted.made.items
-    (trees_of c.in_ok-made.made.blocks) c.in_ok-made.ensures.trees c.in_ok-drafted.ensures.good form
+    _ c.in_ok-made.ensures.trees (c.in_ok-drafted.ensures.good serves.counted) form

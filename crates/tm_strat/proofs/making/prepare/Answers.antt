@@ -113,6 +113,7 @@ returns-clause-made c =
     record {
       tests_are = sets_kept d c.all_tests.new.game c.goal_moves.new.game is_t to_h c.counts_of-counts.result
           c.in_ok-tests.tests.predicates.items c.in_ok-tests.tests.table.holds.items c.in_ok-tests.ensures.sets;
+      few_tests = c.in_ok-tests.ensures.few;
       shapes = c.in_ok-chooser.ensures.all;
       widths = c.in_ok-widths.ensures;
       moves = made_read d c.goal_moves.new.game c.args.iterates.now c.counts_of-counts.result shapes

@@ -38,7 +38,8 @@ returns-clause-tests c =
     let ends = c.loop-predicate.auto.predicate-index-end in
     let last = c.loop-predicate-test.false in
     subst (λ (n : ℕ). AreTestsOf (design_tree c.args.design.now) c.loop-predicate.game c.args.counts
-    c.args.predicates.now c.loop-predicate.diagrams.items n) (omega (arith, ends, last)) c.loop-predicate.invariant.tests
+    c.args.predicates.now c.loop-predicate.diagrams.items n) (omega (arith, ends, last))
+    c.loop-predicate.invariant.tests
 
 pub returns-in_err-holds-clause-grows : goal.returns-in_err-holds-clause-grows
 returns-in_err-holds-clause-grows c = λ base b. c.read_test.ensures.grows base (c.loop-predicate.invariant.grows base b)

@@ -1,7 +1,9 @@
+use Rattle.std.proofs.Common.{List, length, ap, arith}
 use Rattle.tm_game.proofs.Growing.{grows_then}
 use Rattle.tm_solve_exact.proofs.Growing.{kept_exact}
 use Rattle.tm_strat.proofs.Carrying.{grown, sized_stays}
 use Rattle.tm_strat.proofs.Testing.{sets_none}
+use Rattle.tm_strat.specs.declared.predicates.Predicate.{Predicate}
 use Rattle.tm_strat.proofs.tables.all_tests.Goals as goal
 use Rattle.tm_syntax.specs.Design.View.{design_tree}
 
@@ -27,6 +29,13 @@ returns-clause-sets c = c.in_ok-last.ensures.sets
 
 pub returns-clause-bits : goal.returns-clause-bits
 returns-clause-bits c = c.in_ok-last.ensures.bits
+
+pub returns-clause-few : goal.returns-clause-few
+returns-clause-few c =
+    let none = ap (λ (l : List Predicate). length l) c.new.ensures.items in
+    let first = c.in_ok-push_first.ensures.few (omega (arith, none)) in
+    let count = c.in_ok-last.ensures.count in
+    record { few = omega (arith, first, count) }
 
 pub returns-in_err-last-clause-grows : goal.returns-in_err-last-clause-grows
 returns-in_err-last-clause-grows c = λ base b. c.push_bits.ensures.grows base (c.push_first.ensures.grows base b)

@@ -1,4 +1,6 @@
-use Rattle.std.proofs.Common.{◌≡◌, ℕ, ◌<◌, ◌^◌, List, length, sym, ap, ◌∙◌, subst, arith}
+use Rattle.std.proofs.Common.{ℕ, List, length, sym, ap, ◌∙◌, subst, arith}
+use Rattle.std.proofs.lemmas.List.{length-append}
+use Rattle.std.specs.Prelude.{sum}
 use Rattle.tm_game.proofs.Growing.{grows_none}
 use Rattle.tm_sem.specs.StateBits.{state_widths}
 use Rattle.tm_solve_exact.proofs.Growing.{kept_exact}
@@ -36,8 +38,18 @@ returns-clause-bits c =
     c.push_all.new.tests.predicates.items
     (subst (λ (l : List Predicate). AreAllBits c.args.counts (state_widths d) l) (sym c.deref-3.ensures.value)
     (subst (λ (l : List ℕ). AreAllBits c.args.counts l c.in_ok-all.all.items) same
-    (c.in_ok-all.ensures (omega (arith, few, long)))))
+    (c.in_ok-all.ensures.bits (omega (arith, few, long)))))
     c.in_ok-push_all.ensures.there
+
+pub returns-clause-count : goal.returns-clause-count
+returns-clause-count c =
+    let d = design_tree c.args.design.now in
+    let same = c.deref.ensures.value ∙ c.in_ok-widths.ensures d c.requires.exact.ordered.of c.requires.counts in
+    let there = ap (λ (l : List Predicate). length l) c.in_ok-push_all.ensures.there in
+    let behind = length-append c.args.tests.now.predicates.items c.deref-3.result.now in
+    let read = ap (λ (l : List Predicate). length l) c.deref-3.ensures.value in
+    let bits = c.in_ok-all.ensures.count ∙ ap (λ (l : List ℕ). sum l) same in
+    omega (arith, there, behind, read, bits)
 
 pub returns-in_err-push_all-clause-grows : goal.returns-in_err-push_all-clause-grows
 returns-in_err-push_all-clause-grows c = λ base b. c.push_all.ensures.grows base (c.read_tests.ensures.grows base b)

@@ -27,7 +27,12 @@ pub returns-in_err-care-clause-grows : goal.returns-in_err-care-clause-grows
 returns-in_err-care-clause-grows c = λ base b. c.all_care.ensures base (c.read_tests.ensures.grows base b)
 
 pub returns-in_err-push_telling-clause-grows : goal.returns-in_err-push_telling-clause-grows
-returns-in_err-push_telling-clause-grows c = λ base b. c.push_telling.ensures.grows base (c.all_care.ensures base (c.read_tests.ensures.grows base b))
+returns-in_err-push_telling-clause-grows c =
+    λ base b. c.push_telling.ensures.grows base (c.all_care.ensures base (c.read_tests.ensures.grows base b))
 
 pub returns-clause-grows : goal.returns-clause-grows
-returns-clause-grows c = λ base b. c.push_telling.ensures.grows base (c.all_care.ensures base (c.read_tests.ensures.grows base b))
+returns-clause-grows c =
+    λ base b. c.push_telling.ensures.grows base (c.all_care.ensures base (c.read_tests.ensures.grows base b))
+
+pub returns-clause-few : goal.returns-clause-few
+returns-clause-few c = c.in_ok-push_telling.ensures.few

@@ -1,15 +1,15 @@
-use Rattle.std.proofs.Common.{◌≡◌, ℕ, ◌+◌, List, ◌∷◌, ◌++◌, Some, length, get_or, take, sym, ap, ◌∙◌, subst, arith}
-use Rattle.std.proofs.lemmas.List.{append-nil, append_assoc, take_all, take_more}
-use Rattle.std.proofs.lemmas.Option.{slice_get-get_or}
-use Rattle.tm_dd.specs.declared.node.NodeId.{NodeId}
+use Rattle.std.proofs.Common.{length}
 use Rattle.tm_solve_exact.proofs.Growing.{kept_exact}
 use Rattle.tm_strat.proofs.Carrying.{grown}
 use Rattle.tm_strat.proofs.Testing.{test_there}
-use Rattle.tm_strat.specs.declared.predicates.Predicate.{Predicate}
 use Rattle.tm_strat.proofs.tables.push_telling.Goals as goal
 
 pub loop-index-init : goal.loop-index-init
-loop-index-init c = record { grows = λ base b. b; sets = λ d e is read sets. sets }
+loop-index-init c = record {
+  grows = λ base b. b;
+  sets = λ d e is read sets. sets;
+  few = λ small. small;
+}
 
 pub loop-index-preserved : goal.loop-index-preserved
 loop-index-preserved c = record {
@@ -21,7 +21,11 @@ loop-index-preserved c = record {
       c.loop-index.index _ c.id_at-there.result read c.loop-index-test.true c.loop-index-test.true
       c.id_at-there.ensures)
       (c.loop-index.invariant.sets d e is read sets);
+  few = λ small. c.in_ok-push_test.ensures.few (c.loop-index.invariant.few small);
 }
 
 pub returns-clause-sets : goal.returns-clause-sets
 returns-clause-sets c = c.loop-index.invariant.sets
+
+pub returns-clause-few : goal.returns-clause-few
+returns-clause-few c = c.loop-index.invariant.few

@@ -1,6 +1,6 @@
 use Rattle.std.proofs.Common.{length}
 use Rattle.tm_solve_exact.specs.Exact.{IsExactOf}
-use Rattle.tm_strat.specs.Tested.{AreTestSets, AreTestsOf}
+use Rattle.tm_strat.specs.Tested.{AreTestSets, AreTestsOf, StayFew}
 use Rattle.tm_strat.specs.declared.numbers.Counts.{Counts}
 use Rattle.tm_strat_drafts.specs.Growth.{Carried}
 use Rattle.tm_strat.proofs.tables.push_telling.Given as goal
@@ -13,4 +13,5 @@ invariant-loop-index l = record {
       AreTestsOf d l.fn.game c l.all l.holds (length l.all) →
       AreTestSets d l.fn.game c l.fn.tests.predicates.items l.fn.tests.holds.items →
       AreTestSets d l.game c l.tests.predicates.items l.tests.holds.items;
+  few : StayFew l.fn.tests.predicates.items l.tests.predicates.items;
 }

@@ -9,5 +9,6 @@ invariant_of-self c = record {
 
 pub returns-in-Constant-clause-follows : goal.returns-in-Constant-clause-follows
 returns-in-Constant-clause-follows c =
-    follows_kept c.args.self.now.game c.constant_states.new.game c.args.self.now.is.design c.constant_states.ensures.grows
-    c.args.self.now.tests.holds.items c.args.self.now.goals.items c.args.self.now.is c.args.self.now.pending
+    follows_kept c.args.self.now.game c.constant_states.new.game c.args.self.now.is.design
+    c.constant_states.ensures.grows c.args.self.now.tests.holds.items c.args.self.now.goals.items c.args.self.now.is
+    c.args.self.now.pending

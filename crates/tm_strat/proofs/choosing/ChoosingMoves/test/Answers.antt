@@ -5,7 +5,8 @@ use Rattle.tm_strat.proofs.choosing.ChoosingMoves.test.Goals as goal
 
 pub returns-then-index-count-2-clause-value : goal.returns-then-index-count-2-clause-value
 returns-then-index-count-2-clause-value c =
-    let count : c.len-count.result ≡ length c.args.self.now.tests.holds.items = c.len-count.ensures ∙ c.args.self.now.tests.holds.ok.0 in
+    let count : c.len-count.result ≡ length c.args.self.now.tests.holds.items =
+    c.len-count.ensures ∙ c.args.self.now.tests.holds.ok.0 in
     own_test c.args.self.now.game c.args.self.now.tests.holds.items c.args.self.now.goals.items c.args.self.now.is
     c.args.self.now.pending c.args.number c.valid.result
     (subst (λ (n : ℕ). n ≤ c.args.number) count c.if-index-count.false)
@@ -14,7 +15,8 @@ returns-then-index-count-2-clause-value c =
 
 pub returns-clause-value : goal.returns-clause-value
 returns-clause-value c =
-    let count : c.len-count.result ≡ length c.args.self.now.tests.holds.items = c.len-count.ensures ∙ c.args.self.now.tests.holds.ok.0 in
+    let count : c.len-count.result ≡ length c.args.self.now.tests.holds.items =
+    c.len-count.ensures ∙ c.args.self.now.tests.holds.ok.0 in
     other_test c.args.self.now.game c.args.self.now.tests.holds.items c.args.self.now.goals.items c.args.self.now.is
     c.args.self.now.pending c.args.number FALSE
     (subst (λ (n : ℕ). n ≤ c.args.number) count c.if-index-count.false)
