@@ -21,7 +21,8 @@ use Rattle.tm_solve_exact.specs.Exact.{HasDesign, IsStateSet, exact_game, exact_
 use Rattle.tm_solve_exact.proofs.Growing.{game_kept, kept_exact, kept_set, same_told, same_valid}
 use Rattle.tm_solve_exact.proofs.Truncated.{game_prop, of_grown, set_prop}
 use Rattle.tm_strat.proofs.Carrying.{grown}
-use Rattle.tm_strat.specs.Choice.{AreGoalMoves, IsChoice, IsPairs, PairAt, candidates_of, care_in, choice, constant_set, good_in, id_in, pairs_of, setting_of}
+use Rattle.tm_strat.specs.Choice.{AreGoalMoves, IsChoice, IsPairs, PairAt, candidates_of, care_in, choice, constant_set}
+use Rattle.tm_strat.specs.Choice.{good_in, id_in, pairs_of, setting_of}
 use Rattle.tm_strat.specs.declared.choosing.GoalMoves.{GoalMoves}
 use Rattle.tm_strat_drafts.specs.Growth.{Carried, Follows}
 use Rattle.tm_strat_drafts.specs.Moves.{Game, IsTold}

@@ -1,5 +1,7 @@
 -- What is answered of what blocks are chosen from: sets of states, tests and moves.
-use Rattle.std.proofs.Common.{◌≡◌, inl, inr, ℕ, ◌+◌, ◌-◌, ◌<◌, ◌≤◌, ◌==◌, Bool, true, false, ◌&&◌, not, cond, eqb, List, Option, None, Some, Result, IfOk, length, slice_get, nat_lt, refl, sym, ap, ◌∙◌, subst, arith}
+use Rattle.std.proofs.Common.{◌≡◌, inl, inr, ℕ, ◌+◌, ◌-◌, ◌<◌, ◌≤◌, ◌==◌, Bool, true, false, ◌&&◌, not, cond, eqb, List}
+use Rattle.std.proofs.Common.{Option, None, Some, Result, IfOk, length, slice_get, nat_lt, refl, sym, ap, ◌∙◌, subst}
+use Rattle.std.proofs.Common.{arith}
 use Rattle.std.proofs.Math.Logic.{∥∥₁_elim}
 use Rattle.std.proofs.Props.{props}
 use Rattle.std.proofs.lemmas.Bool.{true≢false}
@@ -17,7 +19,8 @@ use Rattle.tm_sem.specs.Certificates.{nowhere}
 use Rattle.tm_sem.specs.State.{StateData}
 use Rattle.tm_solve.specs.Ids.{Is}
 use Rattle.tm_solve.specs.Sets.{StateSet}
-use Rattle.tm_solve_exact.specs.Exact.{HasDesign, IsExactOf, IsStateSet, coding, exact_game, exact_ids, set_of, valid_set}
+use Rattle.tm_solve_exact.specs.Exact.{HasDesign, IsExactOf, IsStateSet, coding, exact_game, exact_ids, set_of}
+use Rattle.tm_solve_exact.specs.Exact.{valid_set}
 use Rattle.tm_solve_exact.proofs.Answering.{both_told, is_told, rest_told}
 use Rattle.tm_solve_exact.proofs.Truncated.{is_prop, ok_prop}
 use Rattle.tm_solve_exact.proofs.Whole.{whole_any}

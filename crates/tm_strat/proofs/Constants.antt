@@ -1,5 +1,7 @@
 -- Moves with constant arguments: the least pair of a set tells one that is good at a state of it.
-use Rattle.std.proofs.Common.{◌≡◌, ◌⊎◌, inl, inr, ℕ, zero, suc, ◌+◌, ◌-◌, ◌<◌, ◌≤◌, Bool, true, false, ◌&&◌, List, [], ◌∷◌, Option, None, Some, length, nat_eq, nat_lt, get_or, slice_get, refl, sym, ap, ◌∙◌, subst, arith}
+use Rattle.std.proofs.Common.{◌≡◌, ◌⊎◌, inl, inr, ℕ, zero, suc, ◌+◌, ◌-◌, ◌<◌, ◌≤◌, Bool, true, false, ◌&&◌, List, []}
+use Rattle.std.proofs.Common.{◌∷◌, Option, None, Some, length, nat_eq, nat_lt, get_or, slice_get, refl, sym, ap, ◌∙◌}
+use Rattle.std.proofs.Common.{subst, arith}
 use Rattle.std.proofs.Math.Logic.{∥∥₁_elim}
 use Rattle.std.proofs.Props.{props}
 use Rattle.std.proofs.lemmas.Bool.{cases_lt, eqb-true, true≢false}
@@ -19,14 +21,17 @@ use Rattle.tm_game_bits.specs.Functions.{Assignment}
 use Rattle.tm_game_bits.specs.States.{AreOneState}
 use Rattle.tm_sem.specs.State.{StateData}
 use Rattle.tm_solve.specs.Sets.{IsAmong, StateSet}
-use Rattle.tm_solve_exact.specs.Exact.{HasDesign, IsExactOf, IsStateSet, coding, exact_game, exact_ids, first_values, set_of, states_of, valid_set}
+use Rattle.tm_solve_exact.specs.Exact.{HasDesign, IsExactOf, IsStateSet, coding, exact_game, exact_ids, first_values}
+use Rattle.tm_solve_exact.specs.Exact.{set_of, states_of, valid_set}
 use Rattle.tm_solve_exact.specs.Listed.{and_both, and_parts, listed}
 use Rattle.tm_solve_exact.proofs.Growing.{coding_told}
 use Rattle.tm_syntax.specs.Design.{DesignTree}
 use Rattle.tm_strat.proofs.Carrying.{grown}
 use Rattle.tm_strat.proofs.Choices.{constant_kept, game_same, means_kept}
-use Rattle.tm_strat.specs.Choice.{AreGoalMoves, IsChoice, IsPairs, PairAt, care_in, choice, constant_set, id_in, pairs_of, with_bits}
-use Rattle.tm_strat.specs.Constants.{AreApart, AreBitsFrom, BitsOrNone, ConstantOrNone, HasBits, IsConstant, NoneBelow, met_by}
+use Rattle.tm_strat.specs.Choice.{AreGoalMoves, IsChoice, IsPairs, PairAt, care_in, choice, constant_set, id_in}
+use Rattle.tm_strat.specs.Choice.{pairs_of, with_bits}
+use Rattle.tm_strat.specs.Constants.{AreApart, AreBitsFrom, BitsOrNone, ConstantOrNone, HasBits, IsConstant, NoneBelow}
+use Rattle.tm_strat.specs.Constants.{met_by}
 use Rattle.tm_strat.specs.declared.choosing.GoalMoves.{GoalMoves}
 use Rattle.tm_strat_drafts.specs.Growth.{Carried}
 use Rattle.tm_strat_drafts.specs.Moves.{IsCare, good_now}

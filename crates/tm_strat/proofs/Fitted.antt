@@ -1,5 +1,6 @@
 -- Spelled blocks fit a design.
-use Rattle.std.proofs.Common.{◌≡◌, ◌⊎◌, inl, inr, true, false, ℕ, zero, suc, ◌+◌, ◌<◌, List, [], ◌∷◌, ◌++◌, Option, None, Some, length, map, slice_get, refl, sym, ap, ◌∙◌, subst, arith}
+use Rattle.std.proofs.Common.{◌≡◌, ◌⊎◌, inl, inr, true, false, ℕ, zero, suc, ◌+◌, ◌<◌, List, [], ◌∷◌, ◌++◌, Option}
+use Rattle.std.proofs.Common.{None, Some, length, map, slice_get, refl, sym, ap, ◌∙◌, subst, arith}
 use Rattle.tm_check.proofs.Pushed.{pushed_at}
 use Rattle.std.specs.Prelude.{◌↔◌, ◌≤◌, All, IfSome, IsSome}
 use Rattle.std.proofs.lemmas.List.{length_push}

@@ -1,5 +1,6 @@
 -- Good moves of goals, with those of candidates, where the game grows.
-use Rattle.std.proofs.Common.{◌≡◌, ◌⊎◌, inl, inr, ℕ, ◌+◌, ◌<◌, ◌≤◌, true, List, [], ◌∷◌, ◌++◌, Option, None, Some, length, get_or, slice_get, refl, sym, ap, ◌∙◌, subst, arith}
+use Rattle.std.proofs.Common.{◌≡◌, ◌⊎◌, inl, inr, ℕ, ◌+◌, ◌<◌, ◌≤◌, true, List, [], ◌∷◌, ◌++◌, Option, None, Some}
+use Rattle.std.proofs.Common.{length, get_or, slice_get, refl, sym, ap, ◌∙◌, subst, arith}
 use Rattle.std.proofs.lemmas.Bool.{cases_lt}
 use Rattle.std.proofs.lemmas.List.{length_push}
 use Rattle.std.proofs.lemmas.Option.{slice_get-get_or, slice_get_within}
@@ -28,7 +29,8 @@ use Rattle.tm_strat.proofs.ZonePairs.{in_set_kept}
 use Rattle.tm_strat.proofs.ZoneSets.{zoned_kept}
 use Rattle.tm_strat.specs.Choice.{id_in}
 use Rattle.tm_strat.specs.Goods.{AreGoodMoves, IsGoodFor, ranks_in}
-use Rattle.tm_strat.specs.Served.{AreGivenFor, AreMadeFor, AreServed, IsGivenFor, IsGivenMove, IsMadeFor, IsServed, ServesFrom, ServesOne, candidate_trees}
+use Rattle.tm_strat.specs.Served.{AreGivenFor, AreMadeFor, AreServed, IsGivenFor, IsGivenMove, IsMadeFor, IsServed}
+use Rattle.tm_strat.specs.Served.{ServesFrom, ServesOne, candidate_trees}
 use Rattle.tm_strat.specs.Targets.{AreSets}
 use Rattle.tm_strat.specs.Trees.{shape_in}
 use Rattle.tm_strat.specs.Zoned.{AreShapePairs, AreZonePairs}

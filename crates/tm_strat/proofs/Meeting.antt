@@ -1,7 +1,8 @@
 -- Where each answer is a good move, the sets are a certificate of the strategy.
 use Rattle.std.proofs.Common.{◌≡◌, inl, inr, ℕ, ◌<◌, ◌≤◌, true, false, List, length, refl, arith}
 use Rattle.std.proofs.lemmas.Option.{slice_get_within}
-use Rattle.tm_sem.specs.Certificates.{AreRanked, DriverSets, IsFairAtRank, IsGoodMove, IsIn, IsMade, MeetsDriver, MeetsMoveForm, RankedSet, rank}
+use Rattle.tm_sem.specs.Certificates.{AreRanked, DriverSets, IsFairAtRank, IsGoodMove, IsIn, IsMade, MeetsDriver}
+use Rattle.tm_sem.specs.Certificates.{MeetsMoveForm, RankedSet, rank}
 use Rattle.tm_sem.specs.Play.{goal_holds}
 use Rattle.tm_sem.specs.State.{StateData}
 use Rattle.tm_sem.specs.Step.{Step, is_driver_move}

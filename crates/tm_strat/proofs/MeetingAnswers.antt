@@ -16,7 +16,8 @@ use Rattle.tm_strat.specs.declared.candidates.Candidate.{Candidate}
 use Rattle.tm_strat.specs.declared.expressions.Expression.{Expression}
 use Rattle.tm_strat.specs.declared.numbers.Counts.{Counts}
 use Rattle.tm_strat.specs.declared.spelling.Spelling.{Spelling}
-use Rattle.tm_strat_drafts.specs.Blocks.{Leads, goes_first as drafts_first, goes_second as drafts_second, moves as drafts_move}
+use Rattle.tm_strat_drafts.specs.Blocks.{Leads, goes_first as drafts_first, goes_second as drafts_second}
+use Rattle.tm_strat_drafts.specs.Blocks.{moves as drafts_move}
 use Rattle.tm_strat_drafts.specs.Moves.{Game, passes}
 use Rattle.tm_strat_drafts.specs.declared.drafts.DraftBlock.{DraftBlock}
 use Rattle.tm_strat_drafts.specs.declared.drafts.DraftBlock.TheVariants.{Move, Test}

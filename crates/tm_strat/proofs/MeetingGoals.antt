@@ -13,7 +13,8 @@ use Rattle.tm_game.specs.declared.moves.MoveShape.{MoveShape}
 use Rattle.tm_game.specs.declared.moves.MoveShape.TheVariants as shapes
 use Rattle.tm_sem.specs.State.{StateData}
 use Rattle.tm_sem.specs.declared.state.Move.TheVariants as moves
-use Rattle.tm_strat.specs.Trees.{expression_tree, lowered_tree, masked_tree, move_tree, number_tree, predicate_tree, takes, within_tree}
+use Rattle.tm_strat.specs.Trees.{expression_tree, lowered_tree, masked_tree, move_tree, number_tree, predicate_tree}
+use Rattle.tm_strat.specs.Trees.{takes, within_tree}
 use Rattle.tm_strat.specs.declared.expressions.Expression.{Expression}
 use Rattle.tm_strat.specs.declared.expressions.Expression.TheVariants as expressions
 use Rattle.tm_strat.specs.declared.numbers.Counts.{Counts}

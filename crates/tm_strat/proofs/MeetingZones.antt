@@ -1,5 +1,7 @@
 -- Moves that end in the target of a zone are good, and good moves are such ones, where the sets have good moves at all.
-use Rattle.std.proofs.Common.{◌≡◌, ◌≢◌, ◌⊎◌, inl, inr, ℕ, zero, suc, ◌+◌, ◌<◌, ◌≤◌, Bool, true, false, ◌&&◌, ◌||◌, not, List, [], ◌∷◌, Option, None, Some, length, map, slice_get, take, refl, sym, ap, ◌∙◌, subst, arith}
+use Rattle.std.proofs.Common.{◌≡◌, ◌≢◌, ◌⊎◌, inl, inr, ℕ, zero, suc, ◌+◌, ◌<◌, ◌≤◌, Bool, true, false, ◌&&◌, ◌||◌, not}
+use Rattle.std.proofs.Common.{List, [], ◌∷◌, Option, None, Some, length, map, slice_get, take, refl, sym, ap, ◌∙◌}
+use Rattle.std.proofs.Common.{subst, arith}
 use Rattle.std.proofs.lemmas.Bool.{true≢false}
 use Rattle.std.proofs.lemmas.List.{length-map}
 use Rattle.std.proofs.lemmas.Option.{get_or_from_slice_get, slice_get-map, slice_get-get_or, slice_get_within}
@@ -10,7 +12,8 @@ use Rattle.tm_dd.specs.declared.node.TheConstants.{FALSE}
 use Rattle.tm_dd.specs.Table.{means}
 use Rattle.tm_game.specs.Game.{GameData, IsStates}
 use Rattle.tm_game_bits.specs.Functions.{Assignment}
-use Rattle.tm_sem.specs.Certificates.{AreRanked, DriverSets, IsFairAtRank, IsGoodMove, IsIn, MeetsMoveForm, RankedSet, rank}
+use Rattle.tm_sem.specs.Certificates.{AreRanked, DriverSets, IsFairAtRank, IsGoodMove, IsIn, MeetsMoveForm, RankedSet}
+use Rattle.tm_sem.specs.Certificates.{rank}
 use Rattle.tm_sem.specs.Fairness.{IsFair}
 use Rattle.tm_sem.specs.Forcing.{Keeps}
 use Rattle.tm_sem.specs.Play.{goal_holds}
@@ -27,7 +30,8 @@ use Rattle.tm_solve_exact.specs.Exact.{IsExactOf, coding, exact_ids}
 use Rattle.tm_solve_exact.proofs.Growing.{coding_told, states_iff}
 use Rattle.tm_strat.proofs.Zoning.{before_more, past}
 use Rattle.tm_strat.specs.Choice.{id_in}
-use Rattle.tm_strat.specs.Zones.{Rank, Zoning, added, before, failing, falling, here, met, nothing, rank_at, rank_in, target, waiting, zone, zoning_of}
+use Rattle.tm_strat.specs.Zones.{Rank, Zoning, added, before, failing, falling, here, met, nothing, rank_at, rank_in}
+use Rattle.tm_strat.specs.Zones.{target, waiting, zone, zoning_of}
 use Rattle.tm_syntax.specs.Design.{DesignTree}
 use Rattle.tm_verdict.proofs.Ranks.{low_rank, of_rank, rank_is, stands}
 use Rattle.tm_verdict.specs.Found.{IsOfRank, within_rank}

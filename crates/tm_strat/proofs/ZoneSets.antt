@@ -1,5 +1,6 @@
 -- Zones and targets are sets of a game, and stay what they are where it grows.
-use Rattle.std.proofs.Common.{◌≡◌, inl, inr, ℕ, zero, suc, ◌+◌, ◌<◌, ◌≤◌, Bool, true, false, ◌&&◌, ◌||◌, not, List, [], ◌∷◌, Some, length, get_or, map, slice_get, take, refl, sym, ap, ◌∙◌, subst, arith}
+use Rattle.std.proofs.Common.{◌≡◌, inl, inr, ℕ, zero, suc, ◌+◌, ◌<◌, ◌≤◌, Bool, true, false, ◌&&◌, ◌||◌, not, List, []}
+use Rattle.std.proofs.Common.{◌∷◌, Some, length, get_or, map, slice_get, take, refl, sym, ap, ◌∙◌, subst, arith}
 use Rattle.std.proofs.lemmas.Bool.{cases_lt}
 use Rattle.std.proofs.lemmas.List.{get_or-map, get_or_past, length-map}
 use Rattle.std.proofs.lemmas.Option.{get_or_from_slice_get, slice_get-get_or, slice_get_within}
@@ -23,7 +24,8 @@ use Rattle.tm_strat.proofs.Zoning.{targets_kept, zones_kept}
 use Rattle.tm_strat.specs.Choice.{id_in}
 use Rattle.tm_strat.specs.Goods.{AreZonesFor}
 use Rattle.tm_strat.specs.Targets.{AreSets, HasSets}
-use Rattle.tm_strat.specs.Zones.{AreTargets, AreZones, Rank, Tells, Zoning, before, nothing, rank_at, target, zone, zoning_of}
+use Rattle.tm_strat.specs.Zones.{AreTargets, AreZones, Rank, Tells, Zoning, before, nothing, rank_at, target, zone}
+use Rattle.tm_strat.specs.Zones.{zoning_of}
 use Rattle.tm_syntax.specs.Design.{DesignTree}
 
 -- ---- what zones read

@@ -1,5 +1,6 @@
 -- Zones and targets as ids, one step more at a time.
-use Rattle.std.proofs.Common.{◌≡◌, ◌⊎◌, inl, inr, ℕ, zero, suc, ◌<◌, ◌≤◌, Bool, true, false, ◌&&◌, ◌||◌, not, List, [], ◌∷◌, ◌++◌, Some, length, get_or, slice_get, take, refl, sym, ap, ◌∙◌, subst, arith}
+use Rattle.std.proofs.Common.{◌≡◌, ◌⊎◌, inl, inr, ℕ, zero, suc, ◌<◌, ◌≤◌, Bool, true, false, ◌&&◌, ◌||◌, not, List, []}
+use Rattle.std.proofs.Common.{◌∷◌, ◌++◌, Some, length, get_or, slice_get, take, refl, sym, ap, ◌∙◌, subst, arith}
 use Rattle.std.proofs.lemmas.List.{length_push}
 use Rattle.std.proofs.lemmas.Option.{slice_get_within}
 use Rattle.std.specs.List.{list_any}
@@ -16,7 +17,8 @@ use Rattle.tm_solve.specs.declared.iterates.RankSet.{RankSet}
 use Rattle.tm_strat.proofs.Carrying.{grown, set_stays}
 use Rattle.tm_strat.specs.Choice.{id_in}
 use Rattle.tm_strat.specs.declared.good.NewStates.{NewStates}
-use Rattle.tm_strat.specs.Zones.{AreNew, AreTargets, AreWaits, AreZones, Rank, Tells, Zoning, added, before, failing, falling, met, nothing, rank_at, target, waiting, zone}
+use Rattle.tm_strat.specs.Zones.{AreNew, AreTargets, AreWaits, AreZones, Rank, Tells, Zoning, added, before, failing}
+use Rattle.tm_strat.specs.Zones.{falling, met, nothing, rank_at, target, waiting, zone}
 use Rattle.tm_strat_drafts.specs.Growth.{Carried}
 
 -- ---- growth

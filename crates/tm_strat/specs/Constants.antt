@@ -1,5 +1,6 @@
 -- Moves with constant arguments that are good at some state of a set. Here pairs are those of one shape, or of each.
-use Rattle.std.specs.Prelude.{◌≡◌, ℕ, ◌+◌, ◌<◌, ◌^◌, ◌&&◌, Bool, true, false, List, Option, None, Some, length, map, slice_index_or}
+use Rattle.std.specs.Prelude.{◌≡◌, ℕ, ◌+◌, ◌<◌, ◌^◌, ◌&&◌, Bool, true, false, List, Option, None, Some, length, map}
+use Rattle.std.specs.Prelude.{slice_index_or}
 use Rattle.std.specs.List.{range_with_len}
 use Rattle.tm_base.specs.Bits.{bits_of}
 use Rattle.tm_dd.specs.declared.node.NodeId.{NodeId}

@@ -1,11 +1,13 @@
 -- What tests of a state and moves are in C, as plain data. In this file c are the numbers of variables and processes.
-use Rattle.std.specs.Prelude.{ℕ, ◌==◌, ◌^◌, ◌-◌, ◌||◌, ◌&&◌, Bool, true, false, List, length, map, nat_lt, nat_le, slice_index_or, if◌then◌else◌}
+use Rattle.std.specs.Prelude.{ℕ, ◌==◌, ◌^◌, ◌-◌, ◌||◌, ◌&&◌, Bool, true, false, List, length, map, nat_lt, nat_le}
+use Rattle.std.specs.Prelude.{slice_index_or, if◌then◌else◌}
 use Rattle.std.specs.Option.{option_map_or}
 use Rattle.tm_base.specs.declared.shift_operator.ShiftOperator.TheVariants.{Right}
 use Rattle.tm_cir.specs.declared.block.NumOperator.{NumOperator}
 use Rattle.tm_cir.specs.declared.block.NumOperator.TheVariants as operators
 use Rattle.tm_cir.specs.Fit.{parameter_count}
-use Rattle.tm_cir.specs.Tree.{BlockTree, NumTree, TruthTree, binary, call, compare, constant, idle, last, leave, location, num, shift, var}
+use Rattle.tm_cir.specs.Tree.{BlockTree, NumTree, TruthTree, binary, call, compare, constant, idle, last, leave}
+use Rattle.tm_cir.specs.Tree.{location, num, shift, var}
 use Rattle.tm_game.specs.declared.moves.MoveShape.{MoveShape}
 use Rattle.tm_game.specs.declared.moves.MoveShape.TheVariants as shapes
 use Rattle.tm_strat.specs.declared.candidates.Candidate.{Candidate}

@@ -1,6 +1,7 @@
 -- From which states moves are to end in which sets while a goal is pending, as functions of values of levels. Here z is
 -- what zones are made of, and t are diagrams.
-use Rattle.std.specs.Prelude.{◌≡◌, ℕ, zero, suc, ◌&&◌, ◌||◌, false, not, List, Some, length, map, slice_get, slice_index_or, take}
+use Rattle.std.specs.Prelude.{◌≡◌, ℕ, zero, suc, ◌&&◌, ◌||◌, false, not, List, Some, length, map, slice_get}
+use Rattle.std.specs.Prelude.{slice_index_or, take}
 use Rattle.std.specs.List.{list_any}
 use Rattle.tm_dd.specs.declared.node.NodeId.{NodeId}
 use Rattle.tm_dd.specs.Table.{Table, means}

@@ -1,5 +1,7 @@
 -- Drafts grow at their end, and end well at the states of their sets.
-use Rattle.std.proofs.Common.{◌≡◌, ◌⊎◌, inl, inr, ℕ, ◌+◌, ◌<◌, ◌≤◌, ◌&&◌, ◌==◌, Bool, nat_lt, true, false, List, [], ◌∷◌, ◌++◌, length, slice_get, Option, None, Some, if◌then◌else◌, refl, sym, ap, ◌∙◌, subst, arith}
+use Rattle.std.proofs.Common.{◌≡◌, ◌⊎◌, inl, inr, ℕ, ◌+◌, ◌<◌, ◌≤◌, ◌&&◌, ◌==◌, Bool, nat_lt, true, false, List, []}
+use Rattle.std.proofs.Common.{◌∷◌, ◌++◌, length, slice_get, Option, None, Some, if◌then◌else◌, refl, sym, ap, ◌∙◌}
+use Rattle.std.proofs.Common.{subst, arith}
 use Rattle.std.proofs.lemmas.Bool.Decides.{nat_tests}
 use Rattle.tm_dd.specs.declared.node.NodeId.{NodeId}
 use Rattle.tm_game_bits.proofs.Sets.{both_true}
@@ -9,13 +11,15 @@ use Rattle.tm_strat_drafts.specs.Sets.{chosen, HasState}
 use Rattle.tm_strat_drafts.specs.Moves.{all_tests, Game, good_now, IsTold, passes}
 use Rattle.tm_solve.specs.Ids.{Ids, Is, Extends}
 use Rattle.tm_strat_drafts.specs.Blocks.{Leads, goes_first, goes_second, moves, EndsWell, AreGood}
-use Rattle.tm_strat_drafts.specs.Drafts.{AreDrafts, blocks_of, drafted, FitsEarlier, FoundOrNot, IsMade, Makes, MakesOrNot, Stay}
+use Rattle.tm_strat_drafts.specs.Drafts.{AreDrafts, blocks_of, drafted, FitsEarlier, FoundOrNot, IsMade, Makes}
+use Rattle.tm_strat_drafts.specs.Drafts.{MakesOrNot, Stay}
 use Rattle.tm_strat_drafts.specs.Splits.{AreUniform}
 use Rattle.tm_strat_drafts.specs.declared.drafts.DraftBlock.{DraftBlock}
 use Rattle.tm_strat_drafts.specs.declared.drafts.DraftBlock.TheVariants.{Test, Move}
 use Rattle.tm_strat_drafts.specs.declared.drafts.Draft.{Draft}
 use Rattle.tm_strat_drafts.specs.declared.drafts.MoveChoice.{MoveChoice}
-use Rattle.tm_strat_drafts.proofs.Items.{map_more, get_more, get_stays, get_last, get_below, get_some, length_more, length_mapped}
+use Rattle.tm_strat_drafts.proofs.Items.{map_more, get_more, get_stays, get_last, get_below, get_some, length_more}
+use Rattle.tm_strat_drafts.proofs.Items.{length_mapped}
 use Rattle.tm_strat_drafts.proofs.Sets.{same_within}
 
 -- where blocks stay, their tests lead where they led

@@ -1,12 +1,14 @@
 -- Drafts made anew for another goal: they are as many, and their blocks stay.
-use Rattle.std.proofs.Common.{◌≡◌, ◌⊎◌, inl, inr, ℕ, ◌+◌, ◌<◌, ◌≤◌, List, [], ◌∷◌, ◌++◌, length, slice_get, Some, refl, sym, ap, ◌∙◌, subst, arith}
+use Rattle.std.proofs.Common.{◌≡◌, ◌⊎◌, inl, inr, ℕ, ◌+◌, ◌<◌, ◌≤◌, List, [], ◌∷◌, ◌++◌, length, slice_get, Some, refl}
+use Rattle.std.proofs.Common.{sym, ap, ◌∙◌, subst, arith}
 use Rattle.tm_solve.specs.Ids.{Ids}
 use Rattle.tm_strat_drafts.specs.Drafts.{AreDrafts, AreEarlier, blocks_of, FitsEarlier, Stay}
 use Rattle.tm_strat_drafts.specs.Moves.{all_tests, Game}
 use Rattle.tm_strat_drafts.specs.declared.drafts.Draft.{Draft}
 use Rattle.tm_strat_drafts.specs.declared.drafts.DraftBlock.{DraftBlock}
 use Rattle.tm_strat_drafts.specs.declared.drafts.DraftBlock.TheVariants.{Test}
-use Rattle.tm_strat_drafts.proofs.Items.{below_more, get_below, get_last, get_mapped, get_some, get_stays, length_mapped, length_more, some_same}
+use Rattle.tm_strat_drafts.proofs.Items.{below_more, get_below, get_last, get_mapped, get_some, get_stays}
+use Rattle.tm_strat_drafts.proofs.Items.{length_mapped, length_more, some_same}
 
 -- no drafts
 pub none_earlier : (tests : ℕ) (ds : List Draft) → ds ≡ [] → AreEarlier tests ds

@@ -1,16 +1,18 @@
 -- Each controllable task of a sound design of a text can be called by a block.
 use Rattle.std.proofs.Common.{◌≡◌, ℕ, ◌+◌, ◌≤◌, Option, None, Some, List, [], ◌∷◌, length, refl, sym, ap, ◌∙◌, arith}
-use Rattle.std.specs.Prelude.{slice_get}
+use Rattle.std.specs.Prelude.{slice_get, sum}
 use Rattle.std.specs.List.{AllByRecursion}
 use Rattle.std.specs.Option.{option_map, option_and_then}
 use Rattle.std.proofs.lemmas.List.{length-map}
 use Rattle.tm_cir.specs.Fit.{declared_task, parameter_count}
 use Rattle.tm_design.proofs.FitDesigns.{fit_design}
 use Rattle.tm_design.specs.Runnable.{HasTypedCells}
+use Rattle.tm_flat.proofs.Widths.{few_state_bits}
 use Rattle.tm_flat.specs.Fitting.{ArgumentsFit}
 use Rattle.tm_flat.specs.Inputs.{room}
 use Rattle.tm_locations.proofs.CalledBodies.{made}
 use Rattle.tm_sem.specs.Run.{asked_by}
+use Rattle.tm_sem.specs.StateBits.{state_widths}
 use Rattle.tm_sem.specs.Step.{task_of}
 use Rattle.tm_strat.specs.Meeting.{CanCall}
 use Rattle.tm_syntax.proofs.Limits as limits
@@ -114,6 +116,10 @@ module _ (d : DesignTree) (typed : HasTypedCells d) where
   declared_so : (n : ℕ) (c : Called) → task_of d n ≡ Some c → parameter_count d n ≡ Some (length c.params)
   declared_so n c is = of_item c (slice_get d.tasks n) is
 
+-- ---- how many tests of the state and goals there are
+counted_so : (d : DesignTree) → IsSound d → 65536 + sum (state_widths d) + length d.goals ≤ 4294967295
+counted_so d sound = omega (arith, few_state_bits d sound, limits.few_goals d sound)
+
 -- ---- all of it
 pub can_call : (d : DesignTree) → IsSound d → IsOfText d.spec → IsRegular d → CanCall d
 unfolding room
@@ -121,6 +127,7 @@ can_call d sound of regular =
     let fit = fit_design d sound of in
     record {
       few = omega (arith, limits.few_processes d sound, limits.few_tasks d sound);
+      counted = counted_so d sound;
       declared = declared_so d fit.typed;
       fits = λ n callee is.
           let few = within_room d callee.params 0 (fit.sized n callee is) (regular.room.arguments n callee is) in

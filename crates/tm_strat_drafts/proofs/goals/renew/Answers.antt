@@ -3,7 +3,8 @@ use Rattle.tm_strat_drafts.specs.Drafts.{AreDrafts, blocks_of}
 use Rattle.tm_strat_drafts.specs.Moves.{Game}
 use Rattle.tm_strat_drafts.proofs.Following.{follows_here, follows_then}
 use Rattle.tm_strat_drafts.proofs.Making.{drafts_at}
-use Rattle.tm_strat_drafts.proofs.Renewing.{all_copied, blocks_count, copied_more, count_blocks, fits_on, fits_read, none_copied, none_drafts}
+use Rattle.tm_strat_drafts.proofs.Renewing.{all_copied, blocks_count, copied_more, count_blocks, fits_on, fits_read}
+use Rattle.tm_strat_drafts.proofs.Renewing.{none_copied, none_drafts}
 use Rattle.tm_strat_drafts.proofs.goals.renew.Goals as goal
 
 pub loop-at-init : goal.loop-at-init
