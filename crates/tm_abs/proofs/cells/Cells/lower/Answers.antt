@@ -1,0 +1,104 @@
+use Rattle.std.proofs.Common.{List, ℕ, ◌&&◌, IfOk, sym, subst}
+use Rattle.std.proofs.lemmas.Result.{IfOk-weaker}
+use Rattle.tm_abs.proofs.ValidParts.{complement_set, in_pool_kept, left_set, lower_made, pooled_kept, valid_only, valid_set}
+use Rattle.tm_abs.specs.Tracked.{IsPooled, tracked_of}
+use Rattle.tm_dd.specs.declared.node.NodeId.{NodeId}
+use Rattle.tm_dd.specs.NodeId.{complement}
+use Rattle.tm_dd.specs.Table.{means}
+use Rattle.tm_ddops.specs.Manager.{IsFunction}
+use Rattle.tm_flat_pool.specs.Cells.{IsInLower, IsInUpper}
+use Rattle.tm_game.proofs.Growing.{grows_then}
+use Rattle.tm_game.specs.Game.{IsSet, IsStates}
+use Rattle.tm_game.specs.Least.{test_of}
+use Rattle.tm_syntax.specs.Design.{DesignTree}
+use Rattle.tm_abs.proofs.cells.Cells.lower.Goals as goal
+
+pub valid_part-requires : goal.valid_part-requires
+valid_part-requires c = record {
+  pool = c.requires.pool;
+  set = subst (IsSet c.args.game.now) (sym c.complement.ensures.value)
+      (complement_set c.args.game.now c.args.c c.requires.set);
+}
+
+pub upper_part-requires : goal.upper_part-requires
+upper_part-requires c =
+    let g = c.args.game.now in
+    let h = c.valid_part.new.game in
+    let part = c.in_ok-outside.ensures in
+    let outside = c.in_ok-outside.outside in
+    let d = c.requires.pool.0 in
+    let pooled = c.requires.pool.1 in
+    let valid = part.valid d pooled.of in
+    let set = complement_set g c.args.c c.requires.set in
+    let is = subst (λ (x : NodeId). IsFunction h.diagrams.table outside
+    (λ v. means h.diagrams.table g.valid v && means h.diagrams.table x v)) c.complement.ensures.value part.part in
+    record {
+      tracked = in_pool_kept g h part.grows c.deref.result.now c.args.self.now.tracked.items c.deref.ensures.value
+          c.requires.tracked;
+      pool = (d, pooled_kept d g h part.grows pooled);
+      set = valid_set d g h part.grows pooled.of part.order valid (complement c.args.c) outside set is;
+      valid = valid_only d g h part.grows pooled.of part.order valid (complement c.args.c) outside set is;
+    }
+
+pub valid_part-requires-2 : goal.valid_part-requires-2
+valid_part-requires-2 c =
+    let g = c.args.game.now in
+    let h = c.valid_part.new.game in
+    let k = c.upper_part.new.game in
+    let part = c.in_ok-outside.ensures in
+    let outside = c.in_ok-outside.outside in
+    let left = c.in_ok-left.left in
+    let numbers = c.args.self.now.tracked.items in
+    let d = c.requires.pool.0 in
+    let pooled = c.requires.pool.1 in
+    let is = subst (λ (x : NodeId). IsFunction h.diagrams.table outside
+    (λ v. means h.diagrams.table g.valid v && means h.diagrams.table x v)) c.complement.ensures.value part.part in
+    let upper = subst (λ (ks : List ℕ). IsStates d h.order k.diagrams.table
+    (IsInUpper d (tracked_of d ks) (test_of d h outside)) left) c.deref.ensures.value
+    (c.in_ok-left.ensures.part d (pooled_kept d g h part.grows pooled)) in
+    record {
+      pool = (d, pooled_kept d g k (grows_then g h k part.grows c.in_ok-left.ensures.grows) pooled);
+      set = subst (IsSet k) (sym c.complement-2.ensures.value)
+          (complement_set k left
+          (left_set d g h k part.grows c.in_ok-left.ensures.grows pooled part.order (part.valid d pooled.of)
+          (tracked_of d numbers) c.args.c outside left c.requires.set is upper));
+    }
+
+pub returns-in_err-left-clause-grows : goal.returns-in_err-left-clause-grows
+returns-in_err-left-clause-grows c =
+    grows_then c.args.game.now c.valid_part.new.game c.upper_part.new.game c.valid_part.ensures.grows
+    c.upper_part.ensures.grows
+
+pub returns-clause-grows : goal.returns-clause-grows
+returns-clause-grows c =
+    grows_then c.args.game.now c.upper_part.new.game c.valid_part-2.new.game
+    (grows_then c.args.game.now c.valid_part.new.game c.upper_part.new.game c.valid_part.ensures.grows
+    c.upper_part.ensures.grows) c.valid_part-2.ensures.grows
+
+pub returns-clause-part : goal.returns-clause-part
+returns-clause-part c =
+    let g = c.args.game.now in
+    let h = c.valid_part.new.game in
+    let k = c.upper_part.new.game in
+    let l = c.valid_part-2.new.game in
+    let part = c.in_ok-outside.ensures in
+    let outside = c.in_ok-outside.outside in
+    let left = c.in_ok-left.left in
+    let numbers = c.args.self.now.tracked.items in
+    let is = subst (λ (x : NodeId). IsFunction h.diagrams.table outside
+    (λ v. means h.diagrams.table g.valid v && means h.diagrams.table x v)) c.complement.ensures.value part.part in
+    IfOk-weaker c.valid_part-2.result
+    (λ (id : NodeId). IsFunction l.diagrams.table id
+    (λ v. means l.diagrams.table k.valid v && means l.diagrams.table (complement left) v))
+    (λ (id : NodeId). (d : DesignTree) → IsPooled d g → IsStates d g.order l.diagrams.table
+    (IsInLower d (tracked_of d numbers) (test_of d g c.args.c)) id)
+    (λ id final d pooled.
+    lower_made d g h k part.grows c.in_ok-left.ensures.grows pooled part.order (part.valid d pooled.of)
+    (tracked_of d numbers) c.args.c outside left c.requires.set is
+    (subst (λ (ks : List ℕ). IsStates d h.order k.diagrams.table
+    (IsInUpper d (tracked_of d ks) (test_of d h outside)) left) c.deref.ensures.value
+    (c.in_ok-left.ensures.part d (pooled_kept d g h part.grows pooled))) l c.valid_part-2.ensures.grows id final)
+    (subst (λ (x : NodeId). IfOk c.valid_part-2.result
+    (λ (id : NodeId). IsFunction l.diagrams.table id
+    (λ v. means l.diagrams.table k.valid v && means l.diagrams.table x v))) c.complement-2.ensures.value
+    c.valid_part-2.ensures.part)

@@ -1,0 +1,31 @@
+use Rattle.std.proofs.Common.{◌≡◌, ◌-◌, List, length, refl, sym, ap, ◌∙◌, subst, arith, ℕ}
+use Rattle.tm_abs.proofs.Predicates.{atom_is}
+use Rattle.tm_abs.specs.Inner.Atoms.{IsAtom}
+use Rattle.tm_dd.specs.Table.{Table}
+use Rattle.tm_ddops.specs.Manager.{Diagrams}
+use Rattle.tm_flat.specs.Flat.{FlatTerms}
+use Rattle.tm_abs.proofs.reading.atom_of.Goals as goal
+
+pub returns-clause-atom : goal.returns-clause-atom
+returns-clause-atom c =
+    let it = c.requires.pool in
+    let g = c.args.game.now in
+    let s = g.diagrams.table in
+    let levels : c.levels.result ≡ s.levels =
+    c.levels.ensures.value
+    ∙ ap (λ (t : Table). t.levels) (c.store.ensures.value ∙ ap (λ (m : Diagrams). m.table) c.manager.ensures) in
+    let order = ap (λ (o : List ℕ). length o) it.3.order in
+    let pool = ap (λ (f : FlatTerms). length f.pool) it.3.flat in
+    let room = c.order-order.ensures.predicates in
+    let below = c.requires.number in
+    subst (λ (o : List ℕ). IsAtom (length o) s (record {
+      level = c.levels.result - 1 - c.args.number;
+      holds = c.args.holds;
+      reads = c.in_ok-reads.reads;
+    })) (sym it.3.order)
+    (atom_is it.0 it.1 s c.args.number c.args.holds it.4 (record {
+      level = c.levels.result - 1 - c.args.number;
+      holds = c.args.holds;
+      reads = c.in_ok-reads.reads;
+    }) refl c.in_ok-reads.ensures (omega (arith, levels, room, below)) (omega (arith, order, pool, room))
+    (omega (arith, pool, below)))

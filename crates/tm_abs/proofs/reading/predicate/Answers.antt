@@ -1,0 +1,43 @@
+use Rattle.std.proofs.Common.{◌≡◌, ℕ, ◌<◌, List, Some, length, sym, ap, ◌∙◌, arith}
+use Rattle.std.specs.Prelude.{slice_get, slice_index_or}
+use Rattle.std.proofs.lemmas.Option.{slice_get-get_or}
+use Rattle.tm_abs.proofs.Predicates.{has_first, is_predicate, term_known}
+use Rattle.tm_flat.specs.Flat.{FlatTerms}
+use Rattle.tm_term.specs.declared.term.TermId.{TermId}
+use Rattle.tm_abs.proofs.reading.predicate.Goals as goal
+
+-- the term of a number
+at_number : (xs ys : List TermId) (k : ℕ) (x : TermId) → xs ≡ ys → k < length ys → x ≡ slice_index_or xs k x →
+    slice_get ys k ≡ Some x
+at_number xs ys k x same below is =
+    slice_get-get_or ys k x below ∙ ap (λ (zs : List TermId). Some (slice_index_or zs k x)) (sym same)
+    ∙ ap Some (sym is)
+
+pub bits-requires : goal.bits-requires
+bits-requires c =
+    let g = c.args.game.now in
+    let pool = ap (λ (f : FlatTerms). f.pool) c.flat.ensures in
+    term_known c.requires.pool.0 g c.requires.pool.1 c.args.number c.index-term.result.now
+    (at_number c.flat.result.now.pool.items g.flat.pool c.args.number c.index-term.result.now pool c.requires.number
+    c.index-term.ensures)
+
+pub index-requires : goal.index-requires
+index-requires c =
+    let g = c.args.game.now in
+    let d = c.requires.pool.0 in
+    let pooled = c.requires.pool.1 in
+    let pool = ap (λ (f : FlatTerms). f.pool) c.flat.ensures in
+    let long = has_first d g pooled c.args.number c.index-term.result.now
+    (at_number c.flat.result.now.pool.items g.flat.pool c.args.number c.index-term.result.now pool c.requires.number
+    c.index-term.ensures) c.bits.new.self.diagrams.table c.in_ok-bits.bits.items
+    (c.in_ok-bits.ensures.bits d pooled.of) in
+    omega (arith, long, c.in_ok-bits.bits.ok.0)
+
+pub returns-clause-predicate : goal.returns-clause-predicate
+returns-clause-predicate c = λ d pooled.
+    let g = c.args.game.now in
+    let pool = ap (λ (f : FlatTerms). f.pool) c.flat.ensures in
+    is_predicate d g pooled c.args.number c.index-term.result.now
+    (at_number c.flat.result.now.pool.items g.flat.pool c.args.number c.index-term.result.now pool c.requires.number
+    c.index-term.ensures) c.order-order.ensures.places c.bits.new.self.diagrams.table c.in_ok-bits.bits.items
+    (c.in_ok-bits.ensures.bits d pooled.of) c.index.result.now c.index.ensures

@@ -1,0 +1,179 @@
+//! Two states of a cell that a set cuts.
+ghost use Rattle.std.specs.Prelude.{◌≡◌, ◌<◌, ◌&&◌, ◌++◌, ◌∷◌, [], IfOk, List, MatchOption, length};
+ghost use Rattle.tm_abs.specs.Inner.Narrowed.{IsCutOff, IsNarrowed};
+ghost use Rattle.tm_abs.specs.Split.{IsCut, PartsAreOne};
+ghost use Rattle.tm_abs.specs.Tracked.{AreInPool, IsPooled, tracked_of};
+ghost use Rattle.tm_dd.specs.NodeId.{complement};
+ghost use Rattle.tm_dd.specs.Table.{Knows, means};
+ghost use Rattle.tm_dd.specs.declared.node.NodeId.{NodeId as Id};
+ghost use Rattle.tm_ddops.specs.Manager.{IsFunction};
+ghost use Rattle.tm_flat_pool.specs.Predicates.{Predicate};
+ghost use Rattle.tm_game.specs.Game.{GameData, Grows, IsSet};
+ghost use Rattle.tm_game.specs.Least.{test_of};
+ghost use Rattle.tm_syntax.specs.Design.{DesignTree};
+
+use crate::cells::Cells;
+use crate::reading::predicate;
+use std::alloc::{AllocError, Global};
+use tm_dd::NodeId;
+use tm_game::Game;
+use tm_sem::state::State;
+
+/// A state, the states of its cell, and those of them that are sought.
+#[derive(Drop)]
+struct Narrowing {
+    state: State,
+    cell: NodeId,
+    sought: NodeId,
+}
+
+impl Cells {
+    /// Two valid states of one cell, the first in a set and the second not.
+    ///
+    /// `None` comes exactly where the lower and the upper part of the set are one. Every id keeps its meaning, also
+    /// where memory runs out.
+    pub fn split(
+        &self,
+        alloc: Global,
+        game: &mut Game,
+        c: NodeId,
+    ) -> Result<Option<(State, State)>, AllocError>
+        requires tracked { AreInPool game.old self.now.tracked.items }
+        requires pool { (d : DesignTree) × IsPooled d game.old }
+        requires set { IsSet game.old c }
+
+        ensures grows { Grows game.old game.new }
+        ensures split { IfOk result (λ found. (d : DesignTree) → IsPooled d game.old → MatchOption found
+            (PartsAreOne d (tracked_of d self.now.tracked.items) (test_of d game.old c))
+            (λ pair. IsCut d (tracked_of d self.now.tracked.items) (test_of d game.old c) pair.0 pair.1)) }
+    {
+        let _order = game.order();
+        let _valid = game.valid();
+        let upper = self.upper(alloc, game, c)?;
+        let cut = game.and(upper, c.complement())?;
+        match game.least(cut)? {
+            Some(state) => {
+                let pair = self.pair_with(game, c, cut, state)?;
+                Ok(Some(pair))
+            }
+            None => Ok(None),
+        }
+    }
+
+    // A state of a set with one of its cell that is cut off it.
+    fn pair_with(
+        &self,
+        game: &mut Game,
+        c: NodeId,
+        cut: NodeId,
+        state: State,
+    ) -> Result<(State, State), AllocError>
+        requires tracked { AreInPool game.old self.now.tracked.items }
+        requires cut { (d : DesignTree) × (g : GameData) × IsPooled d g × Grows g game.old × IsSet g c
+            × IsCutOff d game.old (tracked_of d self.now.tracked.items) (test_of d g c) cut
+            × IsNarrowed d game.old game.old.diagrams.table cut [] state game.old.valid cut }
+
+        ensures grows { Grows game.old game.new }
+        ensures pair { IfOk result (λ pair. (d : DesignTree) (g : GameData) → IsPooled d g → Grows g game.old
+            → IsSet g c → IsCutOff d game.old (tracked_of d self.now.tracked.items) (test_of d g c) cut
+            → IsNarrowed d game.old game.old.diagrams.table cut [] state game.old.valid cut
+            → IsCut d (tracked_of d self.now.tracked.items) (test_of d g c) pair.0 pair.1) }
+    {
+        let _order = game.order();
+        let whole = Narrowing {
+            state,
+            cell: game.valid(),
+            sought: cut,
+        };
+        let found = self.narrowed(game, whole)?;
+        let inside = game.and(found.cell, c)?;
+        match game.least(inside)? {
+            Some(first) => Ok((first, found.state)),
+            None => unreachable!(),
+        }
+    }
+
+    // A state with its cell: of each predicate in turn those states are kept at which it holds, if any are sought, and
+    // the others otherwise.
+    fn narrowed(&self, game: &mut Game, whole: Narrowing) -> Result<Narrowing, AllocError>
+        requires tracked { AreInPool game.old self.now.tracked.items }
+        requires narrowed { (d : DesignTree) × (first : GameData) × (set : Id) × IsPooled d first
+            × Grows first game.old
+            × IsNarrowed d first game.old.diagrams.table set [] whole.state whole.cell whole.sought }
+
+        ensures grows { Grows game.old game.new }
+        ensures narrowed { IfOk result (λ n. (d : DesignTree) (first : GameData) (set : Id) → IsPooled d first
+            → Grows first game.old
+            → IsNarrowed d first game.old.diagrams.table set [] whole.state whole.cell whole.sought
+            → IsNarrowed d first game.new.diagrams.table set (tracked_of d self.now.tracked.items) n.state n.cell
+            n.sought) }
+    {
+        let mut found = whole;
+        for number in &self.tracked {
+            found = narrow(game, *number, found)?;
+        }
+        Ok(found)
+    }
+}
+
+// Narrows a cell by a predicate of the pool.
+fn narrow(game: &mut Game, number: u32, found: Narrowing) -> Result<Narrowing, AllocError>
+    requires number { number < length game.old.flat.pool }
+    requires narrowed { (d : DesignTree) × (first : GameData) × (set : Id) × (before : List Predicate)
+        × IsPooled d first × Grows first game.old
+        × IsNarrowed d first game.old.diagrams.table set before found.state found.cell found.sought }
+
+    ensures grows { Grows game.old game.new }
+    ensures narrowed { IfOk result (λ n. (d : DesignTree) (first : GameData) (set : Id) (before : List Predicate)
+        → IsPooled d first → Grows first game.old
+        → IsNarrowed d first game.old.diagrams.table set before found.state found.cell found.sought
+        → IsNarrowed d first game.new.diagrams.table set (before ++ tracked_of d (number ∷ [])) n.state n.cell
+        n.sought) }
+{
+    let holds = predicate(game, number)?;
+    let met = game.and(found.sought, holds)?;
+    match game.least(met)? {
+        Some(state) => narrow_to(game, found.cell, holds, met, state),
+        None => narrow_off(game, found, holds),
+    }
+}
+
+// A state at which a predicate holds, with those of a cell at which it does.
+fn narrow_to(
+    game: &mut Game,
+    cell: NodeId,
+    holds: NodeId,
+    sought: NodeId,
+    state: State,
+) -> Result<Narrowing, AllocError>
+    requires cell { Knows game.old.diagrams.table cell }
+    requires holds { Knows game.old.diagrams.table holds }
+    ensures grows { Grows game.old game.new }
+    ensures narrowed { IfOk result (λ n. (n.state ≡ state) × (n.sought ≡ sought)
+        × IsFunction game.new.diagrams.table n.cell
+        (λ v. means game.new.diagrams.table cell v && means game.new.diagrams.table holds v)) }
+{
+    let cell = game.and(cell, holds)?;
+    Ok(Narrowing {
+        state,
+        cell,
+        sought,
+    })
+}
+
+// What was narrowed, with those of its cell at which a predicate does not hold.
+fn narrow_off(game: &mut Game, found: Narrowing, holds: NodeId) -> Result<Narrowing, AllocError>
+    requires cell { Knows game.old.diagrams.table found.cell }
+    requires holds { Knows game.old.diagrams.table holds }
+    ensures grows { Grows game.old game.new }
+    ensures narrowed { IfOk result (λ n. (n.state ≡ found.state) × (n.sought ≡ found.sought)
+        × IsFunction game.new.diagrams.table n.cell
+        (λ v. means game.new.diagrams.table found.cell v && means game.new.diagrams.table (complement holds) v)) }
+{
+    let cell = game.and(found.cell, holds.complement())?;
+    Ok(Narrowing {
+        state: found.state,
+        cell,
+        sought: found.sought,
+    })
+}
