@@ -9,3 +9,5 @@ mod sets;
 
 pub use certified::exact_operators_are_those_of_their_designs;
 pub use exact::Exact;
+pub use parts::part;
+pub use sets::{both, either, rest};

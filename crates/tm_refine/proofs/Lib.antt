@@ -1,0 +1,14 @@
+mod DecideSteps
+mod DriverKeeps
+mod EnvironmentTakes
+mod HandDown
+mod NarrowSteps
+mod OneSide
+mod RoundSides
+mod SearchSteps
+mod SidedSteps
+mod Starts
+mod Staying
+mod Tracing
+mod Undeciding
+mod Uniting

@@ -1,0 +1,9 @@
+pub mod Decided
+pub mod Numbers
+pub mod PartLaws
+pub mod Parts
+pub mod Reasons
+pub mod Searching
+pub mod Sided
+pub mod SidedLaws
+pub mod Solved
