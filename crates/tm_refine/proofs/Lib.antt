@@ -4,6 +4,11 @@ mod EnvironmentTakes
 mod HandDown
 mod NarrowSteps
 mod OneSide
+mod PoolBits
+mod PoolCopies
+mod PoolKeeps
+mod PoolParts
+mod PoolTells
 mod RoundSides
 mod SearchSteps
 mod SidedSteps

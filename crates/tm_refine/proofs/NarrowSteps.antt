@@ -11,7 +11,11 @@ use Rattle.tm_syntax.specs.Design.{DesignTree}
 use Rattle.tm_sem.specs.Certificates.{DriverSets, Level, MeetsEnvironment, MeetsMoveForm}
 use Rattle.tm_flat_pool.specs.Cells.{AreDriverUnions, AreLevelUnions, Undecided}
 use Rattle.tm_flat_pool.specs.Predicates.{Predicate, pool}
-use Rattle.tm_solve.specs.Ids.{Ids, Extends, Side, Stay}
+use Rattle.tm_dd.specs.declared.node.NodeId.{NodeId}
+use Rattle.tm_solve.specs.Fixpoints.{Holds, InRegion}
+use Rattle.tm_solve.specs.Game.{Game}
+use Rattle.tm_solve.specs.Sets.{IsSame, StateSet}
+use Rattle.tm_solve.specs.Ids.{Ids, Is, Extends, Side, Stay}
 use Rattle.tm_solve.specs.Iterates.{KnowsAll, driver_sets, levels_of}
 use Rattle.tm_refine.specs.Reasons.{AreReasons, tracked_by}
 use Rattle.tm_game_pool.specs.Separating.{predicates_at}
@@ -73,13 +77,6 @@ won_still d first added upper a b it count stay k won = record {
   within = won.within;
   won = still_won a.side a b stay it k d (tracked_at d first added count) upper won.won;
 }
-
-pub certifies_still : (d : DesignTree) (upper : Bool) (a b : Ids) (it : Iterates) → Stay a b → KnowsAll a it →
-    Certifies d upper a it → Certifies d upper b it
-certifies_still d true a b it stay k meets =
-    subst (λ (ls : List Level). MeetsEnvironment d ls) (sym (levels_same a.side a b stay it k)) meets
-certifies_still d false a b it stay k meets =
-    subst (λ (c : DriverSets). MeetsMoveForm d c) (sym (driver_same a.side a b stay it k)) meets
 
 -- ---- lengths
 length_map : (xs : List Added) → length (map (λ (a : Added). a.predicate) xs) ≡ length xs
@@ -173,11 +170,8 @@ none_at d ks js u v tracked same none =
     subst (λ (w : Bool). NoneOf d (predicates_at (pool d) js) w) (sym same)
     (subst (λ (l : List ℕ). NoneOf d (predicates_at (pool d) l) u) (sym tracked) none)
 
-pub named_still : (d : DesignTree) (u v : Bool) (a b : Ids) (it : Iterates) → v ≡ u → Stay a b → KnowsAll a it →
-    IsNamed d u a it → IsNamed d v b it
-named_still d u v a b it same stay k named =
-    subst (λ (w : Bool). IsNamed d w b it) (sym same)
-    (record { other = named.other; own = certifies_still d u a b it stay k named.own })
+pub named_at : (d : DesignTree) (u v : Bool) → v ≡ u → IsNamed d u → IsNamed d v
+named_at d u v same named = subst (λ (w : Bool). IsNamed d w) (sym same) named
 
 pub count_smaller : (n a b : ℕ) → a < b → b ≤ n → n - b < n - a
 count_smaller n a b less within = omega arith
@@ -254,3 +248,21 @@ module _ (d : DesignTree) (first : ℕ) (added : List Added) (u v : Bool) (same 
   pub first_at : (ids : Ids) (it : Iterates) (count : ℕ) → IsFirst d first added u ids it count →
       IsFirst d first added v ids it count
   first_at ids it count best = subst (λ (w : Bool). IsFirst d first added w ids it count) (sym same) best
+
+-- ---- the exact region, where other sets are forgotten
+holds_kept : (g h : Game) (set set' : StateSet) → h ≡ g → IsSame g.states set' set →
+    Holds g.states set (InRegion g) → Holds h.states set' (InRegion h)
+holds_kept g h set set' same one holds =
+    subst (λ (k : Game). Holds k.states set' (InRegion k)) (sym same)
+    (record {
+      only = λ s among here. holds.only s among (sym (one.same s among) ∙ here);
+      all = λ s among there. one.same s among ∙ holds.all s among there;
+    })
+
+pub region_kept : (g h k : Game) (a b c : Ids) (kept kept' : NodeId) → Stay a b → h ≡ g → k ≡ h → a.knows kept →
+    Is h.states c kept' (b.means kept) → Holds g.states (a.means kept) (InRegion g) →
+    Holds k.states (c.means kept') (InRegion k)
+region_kept g h k a b c kept kept' stay first second known is holds =
+    holds_kept h k (b.means kept) (c.means kept') second is.means
+    (subst (λ (q : Game). Holds q.states (b.means kept) (InRegion q)) (sym first)
+    (subst (λ (m : StateSet). Holds g.states m (InRegion g)) (sym (stay.same kept known)) holds))

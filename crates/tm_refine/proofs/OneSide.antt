@@ -21,7 +21,7 @@ use Rattle.tm_refine.specs.Parts.{TellCells, agree, alike, lower_game, upper_gam
 use Rattle.tm_refine.specs.PartLaws.{agree_is, is_agree, lower_below, upper_above}
 use Rattle.tm_game_pool.specs.Separating.{Separates}
 use Rattle.tm_refine.specs.Solved.{IsOut}
-use Rattle.tm_refine.specs.Searching.{Certifies, IsNamed, NoneOf}
+use Rattle.tm_refine.specs.Searching.{HasOwn, IsNamed, NoneOf}
 use Rattle.tm_solve.proofs.Joins.{and_left, and_right, and_both}
 use Rattle.tm_solve.proofs.LevelCertificates.{meets_environment}
 use Rattle.tm_solve.proofs.RankCertificates.{meets_move_form}
@@ -98,9 +98,9 @@ module _ (d : DesignTree) (ps : List Predicate) (separates : Separates d ps) whe
   }
 
   -- a side with a certificate has one over such cells
-  pub none_no_more : (upper : Bool) (ids : Ids) (it : Iterates) → NoneOf d ps upper → Certifies d upper ids it → ⊥
-  none_no_more true ids it none meets = none (levels_of ids it) (any_levels (levels_of ids it)) meets
-  none_no_more false ids it none meets = none (driver_sets ids it) (any_driver (driver_sets ids it)) meets
+  pub none_no_more : (upper : Bool) → NoneOf d ps upper → HasOwn d upper → ⊥
+  none_no_more true none own = none own.0 (any_levels own.0) own.1
+  none_no_more false none own = none own.0 (any_driver own.0) own.1
 
 not_both : (a : Bool) → a ≡ true → not a ≡ true → ⊥
 not_both true e f = cc
@@ -131,12 +131,12 @@ module _ {d : DesignTree} {op : Operator} {g : Game} (exact : IsGameOf d op g) (
     (separates : Separates d ps) (ids : Ids) (it : Iterates)
     (holds : Holds g.states (ids.means it.region) (InRegion g)) where
   pub named : (upper : Bool) → IsOut d (ids.means it.region) upper → RanksFit g (driver_sets ids it) →
-      LevelsFit g (ids.means it.region) (levels_of ids it) → IsNamed d upper ids it
+      LevelsFit g (ids.means it.region) (levels_of ids it) → IsNamed d upper
   named true out ranks levels = record {
     other = no_driver_at_all exact ps separates (ids.means it.region) holds out;
-    own = meets_environment (ids.means it.region) (levels_of ids it) exact levels out;
+    own = (levels_of ids it, meets_environment (ids.means it.region) (levels_of ids it) exact levels out);
   }
   named false all ranks levels = record {
     other = no_environment_at_all exact ps separates (ids.means it.region) holds all;
-    own = meets_move_form (driver_sets ids it) exact ranks all;
+    own = (driver_sets ids it, meets_move_form (driver_sets ids it) exact ranks all);
   }

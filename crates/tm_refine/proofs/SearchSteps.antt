@@ -13,7 +13,7 @@ use Rattle.tm_refine.specs.Numbers.{is_in, left_below}
 use Rattle.tm_game_pool.specs.Separating.{Separates, predicates_at}
 use Rattle.tm_refine.specs.Reasons.{TellsFirst}
 use Rattle.tm_abs.specs.Split.{IsCut}
-use Rattle.tm_refine.specs.Searching.{ArePairs, Certifies, IsOneMore, IsPair, IsParted, IsSearching, IsWon, NoneOf}
+use Rattle.tm_refine.specs.Searching.{ArePairs, HasOwn, IsOneMore, IsPair, IsParted, IsSearching, IsWon, NoneOf}
 use Rattle.tm_solve.proofs.Items.{get_below}
 use Rattle.tm_refine.proofs.Tracing.{is_new}
 use Rattle.tm_refine.proofs.DecideSteps.{not_in, room_more, room_less, step_tracked}
@@ -64,7 +64,7 @@ true_false true e f = cc
 true_false false e f = cc
 
 -- two states of a cell that a set cuts are apart
-parted_of_cut : (d : DesignTree) (predicates : List Predicate) (a : StateSet) (s t : StateData) →
+pub parted_of_cut : (d : DesignTree) (predicates : List Predicate) (a : StateSet) (s t : StateData) →
     IsCut d predicates a s t → IsParted d predicates s t
 parted_of_cut d predicates a s t cut = record {
   one = cut.inside_valid;
@@ -86,11 +86,11 @@ module _ (d : DesignTree) (ks js : List ℕ) (same : ks ≡ js) where
   apart_parted s t parted = subst (λ (l : List ℕ). IsParted d (predicates_at (pool d) l) s t) same parted
 
   -- where cells are points a side with a certificate does not fail
-  pub points_end : (upper : Bool) (ids : Ids) (it : Iterates) → Separates d (predicates_at (pool d) ks) →
-      NoneOf d (predicates_at (pool d) js) upper → Certifies d upper ids it → ⊥
-  points_end upper ids it points none own =
+  pub points_end : (upper : Bool) → Separates d (predicates_at (pool d) ks) →
+      NoneOf d (predicates_at (pool d) js) upper → HasOwn d upper → ⊥
+  points_end upper points none own =
       none_no_more d (predicates_at (pool d) js)
-      (subst (λ (l : List ℕ). Separates d (predicates_at (pool d) l)) same points) upper ids it none own
+      (subst (λ (l : List ℕ). Separates d (predicates_at (pool d) l)) same points) upper none own
 
 -- ---- one predicate more
 module _ (of : DesignTree → Type 0) (left right : StateData) (ks js : List ℕ) (xs ys : List Added)

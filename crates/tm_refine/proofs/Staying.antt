@@ -1,7 +1,8 @@
 -- Where the driver stays in a set it is not forced out.
 use Rattle.std.proofs.Common.{◌≡◌, Bool, true, false, not, refl}
 use Rattle.tm_syntax.specs.Design.{DesignTree}
-use Rattle.tm_sem.specs.State.{StateData, Move}
+use Rattle.tm_sem.specs.State.{StateData}
+use Rattle.tm_sem.specs.declared.state.Move.{Move}
 use Rattle.tm_sem.specs.Step.{IsState}
 use Rattle.tm_sem.specs.Forcing.{Leads, errs, lands, Forced, by_environment, by_driver, Keeps, Stays}
 use Rattle.tm_sem.specs.Certificates.{IsIn}

@@ -30,6 +30,11 @@ abbrev pub NoOther : DesignTree → Bool → Type 0
 NoOther d true = (c : DriverSets) → ¬ MeetsMoveForm d c
 NoOther d false = (levels : List Level) → ¬ MeetsEnvironment d levels
 
+-- some sets are a certificate of a side
+abbrev pub HasOwn : DesignTree → Bool → Type 0
+HasOwn d true = (levels : List Level) × MeetsEnvironment d levels
+HasOwn d false = (c : DriverSets) × MeetsMoveForm d c
+
 -- a solution is a certificate of a side
 abbrev pub Certifies : DesignTree → Bool → Ids → Iterates → Type 0
 Certifies d true ids it = MeetsEnvironment d (levels_of ids it)
@@ -40,10 +45,10 @@ abbrev pub AreUnions : DesignTree → List Predicate → Bool → Ids → Iterat
 AreUnions d predicates true ids it = AreLevelUnions d predicates (levels_of ids it)
 AreUnions d predicates false ids it = AreDriverUnions d predicates (driver_sets ids it)
 
--- the exact game names the side that wins: a solution is its certificate, and the other side has none
-pub record IsNamed (d : DesignTree) (upper : Bool) (ids : Ids) (it : Iterates) : Type 0 where
+-- a side wins: it has a certificate, and the other side has none
+pub record IsNamed (d : DesignTree) (upper : Bool) : Type 0 where
   pub other : NoOther d upper
-  pub own : Certifies d upper ids it
+  pub own : HasOwn d upper
 
 -- a solution over cells is a certificate
 pub record IsWon (d : DesignTree) (predicates : List Predicate) (upper : Bool) (ids : Ids) (it : Iterates) : Type 0

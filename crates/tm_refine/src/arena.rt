@@ -30,8 +30,8 @@ use tm_solve::Iterates;
 /// A game with a pool of predicates: its exact step operator, and the parts of its sets over the cells of predicates.
 ///
 /// Predicates are named by their numbers in the pool; a number that the pool does not have names none. No call changes
-/// the game, its designs or its predicates, and after each call, also one that is refused, every known id means what it
-/// meant.
+/// the game, its designs or its predicates, and after each call but `forget`, also one that is refused, every known id
+/// means what it meant.
 pub trait Arena {
     /// The valid states, the numbers of goals and fairness conditions, and the exact step operator.
     ghost game: { Self → Game };
@@ -161,6 +161,14 @@ pub trait Arena {
     /// A known set that was cut while the last solution was sought, if there is one.
     fn hint(&self) -> NodeId
         ensures known { (ids self.now).knows result };
+
+    /// Forgets all sets but one, where there are many more than after the last such call, and answers the id of that one
+    /// then. Ids that were known before may mean nothing any more.
+    fn forget(&mut self, set: NodeId) -> Result<NodeId, AllocError>
+        requires set_known { (ids self.old).knows set }
+        ensures value { IfOk result (λ id. Is (game self.old).states (ids self.new) id ((ids self.old).means set)) }
+        ensures designs { (d : DesignTree) → (ids self.old).of d → (ids self.new).of d }
+        ensures game { game self.new ≡ game self.old };
 
     /// What `solve` gives of the exact game.
     fn solve_exact(&mut self, alloc: Global) -> Result<Iterates, AllocError>

@@ -38,8 +38,8 @@ pub fn decide<A: Arena>(
     let first = sided.arena.first();
     sided.tracked = numbers_below(alloc, first)?;
     let mut added = Vec::new(alloc);
-    let won = widen(alloc, sided, &mut added, &whole)?;
-    let best = narrow(alloc, sided, first, &added, whole.region, won)?;
+    let won = widen(alloc, sided, &mut added, whole.region)?;
+    let best = narrow(alloc, sided, first, &added, won)?;
     Ok(finish(sided, first, added, best, budget))
 }
 

@@ -2,16 +2,25 @@
 //! trace of why each was added.
 #![tactic(auto)]
 
+mod apart;
 mod arena;
 mod deciding;
+mod forgetting;
 mod narrowing;
 mod numbers;
+mod parts;
+mod pooled;
+mod pooled_arena;
+mod pooled_pre;
 mod searching;
+mod sets;
 mod sided;
 mod solving;
+mod telling;
 mod trace;
 
 pub use arena::Arena;
 pub use deciding::decide;
+pub use pooled::Pooled;
 pub use sided::Sided;
 pub use trace::{Added, Decision, Trace};

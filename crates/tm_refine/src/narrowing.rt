@@ -19,6 +19,8 @@ use tm_solve::Iterates;
 #[derive(Drop)]
 pub(crate) struct Won {
     pub it: Iterates,
+    /// The exact region.
+    pub region: NodeId,
     /// The side fails over each prefix shorter than this.
     pub count: usize,
 }
@@ -28,13 +30,13 @@ pub(crate) fn widen<A: Arena>(
     alloc: Global,
     sided: &mut Sided<A>,
     added: &mut Vec<Added>,
-    whole: &Iterates,
+    region: NodeId,
 ) -> Result<Won, AllocError>
     requires named { (d : DesignTree) × (A.ids sided.old.arena).of d
-        × IsNamed d sided.old.upper (A.ids sided.old.arena) whole.now
+        × IsNamed d sided.old.upper
         × (first : ℕ) × IsSearching d first sided.old.tracked.items [] }
-    requires known { KnowsAll (A.ids sided.old.arena) whole.now }
-    requires holds { Holds (A.game sided.old.arena).states ((A.ids sided.old.arena).means whole.now.region)
+    requires region_known { (A.ids sided.old.arena).knows region }
+    requires holds { Holds (A.game sided.old.arena).states ((A.ids sided.old.arena).means region)
         (InRegion (A.game sided.old.arena)) }
     requires empty { added.old.items ≡ [] }
     ensures searching { IfOk result (λ w. (d : DesignTree) (first : ℕ) → (A.ids sided.old.arena).of d
@@ -46,17 +48,25 @@ pub(crate) fn widen<A: Arena>(
         (A.ids sided.new.arena) w.it (length added.new.items)) }
     ensures within { IfOk result (λ w. w.count ≤ length added.new.items) }
     ensures known { IfOk result (λ w. KnowsAll (A.ids sided.new.arena) w.it) }
+    ensures region_known { IfOk result (λ w. (A.ids sided.new.arena).knows w.region) }
+    ensures holds { IfOk result (λ w. Holds (A.game sided.new.arena).states ((A.ids sided.new.arena).means w.region)
+        (InRegion (A.game sided.new.arena))) }
     ensures side { sided.new.upper ≡ sided.old.upper }
-    ensures game { A.game sided.new.arena ≡ A.game sided.old.arena }
-    ensures stay { Stay (A.ids sided.old.arena) (A.ids sided.new.arena) }
+    ensures designs { (d : DesignTree) → (A.ids sided.old.arena).of d → (A.ids sided.new.arena).of d }
 {
     let mut count = 0;
+    let mut kept = region;
     'fails: loop {
-        if let Some(it) = solve_side(alloc, sided, whole.region)? {
-            return Ok(Won { it, count });
+        if let Some(it) = solve_side(alloc, sided, kept)? {
+            return Ok(Won {
+                it,
+                region: kept,
+                count,
+            });
         }
         count = added.len() + 1;
-        cut(sided, added, whole)?;
+        cut(sided, added, kept)?;
+        kept = sided.arena.forget(kept)?;
     }
 }
 
@@ -66,11 +76,10 @@ pub(crate) fn narrow<A: Arena>(
     sided: &mut Sided<A>,
     first: u32,
     added: &[Added],
-    region: NodeId,
     won: Won,
 ) -> Result<Won, AllocError>
-    requires region_known { (A.ids sided.old.arena).knows region }
-    requires holds { Holds (A.game sided.old.arena).states ((A.ids sided.old.arena).means region)
+    requires region_known { (A.ids sided.old.arena).knows won.region }
+    requires holds { Holds (A.game sided.old.arena).states ((A.ids sided.old.arena).means won.region)
         (InRegion (A.game sided.old.arena)) }
     requires within { won.count ≤ length added.now }
     requires known { KnowsAll (A.ids sided.old.arena) won.it }
@@ -85,6 +94,7 @@ pub(crate) fn narrow<A: Arena>(
 {
     let mut low = won.count;
     let mut high = added.len();
+    let region = won.region;
     let mut it = won.it;
     let mut step = 1;
     'tries: while low < high {
@@ -102,5 +112,9 @@ pub(crate) fn narrow<A: Arena>(
             }
         }
     }
-    Ok(Won { it, count: high })
+    Ok(Won {
+        it,
+        region,
+        count: high,
+    })
 }

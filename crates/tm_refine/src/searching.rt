@@ -129,11 +129,11 @@ pub(crate) fn cut_by_either<A: Arena>(
 }
 
 // Adds at least one predicate where a side fails over cells that wins over some.
-pub(crate) fn cut<A: Arena>(sided: &mut Sided<A>, added: &mut Vec<Added>, whole: &Iterates) -> Result<(), AllocError>
+pub(crate) fn cut<A: Arena>(sided: &mut Sided<A>, added: &mut Vec<Added>, region: NodeId) -> Result<(), AllocError>
     requires failed { (d : DesignTree) × (A.ids sided.old.arena).of d
-        × IsNamed d sided.old.upper (A.ids sided.old.arena) whole.now
+        × IsNamed d sided.old.upper
         × NoneOf d (predicates_at (pool d) sided.old.tracked.items) sided.old.upper }
-    requires known { KnowsAll (A.ids sided.old.arena) whole.now }
+    requires region_known { (A.ids sided.old.arena).knows region }
     ensures searching { IfOk result (λ u. (d : DesignTree) (first : ℕ) → (A.ids sided.old.arena).of d
         → IsSearching d first sided.old.tracked.items added.old.items
         → IsSearching d first sided.new.tracked.items added.new.items) }
@@ -145,7 +145,7 @@ pub(crate) fn cut<A: Arena>(sided: &mut Sided<A>, added: &mut Vec<Added>, whole:
 {
     let count = added.len();
     let hint = sided.arena.hint();
-    cut_by_either(sided, added, hint, whole.region)?;
+    cut_by_either(sided, added, hint, region)?;
     if added.len() > count {
         return Ok(());
     }

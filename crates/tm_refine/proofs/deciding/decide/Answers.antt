@@ -1,8 +1,7 @@
-use Rattle.std.proofs.Common.{length, ◌∙◌, refl, arith}
+use Rattle.std.proofs.Common.{length, ◌∙◌, arith}
 use Rattle.tm_flat_pool.specs.Predicates.{pool}
 use Rattle.tm_refine.proofs.OneSide.{named}
-use Rattle.tm_refine.proofs.SearchSteps.{stay_of}
-use Rattle.tm_refine.proofs.NarrowSteps.{failed_at, first_at, known_still, named_still, other_at, searching_first, won_at}
+use Rattle.tm_refine.proofs.NarrowSteps.{failed_at, first_at, other_at, searching_first, won_at}
 use Rattle.tm_refine.proofs.deciding.decide.Goals as goal
 
 pub widen-requires-clause-named : goal.widen-requires-clause-named
@@ -16,21 +15,17 @@ widen-requires-clause-named g c =
     let below = c.first-first.ensures.below in (
       d,
       there,
-      named_still d c.in_ok-sided.field-0 c.in_ok-sided.field-0 (g.A.Arena.ids c.solve_exact.new.self)
-          (g.A.Arena.ids c.leaves_out.new.self) c.in_ok-whole.whole refl (stay_of c.leaves_out.ensures.follows)
-          c.in_ok-whole.ensures.known
-          (named exact.1 (pool d) (g.met.A.Arena.separates c.args.sided.now.arena d of)
+      named exact.1 (pool d) (g.met.A.Arena.separates c.args.sided.now.arena d of)
           (g.A.Arena.ids c.solve_exact.new.self) c.in_ok-whole.whole c.in_ok-whole.ensures.region
           c.in_ok-sided.field-0 (c.in_ok-sided.ensures.out d solved) c.in_ok-whole.ensures.ranks
-          c.in_ok-whole.ensures.levels),
+          c.in_ok-whole.ensures.levels,
       c.first-first.result,
       searching_first d c.first-first.result c.in_ok-sided-2.field-0.items c.in_ok-sided-2.ensures (omega arith),
     )
 
-pub widen-requires-clause-known : goal.widen-requires-clause-known
-widen-requires-clause-known g c =
-    known_still (g.A.Arena.ids c.solve_exact.new.self) (g.A.Arena.ids c.leaves_out.new.self) c.in_ok-whole.whole
-    (stay_of c.leaves_out.ensures.follows) c.in_ok-whole.ensures.known
+pub widen-requires-clause-region_known : goal.widen-requires-clause-region_known
+widen-requires-clause-region_known g c =
+    c.leaves_out.ensures.follows.extends.known c.in_ok-whole.whole.region c.in_ok-whole.ensures.known.region
 
 pub returns-clause-decided : goal.returns-clause-decided
 returns-clause-decided g c = λ d of.
@@ -46,7 +41,7 @@ returns-clause-decided g c = λ d of.
       let side = named exact.1 (pool d) (g.met.A.Arena.separates c.args.sided.now.arena d of)
       (g.A.Arena.ids c.solve_exact.new.self) c.in_ok-whole.whole c.in_ok-whole.ensures.region upper
       (c.in_ok-sided.ensures.out d solved) c.in_ok-whole.ensures.ranks c.in_ok-whole.ensures.levels in
-      let best = c.in_ok-best.ensures.first d (c.widen.ensures.stay.of d there)
+      let best = c.in_ok-best.ensures.first d (c.widen.ensures.designs d there)
       (failed_at d first added upper c.widen.new.sided.upper c.widen.ensures.side c.in_ok-won.won.count
       (c.in_ok-won.ensures.failed d first there begun))
       (won_at d first added upper c.widen.new.sided.upper c.widen.ensures.side

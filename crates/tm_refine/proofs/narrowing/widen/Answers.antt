@@ -2,7 +2,7 @@ use Rattle.std.proofs.Common.{◌≡◌, ◌+◌, length, ◌∙◌, ℕ, sym, s
 use Rattle.tm_refine.specs.Searching.{AreFailed}
 use Rattle.tm_refine.proofs.RoundSides.{of_none, of_some}
 use Rattle.tm_refine.proofs.SearchSteps.{stay_then}
-use Rattle.tm_refine.proofs.NarrowSteps.{count_smaller, failed_whole, known_still, named_still, none_at, searching_at, searching_fits, won_whole}
+use Rattle.tm_refine.proofs.NarrowSteps.{region_kept, count_smaller, failed_whole, named_at, none_at, searching_at, searching_fits, won_whole}
 use Rattle.tm_refine.proofs.narrowing.widen.Goals as goal
 
 pub returns-in-Some-clause-searching : goal.returns-in-Some-clause-searching
@@ -15,27 +15,31 @@ returns-in-Some-clause-won g c = λ d first of s.
     let inv = c.fails.invariant in
     won_whole d first c.fails.sided.tracked.items c.fails.added.items c.fails.sided.upper c.args.sided.now.upper
     (g.A.Arena.ids c.solve_side.new.sided.arena) c.in-Some.it (inv.searching d first of s) inv.side
-    (of_some c.in_ok-it.field-0 _ _ c.in-Some.it (c.in_ok-it.ensures.found d (inv.stay.of d of)) c.in-Some.is)
+    (of_some c.in_ok-it.field-0 _ _ c.in-Some.it (c.in_ok-it.ensures.found d (inv.of d of)) c.in-Some.is)
 
 pub cut-requires-clause-failed : goal.cut-requires-clause-failed
 cut-requires-clause-failed g c =
     let inv = c.fails.invariant in
     let d = c.requires.named.0 in
-    let now = inv.stay.of d c.requires.named.1 in (
+    let now = inv.of d c.requires.named.1 in (
       d,
       c.solve_side.ensures.stay.of d now,
-      named_still d c.args.sided.now.upper c.solve_side.new.sided.upper (g.A.Arena.ids c.args.sided.now.arena)
-          (g.A.Arena.ids c.solve_side.new.sided.arena) c.args.whole.now (c.solve_side.ensures.side ∙ inv.side)
-          (stay_then inv.stay c.solve_side.ensures.stay) c.requires.known c.requires.named.2,
+      named_at d c.args.sided.now.upper c.solve_side.new.sided.upper (c.solve_side.ensures.side ∙ inv.side)
+          c.requires.named.2,
       none_at d c.fails.sided.tracked.items c.solve_side.new.sided.tracked.items c.fails.sided.upper
           c.solve_side.new.sided.upper c.solve_side.ensures.tracked c.solve_side.ensures.side
           (of_none c.in_ok-it.field-0 _ _ (c.in_ok-it.ensures.found d now) c.in_default.not-Some),
     )
 
-pub cut-requires-clause-known : goal.cut-requires-clause-known
-cut-requires-clause-known g c =
-    known_still (g.A.Arena.ids c.args.sided.now.arena) (g.A.Arena.ids c.solve_side.new.sided.arena) c.args.whole.now
-    (stay_then c.fails.invariant.stay c.solve_side.ensures.stay) c.requires.known
+pub cut-requires-clause-region_known : goal.cut-requires-clause-region_known
+cut-requires-clause-region_known g c =
+    c.solve_side.ensures.stay.known c.fails.kept c.fails.invariant.known
+
+pub forget-requires : goal.forget-requires
+forget-requires g c = record {
+  set_known = c.cut.ensures.stay.known c.fails.kept
+      (c.solve_side.ensures.stay.known c.fails.kept c.fails.invariant.known);
+}
 
 pub fails-smaller : goal.fails-smaller
 fails-smaller g c =
@@ -43,7 +47,7 @@ fails-smaller g c =
     let d = c.requires.named.0 in
     let of = c.requires.named.1 in
     let first = c.requires.named.3 in
-    let there = c.in_ok-cut.ensures.searching d first (c.solve_side.ensures.stay.of d (inv.stay.of d of))
+    let there = c.in_ok-cut.ensures.searching d first (c.solve_side.ensures.stay.of d (inv.of d of))
     (searching_at d first c.fails.sided.tracked.items c.solve_side.new.sided.tracked.items c.fails.added.items
     c.solve_side.ensures.tracked (inv.searching d first of c.requires.named.4)) in
     let fits = searching_fits d first c.cut.new.sided.tracked.items c.cut.new.added.items there in
@@ -56,18 +60,25 @@ fails-preserved g c =
     let inv = c.fails.invariant in
     let e : c.len-count.result ≡ length c.fails.added.items = let a = c.len-count.ensures in omega arith in
     record {
-      stay = stay_then inv.stay (stay_then c.solve_side.ensures.stay c.cut.ensures.stay);
-      game = c.cut.ensures.game ∙ c.solve_side.ensures.game ∙ inv.game;
+      of = λ d of.
+          c.forget.ensures.designs d (c.cut.ensures.stay.of d (c.solve_side.ensures.stay.of d (inv.of d of)));
+      game = c.forget.ensures.game ∙ c.cut.ensures.game ∙ c.solve_side.ensures.game ∙ inv.game;
+      known = c.in_ok-kept.ensures.value.known;
+      holds = region_kept (g.A.Arena.game c.fails.sided.arena) (g.A.Arena.game c.cut.new.sided.arena)
+          (g.A.Arena.game c.forget.new.self) (g.A.Arena.ids c.fails.sided.arena)
+          (g.A.Arena.ids c.cut.new.sided.arena) (g.A.Arena.ids c.forget.new.self) c.fails.kept c.in_ok-kept.field-0
+          (stay_then c.solve_side.ensures.stay c.cut.ensures.stay) (c.cut.ensures.game ∙ c.solve_side.ensures.game)
+          c.forget.ensures.game inv.known c.in_ok-kept.ensures.value inv.holds;
       side = c.cut.ensures.side ∙ c.solve_side.ensures.side ∙ inv.side;
       searching = λ d first of s.
-          c.in_ok-cut.ensures.searching d first (c.solve_side.ensures.stay.of d (inv.stay.of d of))
+          c.in_ok-cut.ensures.searching d first (c.solve_side.ensures.stay.of d (inv.of d of))
           (searching_at d first c.fails.sided.tracked.items c.solve_side.new.sided.tracked.items c.fails.added.items
           c.solve_side.ensures.tracked (inv.searching d first of s));
       failed = λ d first of s.
           subst (λ (n : ℕ). AreFailed d first c.cut.new.added.items c.args.sided.now.upper (n + 1)) (sym e)
           (failed_whole d first c.fails.sided.tracked.items c.fails.added.items c.cut.new.added.items
           c.fails.sided.upper c.args.sided.now.upper (inv.searching d first of s) inv.side
-          (of_none c.in_ok-it.field-0 _ _ (c.in_ok-it.ensures.found d (inv.stay.of d of)) c.in_default.not-Some)
+          (of_none c.in_ok-it.field-0 _ _ (c.in_ok-it.ensures.found d (inv.of d of)) c.in_default.not-Some)
           c.in_ok-cut.ensures.longer);
       within = let b = c.in_ok-cut.ensures.more in omega arith;
     }

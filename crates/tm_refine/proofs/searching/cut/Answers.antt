@@ -13,7 +13,7 @@ unreachable-requires g c =
     let same = c.in_ok-cut_by_either.ensures.same
     (same_length c.args.added.now.items c.cut_by_either.new.added.items c.in_ok-cut_by_either.ensures.longer less) in
     points_end d c.as_slice.result.now c.args.sided.now.tracked.items (c.as_slice.ensures.value ∙ same)
-    c.args.sided.now.upper (g.A.Arena.ids c.args.sided.now.arena) c.args.whole.now
+    c.args.sided.now.upper
     (of_none c.in_ok-pair.field-0 _ _ (c.in_ok-pair.ensures.apart d now) c.in_default.not-Some) c.requires.failed.3
     c.requires.failed.2.own
 
