@@ -253,16 +253,20 @@ module _ (d : DesignTree) (first : ℕ) (added : List Added) (u v : Bool) (same 
 holds_kept : (g h : Game) (set set' : StateSet) → h ≡ g → IsSame g.states set' set →
     Holds g.states set (InRegion g) → Holds h.states set' (InRegion h)
 holds_kept g h set set' same one holds =
-    subst (λ (k : Game). Holds k.states set' (InRegion k)) (sym same)
-    (record {
+    let there : Holds g.states set' (InRegion g) = record {
       only = λ s among here. holds.only s among (sym (one.same s among) ∙ here);
-      all = λ s among there. one.same s among ∙ holds.all s among there;
-    })
+      all = λ s among here. one.same s among ∙ holds.all s among here;
+    } in
+    subst (λ (k : Game). Holds k.states set' (InRegion k)) (sym same) there
+
+pub region_same : (g h : Game) (a b : Ids) (kept : NodeId) → Stay a b → h ≡ g → a.knows kept →
+    Holds g.states (a.means kept) (InRegion g) → Holds h.states (b.means kept) (InRegion h)
+region_same g h a b kept stay game known holds =
+    subst (λ (q : Game). Holds q.states (b.means kept) (InRegion q)) (sym game)
+    (subst (λ (m : StateSet). Holds g.states m (InRegion g)) (sym (stay.same kept known)) holds)
 
 pub region_kept : (g h k : Game) (a b c : Ids) (kept kept' : NodeId) → Stay a b → h ≡ g → k ≡ h → a.knows kept →
     Is h.states c kept' (b.means kept) → Holds g.states (a.means kept) (InRegion g) →
     Holds k.states (c.means kept') (InRegion k)
 region_kept g h k a b c kept kept' stay first second known is holds =
-    holds_kept h k (b.means kept) (c.means kept') second is.means
-    (subst (λ (q : Game). Holds q.states (b.means kept) (InRegion q)) (sym first)
-    (subst (λ (m : StateSet). Holds g.states m (InRegion g)) (sym (stay.same kept known)) holds))
+    holds_kept h k (b.means kept) (c.means kept') second is.means (region_same g h a b kept stay first known holds)

@@ -1,5 +1,6 @@
 -- A game with its pool whose diagrams were copied is the same game of the same designs.
-use Rattle.std.proofs.Common.{◌≡◌, inl, inr, ℕ, ◌<◌, List, length, get_or, sym, ap, ◌∙◌, subst, arith}
+use Rattle.std.proofs.Common.{◌≡◌, inl, inr, ℕ, ◌<◌, List, [], ◌∷◌, length, get_or, Result, Ok, Err, refl, sym, ap, ◌∙◌, subst, arith}
+use Rattle.std.specs.Prelude.{OnErr, OnOk}
 use Rattle.std.proofs.Math.Logic.{∥∥₁_elim}
 use Rattle.std.proofs.lemmas.Bool.{cases_lt}
 use Rattle.std.proofs.lemmas.List.{get_or_past}
@@ -14,7 +15,8 @@ use Rattle.tm_game.specs.Game.{GameData, IsOf}
 use Rattle.tm_game_bits.specs.Functions.{Function, outside}
 use Rattle.tm_game_bits.specs.States.{ReadsState}
 use Rattle.tm_game_pool.proofs.Pooled.{pool_copied}
-use Rattle.tm_refine.specs.Pooled.{CanBeDecided, CanDecide, pool_ids}
+use Rattle.tm_refine.specs.Pooled.{CanBeDecided, CanDecide, Forgets, pool_ids}
+use Rattle.tm_refine.proofs.PoolKeeps.{design_of}
 use Rattle.tm_solve.specs.Ids.{Is}
 use Rattle.tm_solve.specs.Operator.{game_of}
 use Rattle.tm_solve_exact.specs.Bits.{functions_in}
@@ -95,3 +97,40 @@ module _ (g h : GameData) (copied : IsCopied g h) where
         };
         means = record { same = λ s among i. same i ((code i).assignment_of s) };
       }
+
+-- a copy that was made, or refused
+module _ (g h : GameData) (can : CanBeDecided g) (tells : (d : DesignTree) → IsOf d h → IsExactOf d h)
+    (of : (d : DesignTree) → IsOf d g → IsOf d h) where
+  pub forgets_of : {X Y : Type 0} (r : Result X Y) → OnOk r (IsCopied g h) → OnErr r (h ≡ g) → Forgets g h
+  forgets_of (Ok x) copied refused = record {
+    game = game_copied g h copied;
+    designs = decide_copied g h copied tells of;
+    can = can_copied g h copied tells of can;
+    of = design_of h (can_copied g h copied tells of can);
+    goals = copied.goals.as_many;
+    fairs = copied.fairs.as_many;
+  }
+  forgets_of (Err e) copied refused =
+      let same : Forgets g g = record {
+        game = refl;
+        designs = λ d decided. decided;
+        can = can;
+        of = design_of g can;
+        goals = refl;
+        fairs = refl;
+      } in
+      subst (λ (k : GameData). Forgets g k) (sym refused) same
+
+-- the id of the set that was copied
+pub root_copied : {X Y : Type 0} (g h : GameData) (set id : NodeId) (r : Result X Y) (x : X)
+    (olds news : List NodeId) → OnOk r (IsCopied g h) →
+    OnOk r (MeanTheSame g.diagrams.table olds h.diagrams.table news) → r ≡ Ok x → olds ≡ set ∷ [] →
+    id ≡ get_or news 0 id → IsStateSet g set → Is (exact_game g).states (pool_ids h) id (set_of g set)
+root_copied g h set id r x olds news copied same is one here known =
+    let done : IsCopied g h = subst (λ (q : Result _ _). OnOk q (IsCopied g h)) is copied in
+    let means_so : MeanTheSame g.diagrams.table (set ∷ []) h.diagrams.table news =
+    subst (λ (xs : List NodeId). MeanTheSame g.diagrams.table xs h.diagrams.table news) one
+    (subst (λ (q : Result _ _). OnOk q (MeanTheSame g.diagrams.table olds h.diagrams.table news)) is same) in
+    set_copied g h done set id known
+    (subst (λ (k : NodeId). IsFunction h.diagrams.table k (means g.diagrams.table set)) (sym here)
+    (means_so.functions 0 id (omega arith)))

@@ -1,20 +1,23 @@
 -- What a call leaves of a game with its pool.
-use Rattle.std.proofs.Common.{◌≡◌, ◌-◌, ◌<◌, List, length, sym, ◌∙◌, subst}
+use Rattle.std.proofs.Common.{◌≡◌, ◌⊎◌, inl, inr, ℕ, ◌<◌, ◌≤◌, List, Option, Some, None, length, sym, ap, ◌∙◌, subst, arith}
 use Rattle.std.proofs.Math.Logic.{∥∥₁_elim}
 use Rattle.std.proofs.Props.{props}
 use Rattle.tm_abs.specs.Tracked.{HasPooled, IsPooled}
 use Rattle.tm_dd.specs.declared.node.NodeId.{NodeId}
 use Rattle.tm_dd.specs.Reduced.{IsReduced}
+use Rattle.tm_flat.specs.Flat.{FlatTerms, flat_terms}
+use Rattle.tm_flat.specs.declared.flat.Flat.{Flat}
 use Rattle.tm_game.specs.Game.{GameData, Grows}
 use Rattle.tm_game.proofs.Growing.{grows_none, grows_then}
+use Rattle.tm_game_pool.proofs.Claims.{first_within}
 use Rattle.tm_game_pool.proofs.Pooled.{pool_grown}
 use Rattle.tm_refine.specs.Pooled.{CanBeDecided, CanDecide, Keeps, pool_ids, tests_of}
-use Rattle.tm_refine.specs.PoolTests.{tests_kept}
+use Rattle.tm_refine.specs.PoolTests.{pool_long, tests_kept}
 use Rattle.tm_sem.specs.State.{StateData}
 use Rattle.tm_solve.specs.Ids.{Follows, Is}
 use Rattle.tm_solve.specs.Sets.{StateSet}
 use Rattle.tm_solve.proofs.Following.{follows_then}
-use Rattle.tm_solve_exact.specs.Exact.{HasDesign, exact_game, exact_ids}
+use Rattle.tm_solve_exact.specs.Exact.{HasDesign, IsStateSet, exact_game, exact_ids}
 use Rattle.tm_solve_exact.proofs.Growing.{kept_exact}
 use Rattle.tm_solve_exact.proofs.Truncated.{follows_any}
 use Rattle.tm_syntax.specs.Design.{DesignTree}
@@ -89,3 +92,35 @@ keeps_then g h k a b = record {
 pub is_pooled : (n : List StateData) (h : GameData) (id : NodeId) (set : StateSet) → Is n (exact_ids h) id set →
     Is n (pool_ids h) id set
 is_pooled n h id set is = record { known = is.known; means = is.means }
+
+-- the first predicates are of the pool
+first_within_pool : (g : GameData) → CanBeDecided g → g.flat.first ≤ length g.flat.pool
+first_within_pool g can =
+    ∥∥₁_elim can (hlevel props)
+    (λ x. omega (arith, first_within x.0, x.1.pool.first, pool_long x.0 g x.1.pool))
+
+pub first_fits : (g : GameData) → CanBeDecided g → (f : Flat) → flat_terms f ≡ g.flat →
+    f.first ≤ length g.flat.pool
+first_fits g can f same =
+    subst (λ (n : ℕ). n ≤ length g.flat.pool) (sym (ap (λ (t : FlatTerms). t.first) same)) (first_within_pool g can)
+
+-- ---- the set that was cut first
+abbrev pub HintKnown : GameData → Option NodeId → Type 0
+HintKnown g hint = ∥ ((id : NodeId) → hint ≡ Some id → IsStateSet g id) ∥₁
+
+pub hint_kept : (g h : GameData) (hint : Option NodeId) → Keeps g h → HintKnown g hint → HintKnown h hint
+hint_kept g h hint kept known =
+    ∥∥₁_elim known (squash₁) (λ each. ∣ (λ id e. kept.follows.extends.known id (each id e)) ∣₁)
+
+pub hint_none : (g : GameData) → HintKnown g None
+hint_none g = ∣ (λ id e. absurd (cc)) ∣₁
+
+pub hint_noted : (g h : GameData) (hint noted : Option NodeId) (set : NodeId) → Keeps g h → HintKnown g hint →
+    IsStateSet g set → ((id : NodeId) → noted ≡ Some id → (hint ≡ Some id) ⊎ (set ≡ id)) → HintKnown h noted
+hint_noted g h hint noted set kept known here which =
+    ∥∥₁_elim known (squash₁) (λ each. ∣ (λ id e. kept.follows.extends.known id (by each id (which id e))) ∣₁)
+  where
+    by : ((id : NodeId) → hint ≡ Some id → IsStateSet g id) → (id : NodeId) → (hint ≡ Some id) ⊎ (set ≡ id) →
+        IsStateSet g id
+    by each id (inl e) = each id e
+    by each id (inr e) = subst (λ (x : NodeId). IsStateSet g x) e here

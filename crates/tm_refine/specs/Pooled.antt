@@ -1,6 +1,6 @@
 -- The game of a design with its pool, as it is decided over predicates.
 -- d a design, g and h the data of a game, ks numbers of predicates.
-use Rattle.std.specs.Prelude.{◌≡◌, ℕ, ◌==◌, List, map, replicate}
+use Rattle.std.specs.Prelude.{◌≡◌, ℕ, ◌==◌, List, length, map, replicate}
 use Rattle.tm_flat.specs.Inputs.{input_values, room}
 use Rattle.tm_game.specs.Game.{GameData, Grows}
 use Rattle.tm_game_pool.specs.Pooled.{HasPool}
@@ -52,3 +52,12 @@ pub record Keeps (g h : GameData) : Type 0 where
   pub can : CanBeDecided h
   pub of : HasDesign h
   pub grows : Grows g h
+
+-- what is left of a game that is decided where sets are forgotten
+pub record Forgets (g h : GameData) : Type 0 where
+  pub game : exact_game h ≡ exact_game g
+  pub designs : (d : DesignTree) → CanDecide d g → CanDecide d h
+  pub can : CanBeDecided h
+  pub of : HasDesign h
+  pub goals : length h.goals ≡ length g.goals
+  pub fairs : length h.fairs ≡ length g.fairs

@@ -2,12 +2,12 @@
 //! trace of why each was added.
 #![tactic(auto)]
 
-mod apart;
 mod arena;
 mod deciding;
 mod forgetting;
 mod narrowing;
 mod numbers;
+mod parting;
 mod parts;
 mod pooled;
 mod pooled_arena;

@@ -1,6 +1,6 @@
 //! The parts of sets over the cells of tracked predicates, and states of one cell.
 ghost use Rattle.std.specs.List.{filter};
-ghost use Rattle.std.specs.Prelude.{◌≡◌, ◌++◌, ◌∷◌, [], IfOk, MatchOption, OnOk, is_some, nat_lt};
+ghost use Rattle.std.specs.Prelude.{◌≡◌, ◌++◌, ◌∷◌, [], IfOk, MatchOption, OnOk, nat_lt};
 ghost use Rattle.tm_abs.specs.Split.{IsCut, PartsAreOne};
 ghost use Rattle.tm_abs.specs.Tracked.{AreInPool};
 ghost use Rattle.tm_flat_pool.specs.Predicates.{pool};
@@ -64,10 +64,9 @@ pub(crate) fn side(
     tell(game);
     let cells = cells_of(alloc, tracked, game.flat().pool.len())?;
     if upper {
-        upper_part(alloc, game, &cells, set)
-    } else {
-        lower_part(alloc, game, &cells, set)
+        return upper_part(alloc, game, &cells, set);
     }
+    lower_part(alloc, game, &cells, set)
 }
 
 // The cells that meet a set.
@@ -117,22 +116,22 @@ pub(crate) fn leaves_out(game: &mut Game, set: NodeId) -> Result<bool, AllocErro
     ensures out { IfOk result (λ b. (d : DesignTree) → CanDecide d game.old → IsOut d (set_of game.old set) b) }
     ensures kept { Keeps game.old game.new }
 {
-    let found = initial_outside(game, set);
+    let out = has_initial_outside(game, set);
     tell(game);
-    Ok(found?.is_some())
+    out
 }
 
-// An initial state outside of a set.
-fn initial_outside(game: &mut Game, set: NodeId) -> Result<Option<State>, AllocError>
+// Whether an initial state is outside of a set.
+fn has_initial_outside(game: &mut Game, set: NodeId) -> Result<bool, AllocError>
     requires can { CanBeDecided game.old }
     requires set { IsStateSet game.old set }
-    ensures found { IfOk result (λ o. (d : DesignTree) → CanDecide d game.old
-        → IsOut d (set_of game.old set) (is_some o)) }
+    ensures out { IfOk result (λ b. (d : DesignTree) → CanDecide d game.old → IsOut d (set_of game.old set) b) }
     ensures grows { Grows game.old game.new }
 {
     let initial = game.initial();
     let out = game.and(initial, set.complement())?;
-    game.least(out)
+    let found = game.least(out)?;
+    Ok(found.is_some())
 }
 
 // Two states of one cell, the first in a set and the second not.

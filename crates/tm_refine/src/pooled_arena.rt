@@ -5,9 +5,9 @@ ghost use Rattle.tm_refine.specs.PooledLaws.{pool_cells, pool_exact, pool_separa
 ghost use Rattle.tm_solve_exact.specs.Exact.{exact_game};
 ghost use Rattle.tm_solve_exact.specs.Laws.{exact_absorbing, exact_monotone};
 
-use crate::apart::apart;
 use crate::arena::Arena;
 use crate::forgetting::forget;
+use crate::parting::apart;
 use crate::parts::{leaves_out, side, split};
 use crate::pooled::{Pooled, noted};
 use crate::sets::{both, either, part, rest};

@@ -1,4 +1,14 @@
+use Rattle.tm_refine.proofs.PoolCopies.{forgets_of}
 use Rattle.tm_refine.proofs.forgetting.forget.Goals as goal
 
-pub returns : goal.returns
-returns c = ?
+pub returns-in-Ok-clause-forgets : goal.returns-in-Ok-clause-forgets
+returns-in-Ok-clause-forgets c =
+    forgets_of c.args.game.now c.copy_roots-copied.new.self c.requires.can c.tell.ensures
+    c.copy_roots-copied.ensures.of c.copy_roots-copied.result c.copy_roots-copied.ensures.game
+    c.copy_roots-copied.ensures.refused
+
+pub returns-in-Err-clause-forgets : goal.returns-in-Err-clause-forgets
+returns-in-Err-clause-forgets c =
+    forgets_of c.args.game.now c.copy_roots-copied.new.self c.requires.can c.tell.ensures
+    c.copy_roots-copied.ensures.of c.copy_roots-copied.result c.copy_roots-copied.ensures.game
+    c.copy_roots-copied.ensures.refused

@@ -2,7 +2,7 @@ use Rattle.std.proofs.Common.{◌≡◌, ◌+◌, length, ◌∙◌, ℕ, sym, s
 use Rattle.tm_refine.specs.Searching.{AreFailed}
 use Rattle.tm_refine.proofs.RoundSides.{of_none, of_some}
 use Rattle.tm_refine.proofs.SearchSteps.{stay_then}
-use Rattle.tm_refine.proofs.NarrowSteps.{region_kept, count_smaller, failed_whole, named_at, none_at, searching_at, searching_fits, won_whole}
+use Rattle.tm_refine.proofs.NarrowSteps.{region_kept, region_same, count_smaller, failed_whole, named_at, none_at, searching_at, searching_fits, won_whole}
 use Rattle.tm_refine.proofs.narrowing.widen.Goals as goal
 
 pub returns-in-Some-clause-searching : goal.returns-in-Some-clause-searching
@@ -16,6 +16,15 @@ returns-in-Some-clause-won g c = λ d first of s.
     won_whole d first c.fails.sided.tracked.items c.fails.added.items c.fails.sided.upper c.args.sided.now.upper
     (g.A.Arena.ids c.solve_side.new.sided.arena) c.in-Some.it (inv.searching d first of s) inv.side
     (of_some c.in_ok-it.field-0 _ _ c.in-Some.it (c.in_ok-it.ensures.found d (inv.of d of)) c.in-Some.is)
+
+pub returns-in-Some-clause-region_known : goal.returns-in-Some-clause-region_known
+returns-in-Some-clause-region_known g c = c.solve_side.ensures.stay.known c.fails.kept c.fails.invariant.known
+
+pub returns-in-Some-clause-holds : goal.returns-in-Some-clause-holds
+returns-in-Some-clause-holds g c =
+    region_same (g.A.Arena.game c.fails.sided.arena) (g.A.Arena.game c.solve_side.new.sided.arena)
+    (g.A.Arena.ids c.fails.sided.arena) (g.A.Arena.ids c.solve_side.new.sided.arena) c.fails.kept
+    c.solve_side.ensures.stay c.solve_side.ensures.game c.fails.invariant.known c.fails.invariant.holds
 
 pub cut-requires-clause-failed : goal.cut-requires-clause-failed
 cut-requires-clause-failed g c =

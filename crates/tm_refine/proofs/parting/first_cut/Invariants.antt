@@ -5,7 +5,7 @@ use Rattle.tm_game_pool.specs.Separating.{predicates_at}
 use Rattle.tm_refine.specs.Apart.{HasOneBit}
 use Rattle.tm_refine.specs.Pooled.{CanBeDecided, CanDecide}
 use Rattle.tm_syntax.specs.Design.{DesignTree}
-use Rattle.tm_refine.proofs.apart.first_cut.Given as goal
+use Rattle.tm_refine.proofs.parting.first_cut.Given as goal
 
 abbrev pub invariant-loop-level : goal.invariant-loop-level
 invariant-loop-level l = record {

@@ -6,7 +6,7 @@ use Rattle.tm_refine.proofs.PoolBits.{ones_more}
 use Rattle.tm_refine.proofs.PoolKeeps.{decide_grown}
 use Rattle.tm_refine.proofs.PoolParts.{pool_kept}
 use Rattle.tm_refine.proofs.RoundSides.{of_none, of_some}
-use Rattle.tm_refine.proofs.apart.first_cut.Goals as goal
+use Rattle.tm_refine.proofs.parting.first_cut.Goals as goal
 
 pub loop-level-init : goal.loop-level-init
 loop-level-init c = record {

@@ -1,7 +1,7 @@
 use Rattle.std.proofs.lemmas.Result.{IfOk-weaker}
 use Rattle.tm_refine.proofs.PoolKeeps.{keeps, keeps_none}
 use Rattle.tm_refine.proofs.PoolParts.{apart_told, in_pool, pool_len}
-use Rattle.tm_refine.proofs.apart.apart.Goals as goal
+use Rattle.tm_refine.proofs.parting.apart.Goals as goal
 
 pub first_cut-found-requires-clause-tracked : goal.first_cut-found-requires-clause-tracked
 first_cut-found-requires-clause-tracked c =

@@ -1,0 +1,10 @@
+use Rattle.tm_refine.proofs.pooled_arena.PooledArena.leaves_out.Goals as goal
+
+pub returns-clause-out : goal.returns-clause-out
+returns-clause-out c = c.leaves_out.ensures.out
+
+pub returns-clause-follows : goal.returns-clause-follows
+returns-clause-follows c = c.leaves_out.ensures.kept.follows
+
+pub returns-clause-tests : goal.returns-clause-tests
+returns-clause-tests c = c.leaves_out.ensures.kept.tests

@@ -1,0 +1,10 @@
+use Rattle.tm_refine.proofs.pooled_arena.PooledArena.meet.Goals as goal
+
+pub returns-clause-value : goal.returns-clause-value
+returns-clause-value c = c.both.ensures.value
+
+pub returns-clause-follows : goal.returns-clause-follows
+returns-clause-follows c = c.both.ensures.kept.follows
+
+pub returns-clause-tests : goal.returns-clause-tests
+returns-clause-tests c = c.both.ensures.kept.tests

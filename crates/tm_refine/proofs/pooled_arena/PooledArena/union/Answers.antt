@@ -1,0 +1,10 @@
+use Rattle.tm_refine.proofs.pooled_arena.PooledArena.union.Goals as goal
+
+pub returns-clause-value : goal.returns-clause-value
+returns-clause-value c = c.either.ensures.value
+
+pub returns-clause-follows : goal.returns-clause-follows
+returns-clause-follows c = c.either.ensures.kept.follows
+
+pub returns-clause-tests : goal.returns-clause-tests
+returns-clause-tests c = c.either.ensures.kept.tests
