@@ -1,5 +1,5 @@
 -- The first predicate of a pool that tells two states apart, by its term.
-use Rattle.std.proofs.Common.{◌≡◌, ℕ, suc, Bool, true, false, List, [], ◌∷◌, Some, length, slice_get, refl, sym, ap, ◌∙◌}
+use Rattle.std.proofs.Common.{◌≡◌, ℕ, suc, Bool, true, false, List, [], ◌∷◌, Some, length, slice_get, refl, sym, ap, ◌∙◌, subst}
 use Rattle.std.specs.List.{AllZip}
 use Rattle.std.proofs.lemmas.List.Elements.{All-nil, All-cons}
 use Rattle.tm_base.specs.Arithmetic.{bit}
@@ -19,6 +19,7 @@ use Rattle.tm_sem.specs.Step.{IsState}
 use Rattle.tm_solve.proofs.Items.{get_below}
 use Rattle.tm_syntax.specs.Design.{DesignTree}
 use Rattle.tm_term.specs.declared.term.TermId.{TermId}
+use Rattle.tm_term.specs.Table.{Table}
 use Rattle.tm_term.specs.Value.{AreInputs, value_of}
 
 bit_same : (a b : Bool) → bit a ≡ bit b → a ≡ b
@@ -105,3 +106,24 @@ pub tells_each : (g : GameData) (d : DesignTree) → CanDecide d g → (s t : St
     TellsFirst e (pool e) s t k
 tells_each g d can s t valid_s valid_t k differs e there =
     tells_first e g there s t (valid_in g d e can there s valid_s) (valid_in g d e can there t valid_t) k differs
+
+-- ---- what was read is what the game has
+module _ (t u : Table) (a b : List ℕ) (s : StateData) (r : StateData) (ids js : List TermId) (same : t ≡ u)
+    (left : a ≡ inputs_at s) (right : b ≡ inputs_at r) (pool_is : ids ≡ js) where
+  pub agree_told : AgreeBelow t a b ids (length ids) → AgreeBelow u (inputs_at s) (inputs_at r) js (length js)
+  agree_told agree =
+      subst (λ (x : Table × List ℕ × List ℕ × List TermId). AgreeBelow x.0 x.1 x.2 x.3 (length x.3))
+      (λ i. (same i, left i, right i, pool_is i)) agree
+
+  pub differs_told : (k : ℕ) → DiffersAt t a b ids k → DiffersAt u (inputs_at s) (inputs_at r) js k
+  differs_told k differs =
+      subst (λ (x : Table × List ℕ × List ℕ × List TermId). DiffersAt x.0 x.1 x.2 x.3 k)
+      (λ i. (same i, left i, right i, pool_is i)) differs
+
+pub known_told : (t u : Table) (ids js : List TermId) → t ≡ u → ids ≡ js → AreKnown u js → AreKnown t ids
+known_told t u ids js same pool_is known =
+    subst (λ (x : Table × List TermId). AreKnown x.0 x.1) (sym (λ i. (same i, pool_is i))) known
+
+pub inputs_told : (t u : Table) (a b : List ℕ) → t ≡ u → a ≡ b → AreInputs u b → AreInputs t a
+inputs_told t u a b same is fit =
+    subst (λ (x : Table × List ℕ). AreInputs x.0 x.1) (sym (λ i. (same i, is i))) fit

@@ -1,10 +1,10 @@
-//! The game of a design decided over predicates, which are added until a side wins over their cells, with an honest
-//! trace of why each was added.
+//! The game of a design decided over predicates, with an honest trace of why each was added.
 #![tactic(auto)]
 
 mod arena;
 mod deciding;
 mod forgetting;
+mod laws;
 mod narrowing;
 mod numbers;
 mod parting;
@@ -21,6 +21,7 @@ mod trace;
 
 pub use arena::Arena;
 pub use deciding::decide;
+pub use laws::parts_are_those_of_cells;
 pub use pooled::Pooled;
 pub use sided::Sided;
 pub use trace::{Added, Decision, Trace};
