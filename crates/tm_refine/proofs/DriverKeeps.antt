@@ -128,7 +128,7 @@ module _ {d : DesignTree} {op : Operator} {g : Game} (exact : IsGameOf d op g) (
       m.0,
       m.1.allowed,
       keeps_both (IsIn d c.region) (λ t. rank ranked t < rank ranked s) m.1.keeps
-      (m.1.lower ranked are fails fair),
+          (m.1.lower ranked are fails fair),
     );
   }
 
@@ -159,9 +159,11 @@ module _ {d : DesignTree} {op : Operator} {g : Game} (exact : IsGameOf d op g) (
 
     into_up : (s t : StateData) → place ranked s ≤ k → IsIn d c.region t × (rank ranked t ≤ rank ranked s) →
         IsIn d (up_to ranked k) t
-    into_up s t most (here, less) =
-        (here.0, and_both (c.region t) (at_most (place ranked t) k) here.1
-        (is_at_most (place ranked t) k (omega arith)))
+    into_up s t most (here, less) = (
+      here.0,
+      and_both (c.region t) (at_most (place ranked t) k) here.1
+          (is_at_most (place ranked t) k (omega arith)),
+    )
 
     stay_f : (s : StateData) → IsIn d c.region s → goal_holds d s goal ≡ false → place ranked s < k →
         op.stay f s ≡ true
@@ -177,9 +179,13 @@ module _ {d : DesignTree} {op : Operator} {g : Game} (exact : IsGameOf d op g) (
         in_second (op.goal goal s && op.stay c.region s) (op.stay f s) _
         (stay_true exact f s here.0 (stays_more (λ t. IsIn d c.region t × (rank ranked t < rank ranked s)) (IsIn d f)
         (λ t it. into_f s t (omega arith) it)
-        (stays_lower goal ranked are below s here fails
-        (k, r, ap (λ i. 1 + i) at, got,
-        exact.fair r.fair s (meets.fairs goal k ranked r are got) here.0 fair))))
+        (stays_lower goal ranked are below s here fails (
+          k,
+          r,
+          ap (λ i. 1 + i) at,
+          got,
+          exact.fair r.fair s (meets.fairs goal k ranked r are got) here.0 fair,
+        ))))
     waits s here fails at false fair =
         in_third (op.goal goal s && op.stay c.region s) (op.stay f s) (op.stay (up_to ranked k) s)
         (stay_true exact (up_to ranked k) s here.0

@@ -156,9 +156,9 @@ honest_take d ps tracked (a ∷ xs) (suc k) pairs under = (
         (under zero (omega arith));
   },
   honest_take d ps (tracked ++ a.predicate ∷ []) xs k pairs.1
-  (λ m less. subst (λ (ks : List ℕ). Undecided d (predicates_at ps ks))
-  (sym (append_twice tracked (a.predicate ∷ []) (map (λ (b : Added). b.predicate) (take m xs))))
-  (under (suc m) (omega arith))),
+      (λ m less. subst (λ (ks : List ℕ). Undecided d (predicates_at ps ks))
+      (sym (append_twice tracked (a.predicate ∷ []) (map (λ (b : Added). b.predicate) (take m xs))))
+      (under (suc m) (omega arith))),
 )
 
 -- one more pair at the end
@@ -169,6 +169,6 @@ pairs_more d ps tracked [] a pairs pair =
 pairs_more d ps tracked (b ∷ bs) a pairs pair = (
   pairs.0,
   pairs_more d ps (tracked ++ b.predicate ∷ []) bs a pairs.1
-  (subst (λ (ks : List ℕ). IsPair d ps ks a)
-  (sym (append_twice tracked (b.predicate ∷ []) (map (λ (x : Added). x.predicate) bs))) pair),
+      (subst (λ (ks : List ℕ). IsPair d ps ks a)
+      (sym (append_twice tracked (b.predicate ∷ []) (map (λ (x : Added). x.predicate) bs))) pair),
 )

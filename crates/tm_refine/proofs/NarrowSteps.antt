@@ -201,8 +201,7 @@ module _ (d : DesignTree) (first : ℕ) (added : List Added) (upper : Bool) (oth
       × IsSpent d budget (record { first = first; added = rest })
   spent_at k less rest is budget all =
       let within : k ≤ length added = let w = best.won.within in omega arith in
-      let long : length rest.items ≡ k = ap (λ (l : List Added). length l) is ∙ length-take-le k added within in
-      (
+      let long : length rest.items ≡ k = ap (λ (l : List Added). length l) is ∙ length-take-le k added within in (
         honest_rest k (omega arith) rest is,
         record {
           all_spent = all ∙ ap (λ (n : ℕ). Some n) (sym long);
@@ -222,8 +221,7 @@ module _ (d : DesignTree) (first : ℕ) (added : List Added) (upper : Bool) (oth
       × AreUnions d (predicates_at (pool d) (numbers_of (record { first = first; added = rest }))) u ids it
   chosen_at rest is u same =
       let won : IsWon d (tracked_at d first added count) u ids it =
-      subst (λ (v : Bool). IsWon d (tracked_at d first added count) v ids it) same best.won.won in
-      (
+      subst (λ (v : Bool). IsWon d (tracked_at d first added count) v ids it) same best.won.won in (
         honest_rest count (omega arith) rest is,
         won.meets,
         subst (λ (l : List Added).

@@ -47,31 +47,31 @@ pub can_grown : (g h : GameData) → Grows g h → CanBeDecided g → CanBeDecid
 can_grown g h grows can = ∥∥₁_elim can (squash₁) (λ x. ∣ (x.0, decide_grown x.0 g h grows x.1) ∣₁)
 
 module _ (g h : GameData) (grows : Grows g h) (f : Follows (exact_game g) (exact_ids g) (exact_game h) (exact_ids h))
-    where
-  pool_follows : Follows (exact_game g) (pool_ids g) (exact_game h) (pool_ids h)
-  pool_follows = record {
-    game = f.game;
-    extends = record {
-      known = f.extends.known;
-      same = f.extends.same;
-      kept = f.extends.kept;
-      of = λ d can. decide_grown d g h grows can;
-      side = f.extends.side;
-    };
-    exact = record { equal = f.exact.equal };
-  }
+  where
+    pool_follows : Follows (exact_game g) (pool_ids g) (exact_game h) (pool_ids h)
+    pool_follows = record {
+      game = f.game;
+      extends = record {
+        known = f.extends.known;
+        same = f.extends.same;
+        kept = f.extends.kept;
+        of = λ d can. decide_grown d g h grows can;
+        side = f.extends.side;
+      };
+      exact = record { equal = f.exact.equal };
+    }
 
-  tests_prop : IsProp (tests_of h ≡ tests_of g)
-  tests_prop = hlevel props
+    tests_prop : IsProp (tests_of h ≡ tests_of g)
+    tests_prop = hlevel props
 
-  pub keeps_by : CanBeDecided g → Keeps g h
-  keeps_by can = record {
-    follows = pool_follows;
-    tests = ∥∥₁_elim can tests_prop (λ x. tests_kept x.0 g h grows x.1.pool);
-    can = can_grown g h grows can;
-    of = design_of h (can_grown g h grows can);
-    grows = grows;
-  }
+    pub keeps_by : CanBeDecided g → Keeps g h
+    keeps_by can = record {
+      follows = pool_follows;
+      tests = ∥∥₁_elim can tests_prop (λ x. tests_kept x.0 g h grows x.1.pool);
+      can = can_grown g h grows can;
+      of = design_of h (can_grown g h grows can);
+      grows = grows;
+    }
 
 pub keeps : (g h : GameData) → CanBeDecided g → Grows g h → IsReduced h.diagrams.table → Keeps g h
 keeps g h can grows reduced = keeps_by g h grows (follows_any g h (design_of g can) grows reduced) can

@@ -261,8 +261,7 @@ module _ (d : DesignTree) (g h : GameData) (can : CanDecide d g) (grows : Grows 
 
   none_found : HoldsNowhere d (test_of d h out) → (s : StateData) → IsInitial d s → IsIn d (set_of g set) s
   none_found none s starts_there =
-      let valid = can.initial s starts_there in
-      (
+      let valid = can.initial s starts_there in (
         valid,
         test_either (set_of g set s)
             (λ e.

@@ -184,15 +184,15 @@ module _ (d : DesignTree) (predicates : List Predicate) (a b : Ids) (it : Iterat
 
 -- ---- two sets, one after the other
 module _ (xs ys zs : List Added) (one : (m : List Added) × (ys ≡ xs ++ m)) (two : (m : List Added) × (zs ≡ ys ++ m))
-    where
-  pub longer_twice : (m : List Added) × (zs ≡ xs ++ m)
-  longer_twice = longer_then xs ys zs two.0 one two.1
+  where
+    pub longer_twice : (m : List Added) × (zs ≡ xs ++ m)
+    longer_twice = longer_then xs ys zs two.0 one two.1
 
-  pub first_same : zs ≡ xs → ys ≡ xs
-  first_same same =
-      let a = longer_length ys zs two in
-      let h : length zs ≡ length xs = ap (λ (l : List Added). length l) same in
-      same_length xs ys one (omega arith)
+    pub first_same : zs ≡ xs → ys ≡ xs
+    first_same same =
+        let a = longer_length ys zs two in
+        let h : length zs ≡ length xs = ap (λ (l : List Added). length l) same in
+        same_length xs ys one (omega arith)
 
 pub grown_other : (xs ys : List Added) → length xs < length ys → ys ≡ xs → ⊥
 grown_other xs ys less same =

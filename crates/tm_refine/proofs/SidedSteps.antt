@@ -54,8 +54,8 @@ is_sided upper ks T T' g g' b id a tests game is union = record {
   known = (
     is.known,
     subst (λ (h : Game). IsUnionOf h.states (T' ks) (b.means id)) (sym game)
-    (subst (λ (t : List ℕ → List StateSet). IsUnionOf g.states (t ks) (b.means id)) (sym tests)
-    (same_union g.states (T ks) (b.means id) a is.means union)),
+        (subst (λ (t : List ℕ → List StateSet). IsUnionOf g.states (t ks) (b.means id)) (sym tests)
+        (same_union g.states (T ks) (b.means id) a is.means union)),
   );
   means = is.means;
 }
@@ -71,8 +71,8 @@ sided_follows upper ks T T' g g' a b tests f = record {
     known = λ id known. (
       f.extends.known id known.0,
       subst (λ (h : Game). IsUnionOf h.states (T' ks) (b.means id)) (sym f.game)
-      (subst (λ (t : List ℕ → List StateSet). IsUnionOf g.states (t ks) (b.means id)) (sym tests)
-      (subst (λ (m : StateSet). IsUnionOf g.states (T ks) m) (sym (f.extends.same id known.0)) known.1)),
+          (subst (λ (t : List ℕ → List StateSet). IsUnionOf g.states (t ks) (b.means id)) (sym tests)
+          (subst (λ (m : StateSet). IsUnionOf g.states (T ks) m) (sym (f.extends.same id known.0)) known.1)),
     );
     same = λ id known. f.extends.same id known.0;
     kept = λ id known. (f.extends.known id known, f.extends.same id known);

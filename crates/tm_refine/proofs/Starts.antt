@@ -71,29 +71,29 @@ module _ (ps : List StateSet) (g : Game) (mono : IsMonotone g) where
 -- more tests: the lower parts rise and the upper parts fall
 module _ (ps qs : List StateSet) (g : Game)
     (finer : (s t : StateData) → IsAmong s g.states → IsAmong t g.states → alike qs s t ≡ true → alike ps s t ≡ true)
-    where
-  lower_more : IsBelow g.states (lower_game ps g).part (lower_game qs g).part
-  lower_more = record {
-    below = λ z y x j i s among h. lower_when g.states qs (g.part z y x j i) s
-        (λ t in_t like. lower_holds g.states ps (g.part z y x j i) s h t in_t (finer s t among in_t like));
-  }
+  where
+    lower_more : IsBelow g.states (lower_game ps g).part (lower_game qs g).part
+    lower_more = record {
+      below = λ z y x j i s among h. lower_when g.states qs (g.part z y x j i) s
+          (λ t in_t like. lower_holds g.states ps (g.part z y x j i) s h t in_t (finer s t among in_t like));
+    }
 
-  upper_less : IsBelow g.states (upper_game qs g).part (upper_game ps g).part
-  upper_less = record {
-    below = λ z y x j i s among h. let m = upper_meets g.states qs (g.part z y x j i) s h in
-        upper_when g.states ps (g.part z y x j i) s m.0 m.1 (finer s m.0 among m.1 m.2) m.3;
-  }
+    upper_less : IsBelow g.states (upper_game qs g).part (upper_game ps g).part
+    upper_less = record {
+      below = λ z y x j i s among h. let m = upper_meets g.states qs (g.part z y x j i) s h in
+          upper_when g.states ps (g.part z y x j i) s m.0 m.1 (finer s m.0 among m.1 m.2) m.3;
+    }
 
-  -- the upper region of fewer tests is a start for that of more
-  pub upper_start : (s : StateData) → InRegion (upper_game qs g) s → InRegion (upper_game ps g) s
-  upper_start s r = region_up g (upper_game qs g).part (upper_game ps g).part upper_less s r
+    -- the upper region of fewer tests is a start for that of more
+    pub upper_start : (s : StateData) → InRegion (upper_game qs g) s → InRegion (upper_game ps g) s
+    upper_start s r = region_up g (upper_game qs g).part (upper_game ps g).part upper_less s r
 
-  pub lower_region_rises : (s : StateData) → InRegion (lower_game ps g) s → InRegion (lower_game qs g) s
-  lower_region_rises s r = region_up g (lower_game ps g).part (lower_game qs g).part lower_more s r
+    pub lower_region_rises : (s : StateData) → InRegion (lower_game ps g) s → InRegion (lower_game qs g) s
+    lower_region_rises s r = region_up g (lower_game ps g).part (lower_game qs g).part lower_more s r
 
-  -- and a union of cells of fewer tests is one of cells of more
-  pub union_more : (a : StateSet) → IsUnionOf g.states ps a → IsUnionOf g.states qs a
-  union_more a u = record { same = λ s t in_s in_t like. u.same s t in_s in_t (finer s t in_s in_t like) }
+    -- and a union of cells of fewer tests is one of cells of more
+    pub union_more : (a : StateSet) → IsUnionOf g.states ps a → IsUnionOf g.states qs a
+    union_more a u = record { same = λ s t in_s in_t like. u.same s t in_s in_t (finer s t in_s in_t like) }
 
 -- a region stays that of the game over calls that leave the game
 pub holds_still : (a b : Ids) (g h : Game) (id : NodeId) → h ≡ g → Stay a b → a.knows id →

@@ -123,11 +123,7 @@ pub trait Arena {
         ensures tests { tests self.new ≡ tests self.old };
 
     /// Two states of one cell, the first in a set and the second not, where a cell is cut.
-    fn split(
-        &mut self,
-        tracked: &[u32],
-        set: NodeId,
-    ) -> Result<Option<(State, State)>, AllocError>
+    fn split(&mut self, tracked: &[u32], set: NodeId) -> Result<Option<(State, State)>, AllocError>
         requires set_known { (ids self.old).knows set }
         ensures split { IfOk result (λ o. (d : DesignTree) → (ids self.old).of d → MatchOption o
             (PartsAreOne d (predicates_at (pool d) tracked.now) ((ids self.old).means set))
@@ -182,14 +178,17 @@ pub trait Arena {
 
     /// The pool has so many predicates, which tell valid states apart.
     ghost pool_size: { (p : Self) (d : DesignTree) → (ids p).of d → length (pool d) ≡ size p };
+
     ghost separates: { (p : Self) (d : DesignTree) → (ids p).of d → Separates d (pool d) };
 
     /// The exact step operator is lawful.
     ghost monotone: { (p : Self) → IsMonotone (game p) };
+
     ghost absorbing: { (p : Self) → IsAbsorbing (game p) };
 
     /// The game is that of its designs, and the tests tell the cells of their predicates.
     ghost exact: { (p : Self) (d : DesignTree) → (ids p).of d → (op : Operator) × IsGameOf d op (game p) };
+
     ghost cells: { (p : Self) (d : DesignTree) (ks : List ℕ) → (ids p).of d
         → TellCells d (predicates_at (pool d) ks) (tests p ks) };
 }

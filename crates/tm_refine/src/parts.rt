@@ -22,11 +22,7 @@ use tm_game::Game;
 use tm_sem::state::State;
 
 // The cells of predicates of these numbers, of which there are so many; other numbers name none.
-pub(crate) fn cells_of(
-    alloc: Global,
-    numbers: &[u32],
-    count: usize,
-) -> Result<Cells, AllocError>
+pub(crate) fn cells_of(alloc: Global, numbers: &[u32], count: usize) -> Result<Cells, AllocError>
     ensures { IfOk result (λ c. c.tracked.items ≡ filter (λ k. nat_lt k count) numbers.now) }
 {
     let mut tracked = Vec::new(alloc);

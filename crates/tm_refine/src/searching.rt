@@ -76,7 +76,11 @@ pub(crate) fn add<A: Arena>(
 }
 
 // Adds predicates until no cell cuts a set.
-pub(crate) fn cut_by<A: Arena>(sided: &mut Sided<A>, added: &mut Vec<Added>, set: NodeId) -> Result<(), AllocError>
+pub(crate) fn cut_by<A: Arena>(
+    sided: &mut Sided<A>,
+    added: &mut Vec<Added>,
+    set: NodeId,
+) -> Result<(), AllocError>
     requires of { (d : DesignTree) × (A.ids sided.old.arena).of d }
     requires known { (A.ids sided.old.arena).knows set }
     ensures searching { IfOk result (λ u. (d : DesignTree) (first : ℕ) → (A.ids sided.old.arena).of d
@@ -129,7 +133,11 @@ pub(crate) fn cut_by_either<A: Arena>(
 }
 
 // Adds at least one predicate where a side fails over cells that wins over some.
-pub(crate) fn cut<A: Arena>(sided: &mut Sided<A>, added: &mut Vec<Added>, region: NodeId) -> Result<(), AllocError>
+pub(crate) fn cut<A: Arena>(
+    sided: &mut Sided<A>,
+    added: &mut Vec<Added>,
+    region: NodeId,
+) -> Result<(), AllocError>
     requires failed { (d : DesignTree) × (A.ids sided.old.arena).of d
         × IsNamed d sided.old.upper
         × NoneOf d (predicates_at (pool d) sided.old.tracked.items) sided.old.upper }

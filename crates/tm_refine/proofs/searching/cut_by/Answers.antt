@@ -25,8 +25,8 @@ pairs-smaller g c =
     c.add.new.sided.tracked.items c.pairs.added.items c.add.new.added.items c.in_ok-add-in-Some.ensures.more d
     (c.split.ensures.follows.extends.of d now)
     (cut_parted d c.as_slice.result.now c.pairs.sided.tracked.items c.as_slice.ensures.value
-            ((g.A.Arena.ids c.pairs.sided.arena).means c.args.set) c.in-Some.pair.0 c.in-Some.pair.1
-            (of_some c.in_ok-split.field-0 _ _ c.in-Some.pair (c.in_ok-split.ensures.split d now) c.in-Some.is))
+    ((g.A.Arena.ids c.pairs.sided.arena).means c.args.set) c.in-Some.pair.0 c.in-Some.pair.1
+    (of_some c.in_ok-split.field-0 _ _ c.in-Some.pair (c.in_ok-split.ensures.split d now) c.in-Some.is))
     (g.A.Arena.size c.args.sided.now.arena) (g.met.A.Arena.pool_size c.args.sided.now.arena d c.requires.of.1)
 
 pub pairs-preserved : goal.pairs-preserved
@@ -43,8 +43,8 @@ pairs-preserved g c =
           c.pairs.sided.tracked.items c.add.new.sided.tracked.items c.pairs.added.items c.add.new.added.items more d
           (c.split.ensures.follows.extends.of d now)
           (cut_parted d c.as_slice.result.now c.pairs.sided.tracked.items c.as_slice.ensures.value
-            ((g.A.Arena.ids c.pairs.sided.arena).means c.args.set) c.in-Some.pair.0 c.in-Some.pair.1
-            (of_some c.in_ok-split.field-0 _ _ c.in-Some.pair (c.in_ok-split.ensures.split d now) c.in-Some.is)) first
+          ((g.A.Arena.ids c.pairs.sided.arena).means c.args.set) c.in-Some.pair.0 c.in-Some.pair.1
+          (of_some c.in_ok-split.field-0 _ _ c.in-Some.pair (c.in_ok-split.ensures.split d now) c.in-Some.is)) first
           (inv.searching d first of s);
       longer = longer_then c.args.added.now.items c.pairs.added.items c.add.new.added.items _ inv.longer more.items;
       same = λ is. absurd
