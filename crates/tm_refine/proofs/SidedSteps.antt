@@ -47,7 +47,8 @@ side_union true n ps a = upper_union n ps a
 side_union false n ps a = lower_union n ps a
 
 -- an id of a set that is a union is known to the side
-pub is_sided : (upper : Bool) (ks : List ℕ) (T T' : List ℕ → List StateSet) (g g' : Game) (b : Ids) (id : NodeId) (a : StateSet) →
+pub is_sided : (upper : Bool) (ks : List ℕ) (T T' : List ℕ → List StateSet) (g g' : Game) (b : Ids)
+    (id : NodeId) (a : StateSet) →
     T' ≡ T → g' ≡ g → Is g.states b id a → IsUnionOf g.states (T ks) a →
     Is g.states (side_ids upper ks (T' ks) g' b) id a
 is_sided upper ks T T' g g' b id a tests game is union = record {
@@ -63,7 +64,8 @@ is_sided upper ks T T' g g' b id a tests game is union = record {
 -- what follows for the game follows for the side
 pub sided_follows : (upper : Bool) (ks : List ℕ) (T T' : List ℕ → List StateSet) (g g' : Game) (a b : Ids) → T' ≡ T →
     Follows g a g' b →
-    Follows (side_game upper (T ks) g) (side_ids upper ks (T ks) g a) (side_game upper (T' ks) g') (side_ids upper ks (T' ks) g' b)
+    Follows (side_game upper (T ks) g) (side_ids upper ks (T ks) g a) (side_game upper (T' ks) g')
+    (side_ids upper ks (T' ks) g' b)
 sided_follows upper ks T T' g g' a b tests f = record {
   game = ap (λ (t : List ℕ → List StateSet). side_game upper (t ks) g') tests
       ∙ ap (λ (h : Game). side_game upper (T ks) h) f.game;
@@ -111,5 +113,6 @@ part_sided upper ks rs T0 T1 T2 g0 g1 g2 b1 b2 e id c tests tests' game game' sa
   where
     at : Is g0.states b2 id (side_part upper g0.states (T0 ks) (b1.means e))
     at = subst (λ (h : Game). Is h.states b2 id (side_part upper h.states (T0 ks) (b1.means e))) game
-        (subst (λ (t : List ℕ → List StateSet). Is g1.states b2 id (side_part upper g1.states (t ks) (b1.means e))) tests
+        (subst (λ (t : List ℕ → List StateSet).
+        Is g1.states b2 id (side_part upper g1.states (t ks) (b1.means e))) tests
         (subst (λ (l : List ℕ). Is g1.states b2 id (side_part upper g1.states (T1 l) (b1.means e))) same made))

@@ -40,7 +40,8 @@ pub(crate) fn widen<A: Arena>(
         (InRegion (A.game sided.old.arena)) }
     requires empty { added.old.items ≡ [] }
     ensures searching { IfOk result (λ w. (d : DesignTree) (first : ℕ) → (A.ids sided.old.arena).of d
-        → IsSearching d first sided.old.tracked.items [] → IsSearching d first sided.new.tracked.items added.new.items) }
+        → IsSearching d first sided.old.tracked.items []
+        → IsSearching d first sided.new.tracked.items added.new.items) }
     ensures failed { IfOk result (λ w. (d : DesignTree) (first : ℕ) → (A.ids sided.old.arena).of d
         → IsSearching d first sided.old.tracked.items [] → AreFailed d first added.new.items sided.old.upper w.count) }
     ensures won { IfOk result (λ w. (d : DesignTree) (first : ℕ) → (A.ids sided.old.arena).of d

@@ -13,7 +13,8 @@ pub returns-clause-value : goal.returns-clause-value
 returns-clause-value c =
     IfOk-weaker c.lower-part.result _ _
     (λ id answer.
-    lower_is c.args.game.now c.lower-part.new.game c.requires.can c.lower-part.ensures.grows c.args.cells.now.tracked.items
+    lower_is c.args.game.now c.lower-part.new.game c.requires.can c.lower-part.ensures.grows
+    c.args.cells.now.tracked.items
     c.args.set id answer) c.lower-part.ensures.part
 
 pub returns-clause-kept : goal.returns-clause-kept

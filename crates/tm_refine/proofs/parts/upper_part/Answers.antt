@@ -13,7 +13,8 @@ pub returns-clause-value : goal.returns-clause-value
 returns-clause-value c =
     IfOk-weaker c.upper-part.result _ _
     (λ id answer.
-    upper_is c.args.game.now c.upper-part.new.game c.requires.can c.upper-part.ensures.grows c.args.cells.now.tracked.items
+    upper_is c.args.game.now c.upper-part.new.game c.requires.can c.upper-part.ensures.grows
+    c.args.cells.now.tracked.items
     c.args.set id answer) c.upper-part.ensures.part
 
 pub returns-clause-kept : goal.returns-clause-kept

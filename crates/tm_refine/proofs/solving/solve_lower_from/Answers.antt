@@ -17,10 +17,13 @@ returns-clause-lower g c = if_three c.solve_from.result _ _ _ _ (λ it region kn
     (cells_there d (pool d) c.solve_from.new.pre.tracked.items c.args.sided.now.tracked.items _
     (same_tracked _ _ c.solve_from.ensures.follows.extends.side)
     (g.met.A.Arena.cells c.solve_from.new.pre.arena d c.solve_from.new.pre.tracked.items there))
-    c.solve_from.new.pre.upper c.solve_from.new.pre.tracked.items (g.A.Arena.ids c.solve_from.new.pre.arena) it known region ranks)
+    c.solve_from.new.pre.upper c.solve_from.new.pre.tracked.items
+    (g.A.Arena.ids c.solve_from.new.pre.arena) it known region ranks)
     c.solve_from.ensures.region c.solve_from.ensures.known c.solve_from.ensures.ranks
 
 pub returns-clause-known : goal.returns-clause-known
 returns-clause-known g c = IfOk-weaker c.solve_from.result _ _ (λ it known.
-    knows_first c.solve_from.new.pre.upper c.solve_from.new.pre.tracked.items (g.A.Arena.tests c.solve_from.new.pre.arena c.solve_from.new.pre.tracked.items)
-    (g.A.Arena.game c.solve_from.new.pre.arena) (g.A.Arena.ids c.solve_from.new.pre.arena) it known) c.solve_from.ensures.known
+    knows_first c.solve_from.new.pre.upper c.solve_from.new.pre.tracked.items
+    (g.A.Arena.tests c.solve_from.new.pre.arena c.solve_from.new.pre.tracked.items)
+    (g.A.Arena.game c.solve_from.new.pre.arena)
+    (g.A.Arena.ids c.solve_from.new.pre.arena) it known) c.solve_from.ensures.known

@@ -17,10 +17,13 @@ returns-clause-upper g c = if_three c.solve.result _ _ _ _ (λ it region known l
     (cells_there d (pool d) c.solve.new.pre.tracked.items c.args.sided.now.tracked.items _
     (same_tracked _ _ c.solve.ensures.follows.extends.side)
     (g.met.A.Arena.cells c.solve.new.pre.arena d c.solve.new.pre.tracked.items there))
-    c.solve.new.pre.upper c.solve.new.pre.tracked.items (g.A.Arena.ids c.solve.new.pre.arena) it known region levels)
+    c.solve.new.pre.upper c.solve.new.pre.tracked.items
+    (g.A.Arena.ids c.solve.new.pre.arena) it known region levels)
     c.solve.ensures.region c.solve.ensures.known c.solve.ensures.levels
 
 pub returns-clause-known : goal.returns-clause-known
 returns-clause-known g c = IfOk-weaker c.solve.result _ _ (λ it known.
-    knows_first c.solve.new.pre.upper c.solve.new.pre.tracked.items (g.A.Arena.tests c.solve.new.pre.arena c.solve.new.pre.tracked.items)
-    (g.A.Arena.game c.solve.new.pre.arena) (g.A.Arena.ids c.solve.new.pre.arena) it known) c.solve.ensures.known
+    knows_first c.solve.new.pre.upper c.solve.new.pre.tracked.items
+    (g.A.Arena.tests c.solve.new.pre.arena c.solve.new.pre.tracked.items)
+    (g.A.Arena.game c.solve.new.pre.arena)
+    (g.A.Arena.ids c.solve.new.pre.arena) it known) c.solve.ensures.known
