@@ -81,27 +81,26 @@ past xs k behind = slice_get_past xs k (ltb-false k (length xs) behind)
 pub numbers_within : {X : Type 0} (xs : List X) (ks : List ℕ) →
     predicates_at xs (filter (λ k. nat_lt k (length xs)) ks) ≡ predicates_at xs ks
 numbers_within xs [] = refl
-numbers_within xs (k ∷ ks) = by (nat_lt k (length xs)) (past xs k)
+numbers_within xs (k ∷ ks) = by (nat_lt k (length xs)) (past xs k) (numbers_within xs ks)
   where
     rest : List ℕ
     rest = filter (λ j. nat_lt j (length xs)) ks
 
-    by : (b : Bool) → (b ≡ false → slice_get xs k ≡ None) →
+    by : (b : Bool) → (b ≡ false → slice_get xs k ≡ None) → predicates_at xs rest ≡ predicates_at xs ks →
         predicates_at xs (cond b (k ∷ rest) rest) ≡ predicates_at xs (k ∷ ks)
-    by true none = ap (λ l. option_map_or (λ p. p ∷ l) (slice_get xs k) l) (numbers_within xs ks)
-    by false none =
-        numbers_within xs ks
+    by true none others = ap (λ l. option_map_or (λ p. p ∷ l) (slice_get xs k) l) others
+    by false none others =
+        others
         ∙ sym (ap (λ o. option_map_or (λ p. p ∷ predicates_at xs ks) o (predicates_at xs ks)) (none refl))
 
 all_below : (n : ℕ) (ks : List ℕ) → All (λ k. k < n) (filter (λ k. nat_lt k n) ks)
 all_below n [] = All-nil (λ k. k < n)
-all_below n (k ∷ ks) = by (nat_lt k n) refl
+all_below n (k ∷ ks) = by (nat_lt k n) refl (all_below n ks)
   where
-    by : (b : Bool) → nat_lt k n ≡ b →
+    by : (b : Bool) → nat_lt k n ≡ b → All (λ j. j < n) (filter (λ j. nat_lt j n) ks) →
         All (λ j. j < n) (cond b (k ∷ filter (λ j. nat_lt j n) ks) (filter (λ j. nat_lt j n) ks))
-    by true e =
-        All-cons (λ j. j < n) k (filter (λ j. nat_lt j n) ks) (ltb-true k n e) (all_below n ks)
-    by false e = all_below n ks
+    by true e others = All-cons (λ j. j < n) k (filter (λ j. nat_lt j n) ks) (ltb-true k n e) others
+    by false e others = others
 
 -- those that a list has are within its length
 pub within_below : (n : ℕ) (ks js : List ℕ) → ks ≡ filter (λ k. nat_lt k n) js → All (λ k. k < n) ks
@@ -147,8 +146,8 @@ none_count zero = refl
 none_count (suc n) = ap (λ k. suc k) (none_count n)
 
 none_set : (n k : ℕ) → slice_index (replicate n 0) k < 2
-none_set zero k = omega arith
-none_set (suc n) zero = omega arith
+none_set zero k = let e : 0 < 2 = omega arith in e
+none_set (suc n) zero = let e : 0 < 2 = omega arith in e
 none_set (suc n) (suc k) = none_set n k
 
 pub no_bits_set : AreBits no_bits

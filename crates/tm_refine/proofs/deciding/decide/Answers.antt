@@ -53,3 +53,6 @@ returns-clause-decided g c = λ d of.
     (c.in_ok-won.ensures.searching d first there begun)
     (first_at d first added c.widen.new.sided.upper c.narrow.new.sided.upper c.narrow.ensures.side
     (g.A.Arena.ids c.narrow.new.sided.arena) c.in_ok-best.best.it c.in_ok-best.best.count best)
+
+pub returns-clause-known : goal.returns-clause-known
+returns-clause-known g c = c.finish.ensures.known c.in_ok-best.ensures.known
