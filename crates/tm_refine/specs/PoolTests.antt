@@ -141,7 +141,7 @@ bit_is : (b : Bool) → (bit b == 1) ≡ b
 bit_is true = refl
 bit_is false = refl
 
-none_count : (n : ℕ) → length (replicate n 0) ≡ n
+none_count : (n : ℕ) → length {A = ℕ} (replicate n 0) ≡ n
 none_count zero = refl
 none_count (suc n) = ap (λ k. suc k) (none_count n)
 

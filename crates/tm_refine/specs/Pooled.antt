@@ -5,6 +5,8 @@ use Rattle.tm_flat.specs.Inputs.{input_values, room}
 use Rattle.tm_game.specs.Game.{GameData, Grows}
 use Rattle.tm_game_pool.specs.Pooled.{HasPool}
 use Rattle.tm_game_pool.specs.Separating.{predicates_at}
+use Rattle.tm_sem.specs.State.{StateData}
+use Rattle.tm_sem.specs.Step.{IsInitial, IsState}
 use Rattle.tm_solve.specs.Ids.{Follows, Ids}
 use Rattle.tm_solve.specs.Sets.{StateSet}
 use Rattle.tm_solve_exact.specs.Exact.{HasDesign, IsStateSet, exact_game, exact_side, set_of}
