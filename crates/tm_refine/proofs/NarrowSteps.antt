@@ -247,6 +247,18 @@ module _ (d : DesignTree) (first : ℕ) (added : List Added) (u v : Bool) (same 
       IsFirst d first added v ids it count
   first_at ids it count best = subst (λ (w : Bool). IsFirst d first added w ids it count) (sym same) best
 
+-- the additions were read through a slice
+pub first_read : (d : DesignTree) (first : ℕ) (xs ys : List Added) → xs ≡ ys → (upper : Bool) (a b : Ids)
+    (it best : Iterates) (count shortest : ℕ) →
+    (AreFailed d first xs upper count → IsWonAt d first xs upper a it (length xs) →
+    IsFirst d first xs upper b best shortest) →
+    AreFailed d first ys upper count → IsWonAt d first ys upper a it (length ys) →
+    IsFirst d first ys upper b best shortest
+first_read d first xs ys same upper a b it best count shortest told =
+    subst (λ (l : List Added).
+    AreFailed d first l upper count → IsWonAt d first l upper a it (length l) → IsFirst d first l upper b best shortest)
+    same told
+
 -- ---- the exact region, where other sets are forgotten
 holds_kept : (g h : Game) (set set' : StateSet) → h ≡ g → IsSame g.states set' set →
     Holds g.states set (InRegion g) → Holds h.states set' (InRegion h)

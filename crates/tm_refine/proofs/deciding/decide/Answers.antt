@@ -1,7 +1,7 @@
 use Rattle.std.proofs.Common.{length, ◌∙◌, arith}
 use Rattle.tm_flat_pool.specs.Predicates.{pool}
 use Rattle.tm_refine.proofs.OneSide.{named}
-use Rattle.tm_refine.proofs.NarrowSteps.{failed_at, first_at, other_at, searching_first, won_at}
+use Rattle.tm_refine.proofs.NarrowSteps.{failed_at, first_at, first_read, other_at, searching_first, won_at}
 use Rattle.tm_refine.proofs.deciding.decide.Goals as goal
 
 pub widen-requires-clause-named : goal.widen-requires-clause-named
@@ -41,7 +41,10 @@ returns-clause-decided g c = λ d of.
     let side = named exact.1 (pool d) (g.met.A.Arena.separates c.args.sided.now.arena d of)
     (g.A.Arena.ids c.solve_exact.new.self) c.in_ok-whole.whole c.in_ok-whole.ensures.region upper
     (c.in_ok-sided.ensures.out d solved) c.in_ok-whole.ensures.ranks c.in_ok-whole.ensures.levels in
-    let best = c.in_ok-best.ensures.first d (c.widen.ensures.designs d there)
+    let best = first_read d first c.deref.result.now added c.deref.ensures.value c.widen.new.sided.upper
+    (g.A.Arena.ids c.widen.new.sided.arena) (g.A.Arena.ids c.narrow.new.sided.arena) c.in_ok-won.won.it
+    c.in_ok-best.best.it c.in_ok-won.won.count c.in_ok-best.best.count
+    (c.in_ok-best.ensures.first d (c.widen.ensures.designs d there))
     (failed_at d first added upper c.widen.new.sided.upper c.widen.ensures.side c.in_ok-won.won.count
     (c.in_ok-won.ensures.failed d first there begun))
     (won_at d first added upper c.widen.new.sided.upper c.widen.ensures.side

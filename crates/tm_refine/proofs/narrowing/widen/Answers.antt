@@ -75,7 +75,7 @@ fails-preserved g c =
       known = c.in_ok-kept.ensures.value.known;
       holds = region_kept (g.A.Arena.game c.fails.sided.arena) (g.A.Arena.game c.cut.new.sided.arena)
           (g.A.Arena.game c.forget.new.self) (g.A.Arena.ids c.fails.sided.arena)
-          (g.A.Arena.ids c.cut.new.sided.arena) (g.A.Arena.ids c.forget.new.self) c.fails.kept c.in_ok-kept.field-0
+          (g.A.Arena.ids c.cut.new.sided.arena) (g.A.Arena.ids c.forget.new.self) c.fails.kept c.in_ok-kept.kept
           (stay_then c.solve_side.ensures.stay c.cut.ensures.stay) (c.cut.ensures.game ∙ c.solve_side.ensures.game)
           c.forget.ensures.game inv.known c.in_ok-kept.ensures.value inv.holds;
       side = c.cut.ensures.side ∙ c.solve_side.ensures.side ∙ inv.side;
