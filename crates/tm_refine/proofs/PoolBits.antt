@@ -70,9 +70,9 @@ whole_cell : (d : DesignTree) (ps : List Predicate) (a : StateData → Bool) →
 whole_cell d ps a one s t valid_s valid_t cell =
     iff_same (a s) (a t)
     (λ here.
-    (one s (record { valid = valid_s; meets = (s, valid_s, one_cell d s ps, here) })).within t valid_t cell)
+    ((one s).1 (record { valid = valid_s; meets = (s, valid_s, one_cell d s ps, here) })).within t valid_t cell)
     (λ there.
-    (one t (record { valid = valid_t; meets = (t, valid_t, one_cell d t ps, there) })).within s valid_s
+    ((one t).1 (record { valid = valid_t; meets = (t, valid_t, one_cell d t ps, there) })).within s valid_s
     (other_cell d s t ps cell))
 
 -- what the split of the bit of a level tells
@@ -100,14 +100,19 @@ bits_separate d g can ps ones s t valid_s valid_t cell =
     ∙ coding.back t valid_t
 
 -- ---- the levels so far
-module _ (g h : GameData) (level : ℕ) (grows : Grows g h) where
-  pub ones_more : (d : DesignTree) (ps : List Predicate) → CanDecide d g →
+module _ (g h : GameData) (grows : Grows g h) where
+  pub ones_more : (level : ℕ) (d : DesignTree) (ps : List Predicate) → CanDecide d g →
       ((j : ℕ) → j < level → HasOneBit d g.order ps j) → HasOneBit d h.order ps level →
       (j : ℕ) → j < level + 1 → HasOneBit d g.order ps j
-  ones_more d ps can before one j below =
+  ones_more level d ps can before one j below =
       elim (cases_lt j level) as (λ _. HasOneBit d g.order ps j) [
         | inl less ↦ before j less
         | inr past ↦
             subst (λ (m : ℕ). HasOneBit d g.order ps m) (let e : level ≡ j = omega (arith, past, below) in e)
             (subst (λ (o : List ℕ). HasOneBit d o ps level) grows.order one)
       ]
+
+  -- a level of the first order is one of the order that there is now
+  pub level_there : (read : List ℕ) → read ≡ g.order → (k : ℕ) → k < length read → k < length h.order
+  level_there read is k below =
+      subst (λ (l : List ℕ). k < length l) (sym grows.order) (subst (λ (l : List ℕ). k < length l) is below)

@@ -1,12 +1,13 @@
 -- A game with its pool whose diagrams were copied is the same game of the same designs.
 use Rattle.std.proofs.Common.{◌≡◌, inl, inr, ℕ, ◌<◌, List, [], ◌∷◌, length, get_or, Result, Ok, Err, refl, sym, ap, ◌∙◌, subst, arith}
-use Rattle.std.specs.Prelude.{OnErr, OnOk}
+use Rattle.std.specs.Prelude.{Contains, OnErr, OnOk}
 use Rattle.std.proofs.Math.Logic.{∥∥₁_elim}
 use Rattle.std.proofs.lemmas.Bool.{cases_lt}
 use Rattle.std.proofs.lemmas.List.{get_or_past}
+use Rattle.std.proofs.lemmas.List.Elements.{All-nil, All-cons, All-contains}
 use Rattle.tm_dd.specs.declared.node.NodeId.{NodeId}
 use Rattle.tm_dd.specs.declared.node.TheConstants.{FALSE, TRUE}
-use Rattle.tm_dd.specs.Table.{Table, means}
+use Rattle.tm_dd.specs.Table.{Knows, Table, means}
 use Rattle.tm_dd.proofs.CallerLaws.{means-FALSE, means-TRUE}
 use Rattle.tm_ddops.specs.Copied.{MeanTheSame}
 use Rattle.tm_ddops.specs.Manager.{IsFunction}
@@ -120,6 +121,11 @@ module _ (g h : GameData) (can : CanBeDecided g) (tells : (d : DesignTree) → I
         fairs = refl;
       } in
       subst (λ (k : GameData). Forgets g k) (sym refused) same
+
+-- the one set that is copied is known
+pub only_root : (s : Table) (set f : NodeId) → Knows s set → Contains (set ∷ []) f → Knows s f
+only_root s set f known within =
+    All-contains (Knows s) (set ∷ []) f (All-cons (Knows s) set [] known (All-nil (Knows s))) within
 
 -- the id of the set that was copied
 pub root_copied : {X Y : Type 0} (g h : GameData) (set id : NodeId) (r : Result X Y) (x : X)
