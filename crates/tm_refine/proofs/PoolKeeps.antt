@@ -124,3 +124,11 @@ hint_noted g h hint noted set kept known here which =
         IsStateSet g id
     by each id (inl e) = each id e
     by each id (inr e) = subst (λ (x : NodeId). IsStateSet g x) e here
+
+-- what a call leaves of the facts of a game that is decided
+module _ (g h : GameData) (kept : Keeps g h) where
+  pub goals_kept : (n : ℕ) → n ≡ length g.goals → n ≡ length h.goals
+  goals_kept n same = same ∙ ap (λ (ids : List NodeId). length ids) (sym kept.grows.goals)
+
+  pub fairs_kept : (n : ℕ) → n ≡ length g.fairs → n ≡ length h.fairs
+  fairs_kept n same = same ∙ ap (λ (ids : List NodeId). length ids) (sym kept.grows.fairs)

@@ -45,17 +45,23 @@ overflow_cast-result c =
     c.levels-levels.ensures.value
     ∙ ap (λ (t : Nodes). t.levels) (c.store.ensures.value ∙ ap (λ (m : Diagrams). m.table) c.manager.ensures) in
     let fits = c.levels-levels.type_inv in
-    omega (arith, read, levels, fits, get_below c.deref.result.now c.in-Some.number differs.id differs.at,
-    c.order-order.ensures.predicates)
+    omega (
+      arith,
+      read,
+      levels,
+      fits,
+      get_below c.deref.result.now c.in-Some.number differs.id differs.at,
+      c.order-order.ensures.predicates,
+    )
 
 pub returns : goal.returns
 returns c = record {
   first = λ e can.
-    let p = c.requires.apart in
-    tells_each c.args.game.now p.0 p.1 c.args.left.now c.args.right.now p.2 p.3 c.in-Some.number
-    (differs_told c.terms.result.now c.args.game.now.terms c.deref-2.result.now c.deref-3.result.now c.args.left.now
-    c.args.right.now c.deref.result.now c.args.game.now.flat.pool c.terms.ensures
-    (c.deref-2.ensures.value ∙ c.in_ok-one.ensures) (c.deref-3.ensures.value ∙ c.in_ok-other.ensures)
-    (c.deref.ensures.value ∙ ap (λ (t : FlatTerms). t.pool) c.flat.ensures) c.in-Some.number
-    (of_some c.first_different.result _ _ c.in-Some.number c.first_different.ensures c.in-Some.is)) e can;
+      let p = c.requires.apart in
+      tells_each c.args.game.now p.0 p.1 c.args.left.now c.args.right.now p.2 p.3 c.in-Some.number
+      (differs_told c.terms.result.now c.args.game.now.terms c.deref-2.result.now c.deref-3.result.now c.args.left.now
+      c.args.right.now c.deref.result.now c.args.game.now.flat.pool c.terms.ensures
+      (c.deref-2.ensures.value ∙ c.in_ok-one.ensures) (c.deref-3.ensures.value ∙ c.in_ok-other.ensures)
+      (c.deref.ensures.value ∙ ap (λ (t : FlatTerms). t.pool) c.flat.ensures) c.in-Some.number
+      (of_some c.first_different.result _ _ c.in-Some.number c.first_different.ensures c.in-Some.is)) e can;
 }

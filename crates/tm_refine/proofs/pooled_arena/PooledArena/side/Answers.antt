@@ -1,3 +1,4 @@
+use Rattle.tm_refine.proofs.PoolKeeps.{hint_kept, hint_noted}
 use Rattle.tm_refine.proofs.pooled_arena.PooledArena.side.Goals as goal
 
 pub returns-clause-value : goal.returns-clause-value
@@ -14,3 +15,17 @@ returns-in_err-part-clause-follows c = c.side.ensures.kept.follows
 
 pub returns-in_err-part-clause-tests : goal.returns-in_err-part-clause-tests
 returns-in_err-part-clause-tests c = c.side.ensures.kept.tests
+
+pub invariant_of-self-in-Break-1 : goal.invariant_of-self-in-Break-1
+invariant_of-self-in-Break-1 c = record {
+  can = c.side.ensures.kept.can;
+  hint_known = hint_kept c.args.self.now.exact.game c.side.new.game c.args.self.now.hint c.side.ensures.kept
+      c.args.self.now.hint_known;
+}
+
+pub invariant_of-self-2 : goal.invariant_of-self-2
+invariant_of-self-2 c = record {
+  can = c.side.ensures.kept.can;
+  hint_known = hint_noted c.args.self.now.exact.game c.side.new.game c.args.self.now.hint c.noted-self.result
+      c.args.set c.side.ensures.kept c.args.self.now.hint_known c.requires.set_known c.noted-self.ensures;
+}
