@@ -16,13 +16,10 @@ invariant_of-self c =
     let kept = c.rest.ensures.kept in (
       (
         kept.of,
-        goals_kept e.game c.rest.new.game kept e.goals e.goal_count,
-        fairs_kept e.game c.rest.new.game kept e.fairs e.fair_count,
-        tt,
+        (
+          goals_kept e.game c.rest.new.game kept e.goals e.goal_count,
+          (fairs_kept e.game c.rest.new.game kept e.fairs e.fair_count, tt),
+        ),
       ),
-      (
-        kept.can,
-        hint_kept e.game c.rest.new.game c.args.self.now.hint kept c.args.self.now.hint_known,
-        tt,
-      ),
+      (kept.can, (hint_kept e.game c.rest.new.game c.args.self.now.hint kept c.args.self.now.hint_known, tt)),
     )
