@@ -20,3 +20,4 @@ mod values;
 
 pub use game::Game;
 pub use moves::MoveShape;
+pub use values::numbers_of;

@@ -1,15 +1,15 @@
-mod Fixed
+pub mod Fixed
 pub mod Following
-mod Items
-mod Joins
-mod LevelCertificates
-mod Operators
-mod RankCertificates
+pub mod Items
+pub mod Joins
+pub mod LevelCertificates
+pub mod Operators
+pub mod RankCertificates
 mod ReachSteps
 mod RoundSteps
-mod Sets
-mod Siding
-mod SolveSteps
+pub mod Sets
+pub mod Siding
+pub mod SolveSteps
 mod TurnSteps
-mod Views
+pub mod Views
 mod WaitSteps

@@ -39,6 +39,12 @@ pub record Extends (old new : Ids) : Type 0 where
   pub of : (d : DesignTree) → old.of d → new.of d
   pub side : new.side ≡ old.side
 
+-- known ids stay known and mean what they meant, and the designs stay, whatever the side
+pub record Stay (old new : Ids) : Type 0 where
+  pub known : (id : NodeId) → old.knows id → new.knows id
+  pub same : (id : NodeId) → old.knows id → new.means id ≡ old.means id
+  pub of : (d : DesignTree) → old.of d → new.of d
+
 -- the game stays, known ids stay, and ids are equal exactly where their sets are
 pub record Follows (g : Game) (old : Ids) (g' : Game) (new : Ids) : Type 0 where
   pub game : g' ≡ g

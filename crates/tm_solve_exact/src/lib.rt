@@ -8,4 +8,6 @@ mod parts;
 mod sets;
 
 pub use certified::exact_operators_are_those_of_their_designs;
-pub use exact::Exact;
+pub use exact::{Exact, tell};
+pub use parts::part;
+pub use sets::{both, either, rest};

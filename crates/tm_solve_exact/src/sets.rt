@@ -8,8 +8,10 @@ use std::alloc::AllocError;
 use tm_dd::NodeId;
 use tm_game::Game;
 
-// The states in one set or another.
-pub(crate) fn either(game: &mut Game, a: NodeId, b: NodeId) -> Result<NodeId, AllocError>
+/// The states in one set or another.
+///
+/// Every id keeps its meaning, also where memory runs out.
+pub fn either(game: &mut Game, a: NodeId, b: NodeId) -> Result<NodeId, AllocError>
     requires of { HasDesign game.old }
     requires a { IsStateSet game.old a }
     requires b { IsStateSet game.old b }
@@ -24,8 +26,10 @@ pub(crate) fn either(game: &mut Game, a: NodeId, b: NodeId) -> Result<NodeId, Al
     answer
 }
 
-// The states in two sets.
-pub(crate) fn both(game: &mut Game, a: NodeId, b: NodeId) -> Result<NodeId, AllocError>
+/// The states in two sets.
+///
+/// Every id keeps its meaning, also where memory runs out.
+pub fn both(game: &mut Game, a: NodeId, b: NodeId) -> Result<NodeId, AllocError>
     requires of { HasDesign game.old }
     requires a { IsStateSet game.old a }
     requires b { IsStateSet game.old b }
@@ -40,8 +44,10 @@ pub(crate) fn both(game: &mut Game, a: NodeId, b: NodeId) -> Result<NodeId, Allo
     answer
 }
 
-// The states in the first set and not in the second.
-pub(crate) fn rest(game: &mut Game, a: NodeId, b: NodeId) -> Result<NodeId, AllocError>
+/// The states in the first set and not in the second.
+///
+/// Every id keeps its meaning, also where memory runs out.
+pub fn rest(game: &mut Game, a: NodeId, b: NodeId) -> Result<NodeId, AllocError>
     requires of { HasDesign game.old }
     requires a { IsStateSet game.old a }
     requires b { IsStateSet game.old b }

@@ -1,0 +1,10 @@
+use Rattle.tm_refine.proofs.pooled_arena.PooledArena.split.Goals as goal
+
+pub returns-clause-split : goal.returns-clause-split
+returns-clause-split c = c.split.ensures.split
+
+pub returns-clause-follows : goal.returns-clause-follows
+returns-clause-follows c = c.split.ensures.kept.follows
+
+pub returns-clause-tests : goal.returns-clause-tests
+returns-clause-tests c = c.split.ensures.kept.tests

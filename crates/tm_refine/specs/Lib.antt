@@ -1,0 +1,14 @@
+pub mod Apart
+pub mod Decided
+pub mod Numbers
+pub mod PartLaws
+pub mod Parts
+pub mod PoolTests
+pub mod Pooled
+pub mod PooledLaws
+pub mod Reasons
+pub mod Searching
+pub mod Sided
+pub mod SidedLaws
+pub mod Solved
+pub mod Telling

@@ -1,0 +1,152 @@
+//! The parts of sets over the cells of tracked predicates, and states of one cell.
+ghost use Rattle.std.specs.List.{filter};
+ghost use Rattle.std.specs.Prelude.{◌≡◌, ◌++◌, ◌∷◌, [], IfOk, MatchOption, OnOk, nat_lt};
+ghost use Rattle.tm_abs.specs.Split.{IsCut, PartsAreOne};
+ghost use Rattle.tm_abs.specs.Tracked.{AreInPool};
+ghost use Rattle.tm_flat_pool.specs.Predicates.{pool};
+ghost use Rattle.tm_game.specs.Game.{Grows};
+ghost use Rattle.tm_game_pool.specs.Separating.{predicates_at};
+ghost use Rattle.tm_refine.specs.Parts as parts_of;
+ghost use Rattle.tm_refine.specs.Pooled.{CanBeDecided, CanDecide, Keeps, pool_ids, tests_of};
+ghost use Rattle.tm_refine.specs.Sided.{side_part};
+ghost use Rattle.tm_refine.specs.Solved.{IsOut};
+ghost use Rattle.tm_solve.specs.Ids.{Is};
+ghost use Rattle.tm_solve_exact.specs.Exact.{IsStateSet, exact_game, set_of};
+ghost use Rattle.tm_syntax.specs.Design.{DesignTree};
+
+use crate::sets::tell;
+use std::alloc::{AllocError, Global};
+use tm_abs::Cells;
+use tm_dd::NodeId;
+use tm_game::Game;
+use tm_sem::state::State;
+
+// The cells of predicates of these numbers, of which there are so many; other numbers name none.
+pub(crate) fn cells_of(alloc: Global, numbers: &[u32], count: usize) -> Result<Cells, AllocError>
+    ensures { IfOk result (λ c. c.tracked.items ≡ filter (λ k. nat_lt k count) numbers.now) }
+{
+    let mut tracked = Vec::new(alloc);
+    for number in numbers {
+        push_below(&mut tracked, *number, count)?;
+    }
+    Ok(Cells { tracked })
+}
+
+// Puts a number behind others, if it is below a bound.
+fn push_below(numbers: &mut Vec<u32>, number: u32, bound: usize) -> Result<(), AllocError>
+    ensures { OnOk result (numbers.new.items
+        ≡ numbers.old.items ++ filter (λ k. nat_lt k bound) (number ∷ [])) }
+{
+    if (number as usize) < bound {
+        numbers.push(number)?;
+    }
+    Ok(())
+}
+
+// The upper or the lower part of a set over the cells of tracked predicates.
+pub(crate) fn side(
+    alloc: Global,
+    game: &mut Game,
+    tracked: &[u32],
+    upper: bool,
+    set: NodeId,
+) -> Result<NodeId, AllocError>
+    requires can { CanBeDecided game.old }
+    requires set { IsStateSet game.old set }
+    ensures value { IfOk result (λ id. Is (exact_game game.old).states (pool_ids game.new) id
+        (side_part upper (exact_game game.old).states (tests_of game.old tracked.now) (set_of game.old set))) }
+    ensures kept { Keeps game.old game.new }
+{
+    tell(game);
+    let cells = cells_of(alloc, tracked, game.flat().pool.len())?;
+    if upper {
+        return upper_part(alloc, game, &cells, set);
+    }
+    lower_part(alloc, game, &cells, set)
+}
+
+// The cells that meet a set.
+fn upper_part(
+    alloc: Global,
+    game: &mut Game,
+    cells: &Cells,
+    set: NodeId,
+) -> Result<NodeId, AllocError>
+    requires can { CanBeDecided game.old }
+    requires tracked { AreInPool game.old cells.now.tracked.items }
+    requires set { IsStateSet game.old set }
+    ensures value { IfOk result (λ id. Is (exact_game game.old).states (pool_ids game.new) id
+        (parts_of.upper_part (exact_game game.old).states (tests_of game.old cells.now.tracked.items)
+        (set_of game.old set))) }
+    ensures kept { Keeps game.old game.new }
+{
+    let part = cells.upper(alloc, game, set);
+    tell(game);
+    part
+}
+
+// The cells that lie in a set.
+fn lower_part(
+    alloc: Global,
+    game: &mut Game,
+    cells: &Cells,
+    set: NodeId,
+) -> Result<NodeId, AllocError>
+    requires can { CanBeDecided game.old }
+    requires tracked { AreInPool game.old cells.now.tracked.items }
+    requires set { IsStateSet game.old set }
+    ensures value { IfOk result (λ id. Is (exact_game game.old).states (pool_ids game.new) id
+        (parts_of.lower_part (exact_game game.old).states (tests_of game.old cells.now.tracked.items)
+        (set_of game.old set))) }
+    ensures kept { Keeps game.old game.new }
+{
+    let part = cells.lower(alloc, game, set);
+    tell(game);
+    part
+}
+
+// Whether a set leaves out an initial state.
+pub(crate) fn leaves_out(game: &mut Game, set: NodeId) -> Result<bool, AllocError>
+    requires can { CanBeDecided game.old }
+    requires set { IsStateSet game.old set }
+    ensures out { IfOk result (λ b. (d : DesignTree) → CanDecide d game.old → IsOut d (set_of game.old set) b) }
+    ensures kept { Keeps game.old game.new }
+{
+    let out = has_initial_outside(game, set);
+    tell(game);
+    out
+}
+
+// Whether an initial state is outside of a set.
+fn has_initial_outside(game: &mut Game, set: NodeId) -> Result<bool, AllocError>
+    requires can { CanBeDecided game.old }
+    requires set { IsStateSet game.old set }
+    ensures out { IfOk result (λ b. (d : DesignTree) → CanDecide d game.old → IsOut d (set_of game.old set) b) }
+    ensures grows { Grows game.old game.new }
+{
+    let initial = game.initial();
+    let out = game.and(initial, set.complement())?;
+    let found = game.least(out)?;
+    Ok(found.is_some())
+}
+
+// Two states of one cell, the first in a set and the second not.
+pub(crate) fn split(
+    alloc: Global,
+    game: &mut Game,
+    tracked: &[u32],
+    set: NodeId,
+) -> Result<Option<(State, State)>, AllocError>
+    requires can { CanBeDecided game.old }
+    requires set { IsStateSet game.old set }
+    ensures split { IfOk result (λ o. (d : DesignTree) → CanDecide d game.old → MatchOption o
+        (PartsAreOne d (predicates_at (pool d) tracked.now) (set_of game.old set))
+        (λ p. IsCut d (predicates_at (pool d) tracked.now) (set_of game.old set) p.0 p.1)) }
+    ensures kept { Keeps game.old game.new }
+{
+    tell(game);
+    let cells = cells_of(alloc, tracked, game.flat().pool.len())?;
+    let found = cells.split(alloc, game, set);
+    tell(game);
+    found
+}
