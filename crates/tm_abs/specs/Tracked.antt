@@ -12,6 +12,10 @@ pub record IsPooled (d : DesignTree) (g : GameData) : Type 0 where
   pub of : IsOf d g
   pub pool : HasPool d g
 
+-- a game is that of some design, and has its pool
+abbrev pub HasPooled : GameData → Type 0
+HasPooled g = ∥ ((d : DesignTree) × IsPooled d g) ∥₁
+
 -- each number is that of a predicate of the pool
 abbrev pub AreInPool : GameData → List ℕ → Type 0
 AreInPool g ks = All (λ k. k < length g.flat.pool) ks

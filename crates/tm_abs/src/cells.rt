@@ -1,6 +1,6 @@
 //! The lower and the upper part of a set of states (de Alfaro and Roy 2007).
 ghost use Rattle.std.specs.Prelude.{◌&&◌, IfOk};
-ghost use Rattle.tm_abs.specs.Tracked.{AreInPool, IsPooled, tracked_of};
+ghost use Rattle.tm_abs.specs.Tracked.{AreInPool, HasPooled, IsPooled, tracked_of};
 ghost use Rattle.tm_dd.specs.Table.{means};
 ghost use Rattle.tm_ddops.specs.Manager.{IsFunction};
 ghost use Rattle.tm_flat_pool.specs.Cells.{IsInLower, IsInUpper};
@@ -28,7 +28,7 @@ impl Cells {
     /// Every id keeps its meaning, also where memory runs out.
     pub fn lower(&self, alloc: Global, game: &mut Game, c: NodeId) -> Result<NodeId, AllocError>
         requires tracked { AreInPool game.old self.now.tracked.items }
-        requires pool { (d : DesignTree) × IsPooled d game.old }
+        requires pool { HasPooled game.old }
         requires set { IsSet game.old c }
 
         ensures grows { Grows game.old game.new }
@@ -46,7 +46,7 @@ impl Cells {
     /// Every id keeps its meaning, also where memory runs out.
     pub fn upper(&self, alloc: Global, game: &mut Game, c: NodeId) -> Result<NodeId, AllocError>
         requires tracked { AreInPool game.old self.now.tracked.items }
-        requires pool { (d : DesignTree) × IsPooled d game.old }
+        requires pool { HasPooled game.old }
         requires set { IsSet game.old c }
 
         ensures grows { Grows game.old game.new }
@@ -61,7 +61,7 @@ impl Cells {
 
 // Those of some states that are valid.
 fn valid_part(game: &mut Game, set: NodeId) -> Result<NodeId, AllocError>
-    requires pool { (d : DesignTree) × IsPooled d game.old }
+    requires pool { HasPooled game.old }
     requires set { IsSet game.old set }
     ensures grows { Grows game.old game.new }
     ensures order { IsOrder (state_bits_in game.old.flat) game.old.order }

@@ -3,7 +3,7 @@ ghost use Rattle.std.specs.Prelude.{◌≡◌, ◌<◌, ◌++◌, ◌∷◌, [],
 ghost use Rattle.tm_abs.specs.declared.atoms.Atom.{Atom as AtomData};
 ghost use Rattle.tm_abs.specs.Inner.Atoms.{AreTracked, IsAtom, IsNumbered};
 ghost use Rattle.tm_abs.specs.Inner.Reading.{AreRead, IsPredicate, bit_at};
-ghost use Rattle.tm_abs.specs.Tracked.{AreInPool, IsPooled, tracked_of};
+ghost use Rattle.tm_abs.specs.Tracked.{AreInPool, HasPooled, IsPooled, tracked_of};
 ghost use Rattle.tm_dd.specs.Table.{Knows, means};
 ghost use Rattle.tm_flat_pool.specs.Predicates.{Predicate};
 ghost use Rattle.tm_game.specs.Game.{GameData, Grows};
@@ -24,7 +24,7 @@ pub(crate) fn read_tracked(
     numbers: &[u32],
 ) -> Result<Tracked, AllocError>
     requires tracked { AreInPool game.old numbers.now }
-    requires pool { (d : DesignTree) × IsPooled d game.old }
+    requires pool { HasPooled game.old }
 
     ensures grows { Grows game.old game.new }
     ensures order { IsOrder (state_bits_in game.old.flat) game.old.order }
@@ -49,7 +49,7 @@ fn read_predicate(
     atoms: &mut Vec<Atom>,
 ) -> Result<(), AllocError>
     requires number { number < length game.old.flat.pool }
-    requires pool { (d : DesignTree) × IsPooled d game.old }
+    requires pool { HasPooled game.old }
     requires count { length free.old.items ≡ length game.old.order }
 
     ensures grows { Grows game.old game.new }
@@ -75,7 +75,7 @@ fn read_predicate(
 // Where a predicate of the pool holds.
 pub(crate) fn predicate(game: &mut Game, number: u32) -> Result<NodeId, AllocError>
     requires number { number < length game.old.flat.pool }
-    requires pool { (d : DesignTree) × IsPooled d game.old }
+    requires pool { HasPooled game.old }
 
     ensures grows { Grows game.old game.new }
     ensures order { IsOrder (state_bits_in game.old.flat) game.old.order }
@@ -108,8 +108,8 @@ fn bit_level(game: &Game, id: NodeId) -> Option<u32>
 // A predicate of the pool as an atom, from where it holds. The last levels are those of the predicates.
 fn atom_of(game: &Game, number: u32, holds: NodeId) -> Result<Atom, AllocError>
     requires number { number < length game.now.flat.pool }
-    requires pool { (d : DesignTree) × (first : GameData) × IsPooled d first × Grows first game.now
-        × IsPredicate d first game.now.diagrams.table number holds }
+    requires pool { ∥ ((d : DesignTree) × (first : GameData) × IsPooled d first × Grows first game.now
+        × IsPredicate d first game.now.diagrams.table number holds) ∥₁ }
 
     ensures holds { IfOk result (λ a. a.holds ≡ holds) }
     ensures atom { IfOk result (IsAtom (length game.now.order) game.now.diagrams.table) }

@@ -2,7 +2,7 @@
 ghost use Rattle.std.specs.Prelude.{◌≡◌, ◌<◌, ◌&&◌, ◌++◌, ◌∷◌, [], IfOk, List, MatchOption, length};
 ghost use Rattle.tm_abs.specs.Inner.Narrowed.{IsCutOff, IsNarrowed};
 ghost use Rattle.tm_abs.specs.Split.{IsCut, PartsAreOne};
-ghost use Rattle.tm_abs.specs.Tracked.{AreInPool, IsPooled, tracked_of};
+ghost use Rattle.tm_abs.specs.Tracked.{AreInPool, HasPooled, IsPooled, tracked_of};
 ghost use Rattle.tm_dd.specs.NodeId.{complement};
 ghost use Rattle.tm_dd.specs.Table.{Knows, means};
 ghost use Rattle.tm_dd.specs.declared.node.NodeId.{NodeId as Id};
@@ -39,7 +39,7 @@ impl Cells {
         c: NodeId,
     ) -> Result<Option<(State, State)>, AllocError>
         requires tracked { AreInPool game.old self.now.tracked.items }
-        requires pool { (d : DesignTree) × IsPooled d game.old }
+        requires pool { HasPooled game.old }
         requires set { IsSet game.old c }
 
         ensures grows { Grows game.old game.new }
@@ -69,9 +69,9 @@ impl Cells {
         state: State,
     ) -> Result<(State, State), AllocError>
         requires tracked { AreInPool game.old self.now.tracked.items }
-        requires cut { (d : DesignTree) × (g : GameData) × IsPooled d g × Grows g game.old × IsSet g c
+        requires cut { ∥ ((d : DesignTree) × (g : GameData) × IsPooled d g × Grows g game.old × IsSet g c
             × IsCutOff d game.old (tracked_of d self.now.tracked.items) (test_of d g c) cut
-            × IsNarrowed d game.old game.old.diagrams.table cut [] state game.old.valid cut }
+            × IsNarrowed d game.old game.old.diagrams.table cut [] state game.old.valid cut) ∥₁ }
 
         ensures grows { Grows game.old game.new }
         ensures pair { IfOk result (λ pair. (d : DesignTree) (g : GameData) → IsPooled d g → Grows g game.old
@@ -97,9 +97,9 @@ impl Cells {
     // the others otherwise.
     fn narrowed(&self, game: &mut Game, whole: Narrowing) -> Result<Narrowing, AllocError>
         requires tracked { AreInPool game.old self.now.tracked.items }
-        requires narrowed { (d : DesignTree) × (first : GameData) × (set : Id) × IsPooled d first
+        requires narrowed { ∥ ((d : DesignTree) × (first : GameData) × (set : Id) × IsPooled d first
             × Grows first game.old
-            × IsNarrowed d first game.old.diagrams.table set [] whole.state whole.cell whole.sought }
+            × IsNarrowed d first game.old.diagrams.table set [] whole.state whole.cell whole.sought) ∥₁ }
 
         ensures grows { Grows game.old game.new }
         ensures narrowed { IfOk result (λ n. (d : DesignTree) (first : GameData) (set : Id) → IsPooled d first
@@ -119,9 +119,9 @@ impl Cells {
 // Narrows a cell by a predicate of the pool.
 fn narrow(game: &mut Game, number: u32, found: Narrowing) -> Result<Narrowing, AllocError>
     requires number { number < length game.old.flat.pool }
-    requires narrowed { (d : DesignTree) × (first : GameData) × (set : Id) × (before : List Predicate)
+    requires narrowed { ∥ ((d : DesignTree) × (first : GameData) × (set : Id) × (before : List Predicate)
         × IsPooled d first × Grows first game.old
-        × IsNarrowed d first game.old.diagrams.table set before found.state found.cell found.sought }
+        × IsNarrowed d first game.old.diagrams.table set before found.state found.cell found.sought) ∥₁ }
 
     ensures grows { Grows game.old game.new }
     ensures narrowed { IfOk result (λ n. (d : DesignTree) (first : GameData) (set : Id) (before : List Predicate)

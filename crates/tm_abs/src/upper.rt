@@ -4,7 +4,7 @@ ghost use Rattle.tm_abs.specs.Inner.Atoms.{AreApart, IsAtom};
 ghost use Rattle.tm_abs.specs.Inner.Marks.{AreListed};
 ghost use Rattle.tm_abs.specs.Inner.Quantified.{IsPutTo, IsQuantified, IsReached};
 ghost use Rattle.tm_abs.specs.Inner.Turns.{AreTurnsOf};
-ghost use Rattle.tm_abs.specs.Tracked.{AreInPool, IsPooled, tracked_of};
+ghost use Rattle.tm_abs.specs.Tracked.{AreInPool, HasPooled, IsPooled, tracked_of};
 ghost use Rattle.tm_abs.specs.declared.atoms.Atom.{Atom as AtomData};
 ghost use Rattle.tm_dd.specs.Table.{Knows, means};
 ghost use Rattle.tm_ddops.specs.Connective.{xor};
@@ -31,7 +31,7 @@ pub(crate) fn upper_part(
     set: NodeId,
 ) -> Result<NodeId, AllocError>
     requires tracked { AreInPool game.old numbers.now }
-    requires pool { (d : DesignTree) × IsPooled d game.old }
+    requires pool { HasPooled game.old }
     requires set { IsSet game.old set }
     requires valid { (v : Assignment) → means game.old.diagrams.table set v ≡ true
         → means game.old.diagrams.table game.old.valid v ≡ true }
