@@ -1,6 +1,6 @@
 -- What synthesis finds of a design, in words of the texts that it makes. Here d is the design, `driver` is the C text
--- of a driver, and `cert` the text of a certificate.
-use Rattle.std.specs.Prelude.{◌≡◌, ℕ, ◌+◌, ◌*◌, List, [], length, map}
+-- of a driver, `cert` the text of a certificate, and `trace` the predicates that were tracked.
+use Rattle.std.specs.Prelude.{◌≡◌, ℕ, ◌+◌, ◌*◌, List, [], length, map, Option}
 use Rattle.tm_cert.specs.Cert.{DriverData, EnvData}
 use Rattle.tm_cert.specs.CertValue.{IsCertText}
 use Rattle.tm_cert.specs.declared.cert.Cert.TheVariants as certs
@@ -8,6 +8,11 @@ use Rattle.tm_cert.specs.declared.shape.Kind.TheVariants as kinds
 use Rattle.tm_cir.specs.Answer.{Answers}
 use Rattle.tm_cir.specs.Text.{IsDriverText}
 use Rattle.tm_cir.specs.Tree.{BlockTree}
+use Rattle.tm_flat_pool.specs.Cells.{AreDriverUnions, AreLevelUnions}
+use Rattle.tm_flat_pool.specs.Predicates.{pool}
+use Rattle.tm_game_pool.specs.Separating.{predicates_at}
+use Rattle.tm_refine.specs.Decided.{IsHonest, IsSpent, numbers_of}
+use Rattle.tm_refine.specs.declared.trace.Trace.{Trace}
 use Rattle.tm_sem.specs.Certificates.{MeetsDriver, MeetsEnvironment, longest_chain}
 use Rattle.tm_sem.specs.Fairness.{conditions}
 use Rattle.tm_sem.specs.Loss.{Beats, Lost}
@@ -19,11 +24,13 @@ use Rattle.tm_verdict.specs.Sets.{driver_sets, levels_of}
 use Rattle.tm_judge.specs.Shape.{shape_of}
 use Rattle.tm_syntax.specs.Design.{DesignTree}
 use Rattle.tm_synth.specs.declared.found.Synthesis.{Synthesis}
-use Rattle.tm_synth.specs.declared.found.Synthesis.TheVariants.{Driver, Environment}
+use Rattle.tm_synth.specs.declared.found.Synthesis.TheVariants.{Driver, Environment, Spent}
 
 -- the texts are blocks and a certificate of theirs, in the weight order, and the blocks are a good driver with these
--- ranks; the certificate has so many nodes
-pub record IsDriverFound (d : DesignTree) (driver cert : List ℕ) (ranks : List ℕ) (nodes : ℕ) : Type 0 where
+-- ranks; the certificate has so many nodes, and its sets are unions of cells of the predicates that an honest trace
+-- tracks at its end
+pub record IsDriverFound (d : DesignTree) (driver cert : List ℕ) (ranks : List ℕ) (nodes : ℕ) (trace : Trace) :
+    Type 0 where
   pub blocks : List BlockTree
   pub certificate : DriverData
   pub reads_so : IsDriverText d driver blocks
@@ -34,10 +41,13 @@ pub record IsDriverFound (d : DesignTree) (driver cert : List ℕ) (ranks : List
   pub ranks_are : ranks ≡ map length certificate.goals
   pub nodes_are : nodes ≡ length certificate.nodes
   pub good : Good d (Answers blocks) ranks
+  pub honest : IsHonest d trace
+  pub unions : AreDriverUnions d (predicates_at (pool d) (numbers_of trace)) (driver_sets d certificate)
 
 -- the text is a certificate of the environment, in the weight order, with these numbers of levels, of fairness
--- conditions and of sets in the longest chain, and the design is lost in as many steps as these tell
-pub record IsEnvironmentFound (d : DesignTree) (cert : List ℕ) (levels many chain : ℕ) : Type 0 where
+-- conditions and of sets in the longest chain, and the design is lost in as many steps as these tell; its sets are
+-- unions of cells of the predicates that an honest trace tracks at its end
+pub record IsEnvironmentFound (d : DesignTree) (cert : List ℕ) (levels many chain : ℕ) (trace : Trace) : Type 0 where
   pub certificate : EnvData
   pub certifies : IsCertText (shape_of d kinds.Environment) cert (certs.Environment certificate)
   pub order : certificate.order ≡ weight_order (state_widths d)
@@ -48,8 +58,17 @@ pub record IsEnvironmentFound (d : DesignTree) (cert : List ℕ) (levels many ch
   pub lost : Lost d
   pub within : (n : ℕ) → (first : StateData) × IsInitial d first
       × Beats d (levels * (n * (many * chain) + 1)) [] first n
+  pub honest : IsHonest d trace
+  pub unions : AreLevelUnions d (predicates_at (pool d) (numbers_of trace)) (levels_of d certificate)
 
--- what is found of a design: a driver, or that there is none
-abbrev pub IsFound : DesignTree → Synthesis → Type 0
-IsFound d (Driver f) = IsDriverFound d f.driver.items f.cert.items f.ranks.items f.nodes
-IsFound d (Environment f) = IsEnvironmentFound d f.cert.items f.levels f.conditions f.chain
+-- as many predicates were added as the budget allows, for the reasons that an honest trace tells, and no certificate
+-- has sets that are unions of cells of those that it tracks at its end
+pub record IsBudgetSpent (d : DesignTree) (budget : Option ℕ) (trace : Trace) : Type 0 where
+  pub honest : IsHonest d trace
+  pub spent : IsSpent d budget trace
+
+-- what is found of a design within a budget: a driver, that there is none, or neither
+abbrev pub IsFound : DesignTree → Option ℕ → Synthesis → Type 0
+IsFound d budget (Driver f) = IsDriverFound d f.driver.items f.cert.items f.ranks.items f.nodes f.trace
+IsFound d budget (Environment f) = IsEnvironmentFound d f.cert.items f.levels f.conditions f.chain f.trace
+IsFound d budget (Spent trace) = IsBudgetSpent d budget trace

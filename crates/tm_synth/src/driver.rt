@@ -1,9 +1,13 @@
 //! The files of a driver.
-ghost use Rattle.std.specs.Prelude.{◌≡◌, IfOk};
+ghost use Rattle.std.specs.Prelude.{◌≡◌, ℕ, IfOk, Option};
 ghost use Rattle.tm_check.specs.Reads.{IsSized};
 ghost use Rattle.tm_cir.specs.Answer.{Answers};
 ghost use Rattle.tm_cir.specs.View.{trees_of};
+ghost use Rattle.tm_flat_pool.specs.Cells.{AreDriverUnions};
+ghost use Rattle.tm_flat_pool.specs.Predicates.{pool};
+ghost use Rattle.tm_game_pool.specs.Separating.{predicates_at};
 ghost use Rattle.tm_judge.specs.Judged.{CanJudgeDriver};
+ghost use Rattle.tm_refine.specs.Decided.{IsHonest, numbers_of};
 ghost use Rattle.tm_sem.specs.Certificates.{MeetsDriver, MeetsMoveForm};
 ghost use Rattle.tm_solve.specs.Iterates as solution;
 ghost use Rattle.tm_solve.specs.Iterates.{KnowsAll};
@@ -23,6 +27,7 @@ use tm_cprint::print;
 use tm_ddops::Manager;
 use tm_game::Game;
 use tm_judge::{judge_driver, ranks_of};
+use tm_refine::Trace;
 use tm_reorder::reorder_driver;
 use tm_solve::Iterates;
 use tm_strat::{Driven, driver};
@@ -88,12 +93,17 @@ fn files_of(
     alloc: Global,
     design: &Design,
     made: &Certified,
+    trace: Trace,
     weight: &[u32],
 ) -> Result<DriverFiles, AllocError>
     requires weight { IsWeightOrder (design_tree design.now) weight.now }
     requires shown { IsDriverShown (design_tree design.now) (trees_of made.now.blocks) made.now.cert }
+    requires honest { IsHonest (design_tree design.now) trace }
+    requires unions { AreDriverUnions (design_tree design.now)
+        (predicates_at (pool (design_tree design.now)) (numbers_of trace))
+        (driver_sets (design_tree design.now) made.now.cert) }
     ensures { IfOk result (λ f. IsDriverFound (design_tree design.now) f.driver.items f.cert.items f.ranks.items
-        f.nodes) }
+        f.nodes f.trace) }
 {
     let driver = print(alloc, design, &made.blocks)?;
     let ranks = ranks_of(alloc, &made.cert)?;
@@ -107,6 +117,7 @@ fn files_of(
         cert,
         ranks,
         nodes,
+        trace,
     })
 }
 
@@ -117,6 +128,7 @@ pub(crate) fn driver_files(
     design: &Design,
     game: Game,
     iterates: &Iterates,
+    trace: Trace,
     weight: &[u32],
 ) -> Result<Synthesis, AllocError>
     requires weight { IsWeightOrder (design_tree design.now) weight.now }
@@ -127,12 +139,16 @@ pub(crate) fn driver_files(
     requires sized { IsSized game }
     requires known { KnowsAll (exact_ids game) iterates.now }
     requires meets { MeetsMoveForm (design_tree design.now) (solution.driver_sets (exact_ids game) iterates.now) }
-    ensures { IfOk result (IsFound (design_tree design.now)) }
+    requires honest { IsHonest (design_tree design.now) trace }
+    requires unions { AreDriverUnions (design_tree design.now)
+        (predicates_at (pool (design_tree design.now)) (numbers_of trace))
+        (solution.driver_sets (exact_ids game) iterates.now) }
+    ensures { (budget : Option ℕ) → IfOk result (IsFound (design_tree design.now) budget) }
 {
     let made = certify(alloc, design, game, iterates)?;
     match judge_driver(alloc, design, &made.blocks, &made.cert)? {
         Verdict::Accepted => {
-            let files = files_of(alloc, design, &made, weight)?;
+            let files = files_of(alloc, design, &made, trace, weight)?;
             Ok(Synthesis::Driver(files))
         }
         Verdict::Refused { .. } => unreachable!(),

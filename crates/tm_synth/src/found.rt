@@ -1,4 +1,5 @@
 //! What is found of a design.
+use tm_refine::Trace;
 
 /// The files of a driver, and the numbers that are reported of it.
 #[derive(Drop)]
@@ -11,6 +12,8 @@ pub struct DriverFiles {
     pub ranks: Vec<u64>,
     /// How many nodes the certificate lists.
     pub nodes: u64,
+    /// The predicates over which it was found.
+    pub trace: Trace,
 }
 
 /// The file of the environment, and the numbers that are reported of it.
@@ -24,6 +27,8 @@ pub struct EnvironmentFiles {
     pub conditions: u64,
     /// How many sets its longest chain has.
     pub chain: u64,
+    /// The predicates over which it was found.
+    pub trace: Trace,
 }
 
 /// What is found of a design.
@@ -31,4 +36,6 @@ pub struct EnvironmentFiles {
 pub enum Synthesis {
     Driver(DriverFiles),
     Environment(EnvironmentFiles),
+    /// Neither was, and the budget of predicates is spent.
+    Spent(Trace),
 }
