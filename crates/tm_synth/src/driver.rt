@@ -174,11 +174,9 @@ fn judged(
 
 // The files of these texts.
 fn files_of(texts: Texts, trace: Trace) -> DriverFiles
-    ensures driver { result.driver ≡ texts.driver }
-    ensures cert { result.cert ≡ texts.cert.bytes }
-    ensures ranks { result.ranks ≡ texts.ranks }
-    ensures nodes { result.nodes ≡ texts.cert.nodes }
-    ensures trace { result.trace ≡ trace }
+    ensures { (d : DesignTree)
+        → IsDriverFound d texts.driver.items texts.cert.bytes.items texts.ranks.items texts.cert.nodes trace
+        → IsDriverFound d result.driver.items result.cert.items result.ranks.items result.nodes result.trace }
 {
     let Texts {
         driver,

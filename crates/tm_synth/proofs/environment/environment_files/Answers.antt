@@ -1,0 +1,19 @@
+use Rattle.std.proofs.Common.{length, ap, ◌∙◌, rules}
+use Rattle.tm_syntax.specs.Design.View.{design_tree}
+use Rattle.tm_synth.proofs.Files.{levels_traced, loss_found}
+use Rattle.tm_synth.proofs.environment.environment_files.Goals as goal
+
+pub judged-text-requires-clause-can : goal.judged-text-requires-clause-can
+judged-text-requires-clause-can c = record {
+  sound = c.requires.sound;
+  of_text = c.requires.of_text;
+  cert = c.in-Ok.ensures.fits (design_tree c.args.design.now) c.requires.exact.ordered.of
+      (record { goals = c.requires.meets.goals; chains = c.requires.meets.chains });
+}
+
+pub judged-text-requires-clause-meets : goal.judged-text-requires-clause-meets
+judged-text-requires-clause-meets c =
+    (c.in-Ok.ensures.meets (design_tree c.args.design.now) c.requires.exact.ordered.of).1 c.requires.meets
+
+pub returns-in-Ok-text : goal.returns-in-Ok-text
+returns-in-Ok-text c = ?
