@@ -7,23 +7,20 @@ use Rattle.tm_game.specs.Game.{GameData}
 use Rattle.tm_game_bits.proofs.Orders.{length_order}
 use Rattle.tm_game_pool.specs.Pooled.{HasPool}
 use Rattle.tm_judge.specs.Ordered.{IsOrderedGame}
-use Rattle.tm_refine.specs.Decided.{IsDecided, IsHonest, IsSpent, KnowsDecision}
+use Rattle.tm_refine.specs.Decided.{IsDecided, KnowsDecision}
 use Rattle.tm_refine.specs.Pooled.{CanDecide, pool_ids}
 use Rattle.tm_refine.specs.declared.trace.Decision.{Decision}
 use Rattle.tm_refine.specs.declared.trace.Decision.TheVariants as decisions
-use Rattle.tm_refine.specs.declared.trace.Trace.{Trace}
 use Rattle.tm_sem.proofs.Certified.{has_goal}
-use Rattle.tm_sem.specs.Certificates.{MeetsEnvironment, MeetsMoveForm}
 use Rattle.tm_sem.specs.StateBits.{state_widths}
-use Rattle.tm_solve.specs.Iterates.{KnowsAll, driver_sets, levels_of}
+use Rattle.tm_solve.specs.Iterates.{KnowsAll}
 use Rattle.tm_solve.specs.declared.iterates.Iterates.{Iterates}
 use Rattle.tm_solve_exact.proofs.Growing.{order_told}
 use Rattle.tm_solve_exact.specs.Exact.{IsExactOf, exact_ids}
 use Rattle.tm_solve_exact.specs.Solving.{CanSolve}
 use Rattle.tm_syntax.specs.Design.{DesignTree, IsDesign}
 use Rattle.tm_verdict.specs.Regular.{IsRegular}
-use Rattle.tm_synth.specs.Found.{IsBudgetSpent}
-use Rattle.tm_synth.specs.Traced.{IsGameDecided, TracesDriver, TracesLevels}
+use Rattle.tm_synth.specs.Traced.{IsGameDecided}
 
 -- ---- the game that is made
 -- it can be solved
@@ -88,48 +85,3 @@ game_decided d budget order made solved g h r same ordered was can is known ther
       exact = can.solve.exact;
       sized = still_sized d order solved g (subst (IsOrderedGame d order) (sym same) ordered) was can.solve.exact;
     })
-
--- ---- a side that wins
-module _ (d : DesignTree) (budget : Option ℕ) (g : GameData) (r : Decision) (is : IsGameDecided d budget g r) where
-  -- the driver
-  pub driver_known : (it : Iterates) (t : Trace) → r ≡ decisions.Driver it t → KnowsAll (exact_ids g) it
-  driver_known it t here = subst (λ (x : Decision). KnowsDecision (exact_ids g) x) here is.known
-
-  driver_decided : (it : Iterates) (t : Trace) → r ≡ decisions.Driver it t →
-      IsDecided d budget (exact_ids g) (decisions.Driver it t)
-  driver_decided it t here = subst (λ (x : Decision). IsDecided d budget (exact_ids g) x) here is.decided
-
-  pub driver_meets : (it : Iterates) (t : Trace) → r ≡ decisions.Driver it t →
-      MeetsMoveForm d (driver_sets (exact_ids g) it)
-  driver_meets it t here = (driver_decided it t here).1
-
-  pub driver_traces : (it : Iterates) (t : Trace) → r ≡ decisions.Driver it t →
-      TracesDriver d t (driver_sets (exact_ids g) it)
-  driver_traces it t here =
-      let told = driver_decided it t here in
-      record { honest = told.0; unions = told.2 }
-
-  -- the environment
-  pub levels_known : (it : Iterates) (t : Trace) → r ≡ decisions.Environment it t → KnowsAll (exact_ids g) it
-  levels_known it t here = subst (λ (x : Decision). KnowsDecision (exact_ids g) x) here is.known
-
-  levels_decided : (it : Iterates) (t : Trace) → r ≡ decisions.Environment it t →
-      IsDecided d budget (exact_ids g) (decisions.Environment it t)
-  levels_decided it t here = subst (λ (x : Decision). IsDecided d budget (exact_ids g) x) here is.decided
-
-  pub levels_meet : (it : Iterates) (t : Trace) → r ≡ decisions.Environment it t →
-      MeetsEnvironment d (levels_of (exact_ids g) it)
-  levels_meet it t here = (levels_decided it t here).1
-
-  pub levels_trace : (it : Iterates) (t : Trace) → r ≡ decisions.Environment it t →
-      TracesLevels d t (levels_of (exact_ids g) it)
-  levels_trace it t here =
-      let told = levels_decided it t here in
-      record { honest = told.0; unions = told.2 }
-
-  -- neither
-  pub budget_spent : (t : Trace) → r ≡ decisions.Spent t → IsBudgetSpent d budget t
-  budget_spent t here =
-      let told : IsHonest d t × IsSpent d budget t =
-      subst (λ (x : Decision). IsDecided d budget (exact_ids g) x) here is.decided in
-      record { honest = told.0; spent = told.1 }
