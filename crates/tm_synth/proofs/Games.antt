@@ -44,21 +44,3 @@ module _ (d : DesignTree) where
         wide = subst (All (λ w. w ≤ 64)) (sym same) ordered.wide;
         levels = omega (arith, ordered.few_levels, places_are g is, places_are made was);
       }
-
--- a solution stays what it was while more ids become known
-module _ (a b : Ids) (e : Extends a b) (it : Iterates) (known : KnowsAll a it) where
-  pub still_known : KnowsAll b it
-  still_known = record {
-    region = e.known it.region known.region;
-    ranks = rankings_known e it.ranks.items known.ranks;
-    levels = levels_known e it.levels.items known.levels;
-  }
-
-  pub same_sets : driver_sets b it ≡ driver_sets a it
-  same_sets = λ i. record {
-    region = e.same it.region known.region i;
-    goals = rankings_stay e it.ranks.items known.ranks i;
-  }
-
-  pub same_levels : levels_of b it ≡ levels_of a it
-  same_levels = levels_stay e it.levels.items known.levels

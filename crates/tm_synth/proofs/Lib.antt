@@ -2,5 +2,4 @@ mod Calling
 mod Certificates
 mod Files
 mod Games
-mod Known
-mod Losing
+mod Verdicts
