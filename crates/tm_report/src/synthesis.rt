@@ -152,6 +152,17 @@ fn budget_line(alloc: Global, budget: u32) -> Result<Vec<u8>, AllocError>
     Ok(line)
 }
 
+// Puts that line.
+fn put_allowed<O: Sink>(alloc: Global, budget: u32, out: &mut O) -> Result<(), Failure>
+    ensures { HasPut (line_of_budget budget)
+        (sink_data ⟦<O as Sink>⟧ out.old) (sink_data ⟦<O as Sink>⟧ out.new) result }
+{
+    let Ok(line) = budget_line(alloc, budget) else {
+        return Err(Failure::Memory);
+    };
+    put_line(alloc, out, &line)
+}
+
 /// Puts the lines of a design that a budget leaves undecided, with the predicates that were tracked.
 pub fn put_budget<O: Sink>(
     alloc: Global,
@@ -163,10 +174,7 @@ pub fn put_budget<O: Sink>(
     ensures { HasPut (budget_text (design_tree design.now) budget trace.now)
         (sink_data ⟦<O as Sink>⟧ out.old) (sink_data ⟦<O as Sink>⟧ out.new) result }
 {
-    let Ok(line) = budget_line(alloc, budget) else {
-        return Err(Failure::Memory);
-    };
-    match put_line(alloc, out, &line) {
+    match put_allowed(alloc, budget, out) {
         Ok(()) => put_trace(alloc, design, trace, out),
         Err(failure) => Err(failure),
     }
