@@ -170,9 +170,9 @@ pub data HasDecided : Result Ending Failure → Type 0 where
 
 -- so, or the budget is spent
 pub data HasDecidedOrSpent : Option ℕ → Result Ending Failure → Type 0 where
-  has_decided : {budget : Option ℕ} {outcome : Result Ending Failure} → HasDecided outcome →
+  found_either : {budget : Option ℕ} {outcome : Result Ending Failure} → HasDecided outcome →
       HasDecidedOrSpent budget outcome
-  has_spent : (n : ℕ) (trace : Trace) → HasDecidedOrSpent (Some n) (Ok (Budget n trace))
+  found_neither : (n : ℕ) (trace : Trace) → HasDecidedOrSpent (Some n) (Ok (Budget n trace))
 
 -- a budget allows to add all predicates that are not tracked from the start; without one all may be added
 abbrev pub IsAmple : DesignTree → Option ℕ → Type 0

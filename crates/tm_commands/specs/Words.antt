@@ -53,15 +53,19 @@ pub record Split : Type 0 where
   pub positional : List (List ℕ)
   pub budgets : List ℕ
 
--- words that are split, with one more before them: one that is positional, if it is no option
-abbrev pub word_before : List ℕ → Option Split → Option Split
-word_before word rest =
-    if is_option word then None else option_map (λ s. record s { positional = word ∷ s.positional }) rest
+-- words that are split, with a positional one before them, and with the number of a budget
+abbrev pub with_word : List ℕ → Split → Split
+with_word word s = record s { positional = word ∷ s.positional }
 
--- or the number of a budget, if it is one
+abbrev pub with_budget : ℕ → Split → Split
+with_budget n s = record s { budgets = n ∷ s.budgets }
+
+-- so with a word, if it is no option, and with a word that is to be the number of a budget, if it is one
+abbrev pub word_before : List ℕ → Option Split → Option Split
+word_before word rest = if is_option word then None else option_map (with_word word) rest
+
 abbrev pub budget_before : List ℕ → Option Split → Option Split
-budget_before word rest =
-    option_and_then (λ n. option_map (λ s. record s { budgets = n ∷ s.budgets }) rest) (number_of greatest_budget word)
+budget_before word rest = option_and_then (λ n. option_map (with_budget n) rest) (number_of greatest_budget word)
 
 -- the words behind a command, split where each of them has a reading: `--budget N` and `--budget=N` are budgets, and
 -- behind the first `--`, which is no word of its own, all are positional; `waits` where the word before is `--budget`
@@ -80,6 +84,10 @@ pub record Behind : Type 0 where
   pub positional : List (List ℕ)
   pub budget : Option ℕ
 
+-- these words, and this budget if there is one
+abbrev pub behind_with : List (List ℕ) → Option ℕ → Behind
+behind_with positional budget = record { positional = positional; budget = budget }
+
 -- the budget, where there is at most one
 abbrev pub one_budget : List ℕ → Option (Option ℕ)
 one_budget [] = Some None
@@ -89,8 +97,7 @@ one_budget _ = None
 -- split words as what stands behind a command, where none is empty and at most one is a budget
 abbrev pub behind_as : Split → Option Behind
 behind_as s = option_and_then
-    (λ budget. then_some (list_all is_filled s.positional) (record { positional = s.positional; budget = budget }))
-    (one_budget s.budgets)
+    (λ budget. then_some (list_all is_filled s.positional) (behind_with s.positional budget)) (one_budget s.budgets)
 
 -- what stands behind a command, where each word has a reading
 abbrev pub behind_of : List (List ℕ) → Option Behind

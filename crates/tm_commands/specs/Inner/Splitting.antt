@@ -8,7 +8,7 @@ use Rattle.clap.specs.declared.builder.action.ArgAction.TheVariants.{Append, Set
 use Rattle.clap.specs.declared.builder.value_parser.ValueParser.TheVariants.{NonEmptyString}
 use Rattle.clap.specs.declared.parser.matches.ArgMatches.{ArgMatches}
 use Rattle.tm_commands.specs.declared.words.splitting.Behind.{Behind as Found}
-use Rattle.tm_commands.specs.Words.{Behind, greatest_budget, number_of}
+use Rattle.tm_commands.specs.Words.{Behind, behind_with, greatest_budget, number_of}
 
 -- any number of positional words, none of them empty
 abbrev pub words_rule : Rule
@@ -47,8 +47,7 @@ asked (Some word) = option_map (λ n. Some n) (number_of greatest_budget word)
 
 -- what stands behind a command, from what was found
 abbrev pub behind_found : (positional : List (List ℕ)) → Option (List ℕ) → Option Behind
-behind_found positional word =
-    option_map (λ budget. record { positional = positional; budget = budget }) (asked word)
+behind_found positional word = option_map (behind_with positional) (asked word)
 
 -- what stands behind a command, as the code has it
 abbrev pub behind_view : Found → Behind

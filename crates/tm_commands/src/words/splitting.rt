@@ -70,7 +70,7 @@ fn positional<'a>(alloc: Global, matches: &ArgMatches<'a>) -> Result<Vec<&'a str
 
 /// The budget that a word asks for, if there is a word; none where it is no number.
 fn read_budget(word: Option<&str>) -> Option<Option<u32>>
-    ensures { result ≡ asked (option_map (λ w. w.now) word) }
+    ensures { result ≡ asked (option_map (λ w. w.now) word.entry) }
 {
     let Some(word) = word else {
         return Some(None);
