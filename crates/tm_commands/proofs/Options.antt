@@ -56,12 +56,13 @@ no_number (b ∷ c ∷ bs) is =
 pub part_is : (first word rest : List ℕ) → part_behind first word ≡ Some rest → word ≡ first ++ rest
 part_is [] word rest is = cc
 part_is (b ∷ bs) [] rest is = cc
-part_is (b ∷ bs) (c ∷ cs) rest is = go (b == c) refl is
+part_is (b ∷ bs) (c ∷ cs) rest is = go (part_is bs cs rest) (b == c) refl is
   where
-    go : (t : Bool) → (b == c) ≡ t → cond t (part_behind bs cs) None ≡ Some rest → c ∷ cs ≡ b ∷ (bs ++ rest)
-    go true same is =
-        ap (λ (x : ℕ). x ∷ cs) (sym (eqb-true b c same)) ∙ ap (λ (xs : List ℕ). b ∷ xs) (part_is bs cs rest is)
-    go false other is = cc
+    go : (part_behind bs cs ≡ Some rest → cs ≡ bs ++ rest) → (t : Bool) → (b == c) ≡ t →
+        cond t (part_behind bs cs) None ≡ Some rest → c ∷ cs ≡ b ∷ (bs ++ rest)
+    go others true same is =
+        ap (λ (x : ℕ). x ∷ cs) (sym (eqb-true b c same)) ∙ ap (λ (xs : List ℕ). b ∷ xs) (others is)
+    go others false other is = cc
 
 -- and one that begins with it
 pub part_of : (first rest : List ℕ) → part_behind first (first ++ rest) ≡ Some rest
@@ -73,25 +74,26 @@ pub alone_or_with : (text : List ℕ) →
     (text ≡ before_first (λ x. x == 61) text)
     ⊎ ((rest : List ℕ) × (text ≡ before_first (λ x. x == 61) text ++ 61 ∷ rest))
 alone_or_with [] = inl refl
-alone_or_with (x ∷ xs) = go (x == 61) refl
+alone_or_with (x ∷ xs) = go (alone_or_with xs) (x == 61) refl
   where
-    go : (t : Bool) → (x == 61) ≡ t →
+    go : (xs ≡ before_first (λ x. x == 61) xs)
+        ⊎ ((rest : List ℕ) × (xs ≡ before_first (λ x. x == 61) xs ++ 61 ∷ rest)) → (t : Bool) → (x == 61) ≡ t →
         (x ∷ xs ≡ before_first (λ x. x == 61) (x ∷ xs))
         ⊎ ((rest : List ℕ) × (x ∷ xs ≡ before_first (λ x. x == 61) (x ∷ xs) ++ 61 ∷ rest))
-    go true is =
+    go others true is =
         let none : before_first (λ x. x == 61) (x ∷ xs) ≡ [] =
         ap (λ t. take (cond (not t) (1 + position_or_len (λ x. x == 61) xs) 0) (x ∷ xs)) is in
         inr (
           xs,
           ap (λ y. y ∷ xs) (eqb-true x 61 is) ∙ ap (λ before. before ++ 61 ∷ xs) (sym none),
         )
-    go false is =
+    go others false is =
         let more : before_first (λ x. x == 61) (x ∷ xs) ≡ x ∷ before_first (λ x. x == 61) xs =
         ap (λ t. take (cond (not t) (1 + position_or_len (λ x. x == 61) xs) 0) (x ∷ xs)) is
         ∙ ap (λ n. take n (x ∷ xs))
         (let next : 1 + position_or_len (λ x. x == 61) xs ≡ suc (position_or_len (λ x. x == 61) xs) = omega arith in
         next) in
-        elim alone_or_with xs [
+        elim others [
           | inl alone ↦ inl (ap (λ ys. x ∷ ys) alone ∙ sym more)
           | inr rest ↦ inr (
             rest.0,
@@ -106,7 +108,7 @@ pub other_name : (text : List ℕ) → bytes_eq (45 ∷ 45 ∷ text) (codes "--b
 other_name text alone with = go (bytes_eq (codes "budget") (before_first (λ x. x == 61) text)) refl
   where
     none : codes "budget" ≡ before_first (λ x. x == 61) text → ⊥
-    none is = elim alone_or_with text [
+    none is = elim (alone_or_with text) [
       | inl whole ↦ true≢false (sym (ap (λ t. bytes_eq (45 ∷ 45 ∷ t) (codes "--budget")) (whole ∙ sym is)) ∙ alone)
       | inr rest ↦
         let both : Some rest.0 ≡ None =

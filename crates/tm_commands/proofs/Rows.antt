@@ -18,7 +18,7 @@ words_in rows = unwrap_or (all_of (codes "words") rows) []
 -- rows that keep these words and this budget
 pub record Keeps (rows : List Row) (kept : List Text) (budget : Option Text) : Type 0 where
   pub words : words_in rows ≡ kept
-  pub budget : first_of (codes "budget") rows ≡ budget
+  pub found : first_of (codes "budget") rows ≡ budget
   pub has : has_row (codes "budget") rows ≡ is_some budget
 
 module _ (how : Reading) where
@@ -28,12 +28,12 @@ module _ (how : Reading) where
 
   more_words : (vs : List Text) (rows : List Row) → words_in (with_words vs rows) ≡ words_in rows ++ vs
   more_words vs [] = refl
-  more_words vs (r ∷ rows) = go (bytes_eq r.id (codes "words")) refl
+  more_words vs (r ∷ rows) = go (more_words vs rows) (bytes_eq r.id (codes "words")) refl
     where
-      go : (t : Bool) → bytes_eq r.id (codes "words") ≡ t →
+      go : words_in (with_words vs rows) ≡ words_in rows ++ vs → (t : Bool) → bytes_eq r.id (codes "words") ≡ t →
           words_in (with_words vs (r ∷ rows)) ≡ words_in (r ∷ rows) ++ vs
-      go true is = rw (is, is) refl
-      go false is = rw (is, is) (more_words vs rows)
+      go others true is = rw (is, is) refl
+      go others false is = rw (is, is) others
 
   -- which leave the budget
   words_only : (id : Text) → bytes_eq id (codes "words") ≡ true → bytes_eq id (codes "budget") ≡ false
@@ -44,31 +44,31 @@ module _ (how : Reading) where
       find (λ (r : Row). bytes_eq r.id (codes "budget")) (with_words vs rows)
       ≡ find (λ (r : Row). bytes_eq r.id (codes "budget")) rows
   same_row vs [] = refl
-  same_row vs (r ∷ rows) = go (bytes_eq r.id (codes "words")) refl
+  same_row vs (r ∷ rows) = go (same_row vs rows) (bytes_eq r.id (codes "words")) refl
     where
-      go : (t : Bool) → bytes_eq r.id (codes "words") ≡ t →
+      go : find (λ (r : Row). bytes_eq r.id (codes "budget")) (with_words vs rows)
+          ≡ find (λ (r : Row). bytes_eq r.id (codes "budget")) rows → (t : Bool) → bytes_eq r.id (codes "words") ≡ t →
           find (λ (r : Row). bytes_eq r.id (codes "budget")) (with_words vs (r ∷ rows))
           ≡ find (λ (r : Row). bytes_eq r.id (codes "budget")) (r ∷ rows)
-      go true is = let other = words_only r.id is in rw (is, other, other) refl
-      go false is =
-          rw (is)
-          (ap (λ (o : Option Row). cond (bytes_eq r.id (codes "budget")) (Some r) o) (same_row vs rows))
+      go others true is = let other = words_only r.id is in rw (is, other) refl
+      go others false is =
+          rw (is) (ap (λ (o : Option Row). cond (bytes_eq r.id (codes "budget")) (Some r) o) others)
 
   same_has : (vs : List Text) (rows : List Row) →
       has_row (codes "budget") (with_words vs rows) ≡ has_row (codes "budget") rows
   same_has vs [] = refl
-  same_has vs (r ∷ rows) = go (bytes_eq r.id (codes "words")) refl
+  same_has vs (r ∷ rows) = go (same_has vs rows) (bytes_eq r.id (codes "words")) refl
     where
-      go : (t : Bool) → bytes_eq r.id (codes "words") ≡ t →
+      go : has_row (codes "budget") (with_words vs rows) ≡ has_row (codes "budget") rows → (t : Bool) → bytes_eq r.id (codes "words") ≡ t →
           has_row (codes "budget") (with_words vs (r ∷ rows)) ≡ has_row (codes "budget") (r ∷ rows)
-      go true is = rw (is) refl
-      go false is = rw (is) (ap (λ (t : Bool). bytes_eq r.id (codes "budget") || t) (same_has vs rows))
+      go others true is = rw (is) refl
+      go others false is = rw (is) (ap (λ (t : Bool). bytes_eq r.id (codes "budget") || t) others)
 
   pub keeps_words : (vs : List Text) (rows : List Row) (kept : List Text) (budget : Option Text) →
       Keeps rows kept budget → Keeps (with_words vs rows) (kept ++ vs) budget
   keeps_words vs rows kept budget keeps = record {
     words = more_words vs rows ∙ ap (λ (ws : List Text). ws ++ vs) keeps.words;
-    budget = ap (option_and_then (λ (r : Row). slice_get r.values 0)) (same_row vs rows) ∙ keeps.budget;
+    found = ap (option_and_then (λ (r : Row). slice_get r.values 0)) (same_row vs rows) ∙ keeps.found;
     has = same_has vs rows ∙ keeps.has;
   }
 
@@ -109,15 +109,15 @@ module _ (how : Reading) where
   same_words : (word : Text) (rows : List Row) → words_in (rows ++ budget_row word ∷ []) ≡ words_in rows
   unfolding budget_row
   same_words word [] = refl
-  same_words word (r ∷ rows) = go (bytes_eq r.id (codes "words"))
+  same_words word (r ∷ rows) = go (same_words word rows) (bytes_eq r.id (codes "words"))
     where
-      go : (t : Bool) →
+      go : words_in (rows ++ budget_row word ∷ []) ≡ words_in rows → (t : Bool) →
           unwrap_or (option_map (λ (r : Row). r.values)
           (cond t (Some r) (find (λ (r : Row). bytes_eq r.id (codes "words")) (rows ++ budget_row word ∷ [])))) []
           ≡ unwrap_or (option_map (λ (r : Row). r.values)
           (cond t (Some r) (find (λ (r : Row). bytes_eq r.id (codes "words")) rows))) []
-      go true = refl
-      go false = same_words word rows
+      go others true = refl
+      go others false = others
 
   budget_found : (word : Text) (rows : List Row) → has_row (codes "budget") rows ≡ false →
       find (λ (r : Row). bytes_eq r.id (codes "budget")) (rows ++ budget_row word ∷ []) ≡ Some (budget_row word)
@@ -133,11 +133,11 @@ module _ (how : Reading) where
   has_budget : (word : Text) (rows : List Row) → has_row (codes "budget") (rows ++ budget_row word ∷ []) ≡ true
   unfolding budget_row
   has_budget word [] = refl
-  has_budget word (r ∷ rows) = go (bytes_eq r.id (codes "budget"))
+  has_budget word (r ∷ rows) = go (has_budget word rows) (bytes_eq r.id (codes "budget"))
     where
-      go : (t : Bool) → t || has_row (codes "budget") (rows ++ budget_row word ∷ []) ≡ true
-      go true = refl
-      go false = has_budget word rows
+      go : has_row (codes "budget") (rows ++ budget_row word ∷ []) ≡ true → (t : Bool) → t || has_row (codes "budget") (rows ++ budget_row word ∷ []) ≡ true
+      go others true = refl
+      go others false = others
 
   pub keeps_budget : (word : Text) (rows : List Row) (kept : List Text) → Keeps rows kept None →
       Keeps (with_budget word rows) kept (Some word)
@@ -145,6 +145,6 @@ module _ (how : Reading) where
   keeps_budget word rows kept keeps =
       subst (λ (rs : List Row). Keeps rs kept (Some word)) (sym (budget_added word rows keeps.has)) (record {
         words = same_words word rows ∙ keeps.words;
-        budget = ap (option_and_then (λ (r : Row). slice_get r.values 0)) (budget_found word rows keeps.has);
+        found = ap (option_and_then (λ (r : Row). slice_get r.values 0)) (budget_found word rows keeps.has);
         has = has_budget word rows;
       })

@@ -47,7 +47,7 @@ abbrev found_in : Held → Option Behind
 found_in h = behind_found (words_in (finished level.rules h)) (first_of (codes "budget") (finished level.rules h))
 
 -- from here words lead to this: it is what is found, or there is a fault, and it is nothing
-record Leads (w : Walk) (ws : List Text) (o : Option Behind) : Type 0 where
+pub record Leads (w : Walk) (ws : List Text) (o : Option Behind) : Type 0 where
   found : whole_fault w ws ≡ [] → found_in (rest_of w ws) ≡ o
   refused : (whole_fault w ws ≡ [] → ⊥) → o ≡ None
 
@@ -103,7 +103,7 @@ module _ (behind : Bool) (rows : List Row) (kept : List Text) (budget : Option T
   end_found after =
       ap (λ (rs : List Row). behind_found (words_in rs) (first_of (codes "budget") rs))
       (last_rows (settled level.rules (place behind rows p).held).rows ∙ settled_rows behind rows p)
-      ∙ ap₂ behind_found after.words after.budget
+      ∙ ap₂ behind_found after.words after.found
       ∙ found_alone (used_after kept p) (budget_after budget p)
 
   end_leads : (t : Bool) → can_use budget p ≡ t →
@@ -372,7 +372,7 @@ pub starts : {Z : Type 0} (strings : List (String Z)) → length strings ≤ usi
 starts strings few =
     leads_as (place false [] (words [])) (map string_bytes strings) _ _ (expected_whole (map string_bytes strings))
     (lead (map string_bytes strings) (strings_are_text strings) false [] [] None (words [])
-    (record { words = refl; budget = refl; has = refl }) (omega (arith, few, length-map strings string_bytes)))
+    (record { words = refl; found = refl; has = refl }) (omega (arith, few, length-map strings string_bytes)))
 
 split_fault : (ws : List Text) → fault_of words_app ws ≡ whole_fault (place false [] (words [])) ws
 split_fault ws = leaf_fault (built words_app) nothing_held ws refl

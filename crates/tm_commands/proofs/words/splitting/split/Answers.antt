@@ -1,5 +1,6 @@
 use Rattle.std.proofs.Common.{◌∙◌, ap, sym, map, true≢false, arith}
 use Rattle.std.specs.String.{string_bytes}
+use Rattle.std.proofs.lemmas.Result.{IfOk-weaker}
 use denote.Enum.Bare.{sameb}
 use Rattle.clap.specs.Words.{app_of}
 use Rattle.clap.specs.contracts.error.kind.ErrorKind.{the_type}
@@ -8,7 +9,12 @@ use Rattle.tm_commands.proofs.Splits.{split_refused, split_whole, starts}
 use Rattle.tm_commands.proofs.words.splitting.split.Goals as goal
 
 pub returns-in-Ok : goal.returns-in-Ok
-returns-in-Ok c = ?
+returns-in-Ok c =
+    IfOk-weaker c.read_behind.result _ _
+    (λ r is. is
+    ∙ split_whole (app_of c.in_ok-splitter.field-0) (map string_bytes c.args.words.now) c.in_ok-splitter.ensures
+    (starts c.args.words.now (omega arith)) c.in-Ok.matches c.in-Ok.ensures.kinds c.in-Ok.ensures.matches)
+    c.read_behind.ensures
 
 pub returns : goal.returns
 returns c =
