@@ -111,11 +111,11 @@ other_name text alone with = go (bytes_eq (codes "budget") (before_first (λ x. 
     none is = elim (alone_or_with text) [
       | inl whole ↦ true≢false (sym (ap (λ t. bytes_eq (45 ∷ 45 ∷ t) (codes "--budget")) (whole ∙ sym is)) ∙ alone)
       | inr rest ↦
-        let both : Some rest.0 ≡ None =
-        sym (ap (λ t. part_behind (codes "--budget=") (45 ∷ 45 ∷ t))
-        (rest.1 ∙ ap (λ before. before ++ 61 ∷ rest.0) (sym is)))
-        ∙ with in
-        cc
+          let both : Some rest.0 ≡ None =
+          sym (ap (λ t. part_behind (codes "--budget=") (45 ∷ 45 ∷ t))
+          (rest.1 ∙ ap (λ before. before ++ 61 ∷ rest.0) (sym is)))
+          ∙ with in
+          cc
     ]
 
     go : (t : Bool) → bytes_eq (codes "budget") (before_first (λ x. x == 61) text) ≡ t →

@@ -45,7 +45,7 @@ nothing_put contents (Some (generate registers out)) = refl
 nothing_put contents (Some (migrate spec cert out)) = refl
 
 -- what is not done at all leaves everything
-touches_none : (reads writes : List (List ℕ)) (files : FilesData) → OnlyTouches reads writes files files
+pub touches_none : (reads writes : List (List ℕ)) (files : FilesData) → OnlyTouches reads writes files files
 touches_none reads writes files = record {
   same_others = λ name other. refl;
   no_fewer_read_faults = λ name. omega arith;

@@ -73,7 +73,7 @@ module _ (w : Walk) (word : Text) (ws : List Text) where
   unfolding walk_fault
   leads_nowhere k turn =
       let same : whole_fault w (word ∷ ws)
-          ≡ k ∷ [] =
+      ≡ k ∷ [] =
       ap
       (λ a. or_else (or_else a (walk_fault level [] (walked level.rules [] w word) ws))
       (fault_after (rest_of (walked level.rules [] w word) ws))) turn in
@@ -185,7 +185,6 @@ opened_refuses : (rows : List Row) (word : Text) (ws : List Text) →
     flag_fault word (opened false rows).held ≡ UnknownArgument ∷ [] → Leads (opened false rows) (word ∷ ws) None
 opened_refuses rows word ws is =
     leads_nowhere (opened false rows) word ws UnknownArgument (first_refuses _ _ is)
-
 
 -- ---- all words
 -- each word is text

@@ -217,9 +217,9 @@ on_ok (Ok x) p = p
 on_ok (Err e) p = tt
 
 -- there are few goals
-pub few_found_ranks : (d : DesignTree) → IsSound d → (driver cert ranks : List ℕ) (nodes : ℕ) (trace : Trace) →
+pub few_found_ranks : (d : DesignTree) → IsSound d → (driver cert ranks : List ℕ) (trace : Trace) (nodes : ℕ) →
     IsDriverFound d driver cert ranks nodes trace → (lent : List ℕ) → lent ≡ ranks → length lent < 2 ^ 32
-few_found_ranks d sound driver cert ranks nodes trace found lent same =
+few_found_ranks d sound driver cert ranks trace nodes found lent same =
     omega (
       arith,
       limits.few_goals d sound,
@@ -403,7 +403,7 @@ module _ (spec out : List ℕ) (budget : Option ℕ) {A : Type 0} (F : FilesGhos
   broken_off name (at_driver is same) tells =
       driver_unwritten is (same ∙ ap (λ (f : List ℕ → Option (List ℕ)). f (cert_name out)) left.same_contents)
   broken_off name (at_cert ranks trace nodes is found holds) tells =
-      cert_unwritten ranks nodes is (specified read tells) (holds tells) found
+      cert_unwritten ranks trace nodes is (specified read tells) (holds tells) found
   broken_off name (at_loss is lost same) tells =
       loss_unwritten is (specified read tells) lost
       (same ∙ ap (λ (f : List ℕ → Option (List ℕ)). f (driver_name out)) left.same_contents)

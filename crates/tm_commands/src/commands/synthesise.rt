@@ -124,19 +124,13 @@ fn end_with_environment<F: Files, O: Sink>(
         Ok(()) => {}
         Err(unwritten) => return Err(unwritten),
     }
-    let EnvironmentFiles {
-        levels,
-        conditions,
-        chain,
-        trace,
-        ..
-    } = made;
-    match put_environment(alloc, design, levels, conditions, chain, &trace, out) {
+    let (levels, conditions, chain) = (made.levels, made.conditions, made.chain);
+    match put_environment(alloc, design, levels, conditions, chain, &made.trace, out) {
         Ok(()) => Ok(Ending::Environment {
             levels,
             conditions,
             chain,
-            trace,
+            trace: made.trace,
         }),
         Err(failure) => Err(failure),
     }
