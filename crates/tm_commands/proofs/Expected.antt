@@ -1,4 +1,4 @@
--- What stands behind a command, by what was found of its first words and what the others give.
+-- The arguments of a command, by what was found of its first words and what the others give.
 use Rattle.std.proofs.Common.{◌≡◌, ◌∙◌, ℕ, Bool, cond, true, false, not, Option, None, Some, List, [], ◌∷◌, ◌++◌}
 use Rattle.std.proofs.Common.{refl, sym, ap, ap₂, append_assoc, option_map, ◌&&◌, is_some}
 use Rattle.std.specs.List.{list_all}
@@ -6,10 +6,10 @@ use Rattle.std.specs.Option.{option_and_then}
 use Rattle.std.specs.Bool.{then_some}
 use Rattle.std.proofs.lemmas.List.{append-nil}
 use Rattle.std.proofs.lemmas.List.Folds.{list_all-append}
-use Rattle.tm_commands.specs.Words.{Behind, Split, behind_as, behind_of, behind_with, budget_before, greatest_budget}
+use Rattle.tm_commands.specs.Words.{Arguments, Split, arguments_as, arguments_of, arguments_with, budget_before, greatest_budget}
 use Rattle.tm_commands.specs.Words.{is_filled}
 use Rattle.tm_commands.specs.Words.{number_of, one_budget, split_words, with_budget, with_word}
-use Rattle.tm_commands.specs.Inner.Splitting.{asked, behind_found}
+use Rattle.tm_commands.specs.Inner.Splitting.{asked, arguments_found}
 
 abbrev pub Text : Type 0
 Text = List ℕ
@@ -30,16 +30,16 @@ budget_with None numbers = one_budget numbers
 budget_with (Some word) numbers = budget_only (number_of greatest_budget word) numbers
 
 -- words that were used, a budget that was found, words that are pending, and the others, split
-abbrev pub from_split : List Text → Option Text → List Text → Split → Option Behind
+abbrev pub from_split : List Text → Option Text → List Text → Split → Option Arguments
 from_split used budget pending s = option_and_then
-    (λ b. then_some (list_all is_filled (pending ++ s.positional)) (behind_with (used ++ (pending ++ s.positional)) b))
+    (λ b. then_some (list_all is_filled (pending ++ s.positional)) (arguments_with (used ++ (pending ++ s.positional)) b))
     (budget_with budget s.budgets)
 
-abbrev pub from : List Text → Option Text → List Text → Option Split → Option Behind
+abbrev pub from : List Text → Option Text → List Text → Option Split → Option Arguments
 from used budget pending = option_and_then (from_split used budget pending)
 
 -- so with whatever is pending
-abbrev pub expected : List Text → Option Text → Pending → Option Split → Option Behind
+abbrev pub expected : List Text → Option Text → Pending → Option Split → Option Arguments
 expected used budget (words ws) s = from used budget ws s
 expected used budget (value word) s = from used budget [] (budget_before word s)
 
@@ -72,14 +72,14 @@ used_split : (used : List Text) (budget : Option Text) (ws : List Text) (s : Spl
 used_split used budget ws s true all =
     ap₂
     (λ (t : Bool) (all_words : List Text). option_and_then
-    (λ b. then_some t (behind_with all_words b))
+    (λ b. then_some t (arguments_with all_words b))
     (budget_with budget s.budgets))
     (sym (list_all-append is_filled ws s.positional ∙ ap (λ t. t && list_all is_filled s.positional) all))
     (append_assoc used ws s.positional)
 used_split used budget ws s false all =
     sym (ap
     (λ (t : Bool). option_and_then
-    (λ b. then_some t (behind_with (used ++ (ws ++ s.positional)) b))
+    (λ b. then_some t (arguments_with (used ++ (ws ++ s.positional)) b))
     (budget_with budget s.budgets))
     (list_all-append is_filled ws s.positional ∙ ap (λ t. t && list_all is_filled s.positional) all)
     ∙ none_of (budget_with budget s.budgets))
@@ -97,19 +97,19 @@ more_pending used budget ws word None = refl
 more_pending used budget ws word (Some s) =
     ap
     (λ (rest : List Text). option_and_then
-    (λ b. then_some (list_all is_filled rest) (behind_with (used ++ rest) b))
+    (λ b. then_some (list_all is_filled rest) (arguments_with (used ++ rest) b))
     (budget_with budget s.budgets))
     (append_assoc ws (word ∷ []) s.positional)
 
 -- ---- a budget that is used
 module _ (used ws : List Text) (word : Text) where
-  of_number : (number : Option ℕ) → Option Split → Option Behind
+  of_number : (number : Option ℕ) → Option Split → Option Arguments
   of_number number = option_and_then (λ s. option_and_then
-      (λ b. then_some (list_all is_filled (ws ++ s.positional)) (behind_with (used ++ (ws ++ s.positional)) b))
+      (λ b. then_some (list_all is_filled (ws ++ s.positional)) (arguments_with (used ++ (ws ++ s.positional)) b))
       (budget_only number s.budgets))
 
   no_number : (s : Split) (numbers : List ℕ) → option_and_then
-      (λ b. then_some (list_all is_filled (ws ++ s.positional)) (behind_with (used ++ (ws ++ s.positional)) b))
+      (λ b. then_some (list_all is_filled (ws ++ s.positional)) (arguments_with (used ++ (ws ++ s.positional)) b))
       (budget_only None numbers) ≡ None
   no_number s [] = refl
   no_number s (n ∷ ns) = refl
@@ -129,7 +129,7 @@ module _ (used ws : List Text) (word : Text) where
   first_budget (Some k) (Some s) =
       ap
       (option_and_then
-      (λ b. then_some (list_all is_filled (ws ++ s.positional)) (behind_with (used ++ (ws ++ s.positional)) b)))
+      (λ b. then_some (list_all is_filled (ws ++ s.positional)) (arguments_with (used ++ (ws ++ s.positional)) b)))
       (one_number k s.budgets)
 
   pub used_budget : (o : Option Split) → from used (Some word) ws o ≡ from used None ws (budget_before word o)
@@ -170,7 +170,7 @@ pub word_behind_value : (used : List Text) (budget : Option Text) (found word : 
     (expected (used_after used (value found)) (budget_after budget (value found)) (words (word ∷ [])) o) None
     ≡ expected used budget (value found) (option_map (with_word word) o)
 word_behind_value used budget found word o =
-    ap (λ (b : Option Behind). cond (can_use budget (value found)) b None)
+    ap (λ (b : Option Arguments). cond (can_use budget (value found)) b None)
     (more_pending used (Some found) [] word o)
     ∙ use_pending used budget (value found) (option_map (with_word word) o)
 
@@ -186,31 +186,31 @@ no_second_budget used found word o = second_budget used [] word found (number_of
 -- ---- all of it
 -- at the end of the words
 asked_alone : (used : List Text) (budget : Option Text) →
-    behind_found used budget
-    ≡ option_and_then (λ b. Some (behind_with (used ++ []) b))
+    arguments_found used budget
+    ≡ option_and_then (λ b. Some (arguments_with (used ++ []) b))
     (budget_with budget [])
-asked_alone used None = ap (λ (ws : List Text). Some (behind_with ws None))
+asked_alone used None = ap (λ (ws : List Text). Some (arguments_with ws None))
     (sym (append-nil used))
 asked_alone used (Some word) = go (number_of greatest_budget word)
   where
     go : (number : Option ℕ) →
-        option_map (behind_with used)
+        option_map (arguments_with used)
         (option_map (λ n. Some n) number)
-        ≡ option_and_then (λ b. Some (behind_with (used ++ []) b))
+        ≡ option_and_then (λ b. Some (arguments_with (used ++ []) b))
         (budget_only number [])
     go None = refl
     go (Some n) =
-        ap (λ (ws : List Text). Some (behind_with ws (Some n)))
+        ap (λ (ws : List Text). Some (arguments_with ws (Some n)))
         (sym (append-nil used))
 
 pub found_alone : (used : List Text) (budget : Option Text) →
-    behind_found used budget ≡ from used budget [] (Some (record { positional = []; budgets = [] }))
+    arguments_found used budget ≡ from used budget [] (Some (record { positional = []; budgets = [] }))
 found_alone used budget = asked_alone used budget
 
 -- and at their start
-pub expected_whole : (ws : List Text) → expected [] None (words []) (split_words false ws) ≡ behind_of ws
+pub expected_whole : (ws : List Text) → expected [] None (words []) (split_words false ws) ≡ arguments_of ws
 expected_whole ws = go (split_words false ws)
   where
-    go : (o : Option Split) → from [] None [] o ≡ option_and_then behind_as o
+    go : (o : Option Split) → from [] None [] o ≡ option_and_then arguments_as o
     go None = refl
     go (Some s) = refl

@@ -9,7 +9,7 @@ use Rattle.std.specs.Str.{bytes_eq}
 use Rattle.std.proofs.lemmas.Bool.{ltb-false}
 use Rattle.tm_play.specs.Numbers.{digits_after}
 use Rattle.tm_commands.specs.Words.{Command, run, check_driver, check_environment, generate, migrate}
-use Rattle.tm_commands.specs.Words.{Behind, behind_as, behind_of, behind_with, is_filled, number_of, one_budget, split_words}
+use Rattle.tm_commands.specs.Words.{Arguments, arguments_as, arguments_of, arguments_with, is_filled, number_of, one_budget, split_words}
 use Rattle.tm_commands.specs.Words.{most_registers, run_of, check_of, generate_of, migrate_of, command_of}
 use Rattle.tm_commands.specs.Words.{command_with, plain_command_with, synthesise, synthesise_of}
 use Rattle.tm_commands.specs.Inner.Obeying.{IsSpelled}
@@ -44,16 +44,16 @@ made f None y is = absurd (cc)
 made f (Some x) y is = (x, refl, is)
 
 -- words behind a command are filled
-all_filled : (ws : List (List ℕ)) (found : Behind) → behind_of ws ≡ Some found →
+all_filled : (ws : List (List ℕ)) (found : Arguments) → arguments_of ws ≡ Some found →
     list_all is_filled found.positional ≡ true
 all_filled ws found is =
-    let from = made behind_as (split_words false ws) found is in
+    let from = made arguments_as (split_words false ws) found is in
     let one = made
-    (λ budget. then_some (list_all is_filled from.0.positional) (behind_with from.0.positional budget))
+    (λ budget. then_some (list_all is_filled from.0.positional) (arguments_with from.0.positional budget))
     (one_budget from.0.budgets) found from.2 in
     let passed = kept (list_all is_filled from.0.positional)
-    (behind_with from.0.positional one.0) found one.2 in
-    subst (λ (b : Behind). list_all is_filled b.positional ≡ true) passed.1 passed.0
+    (arguments_with from.0.positional one.0) found one.2 in
+    subst (λ (b : Arguments). list_all is_filled b.positional ≡ true) passed.1 passed.0
 
 few : (b : Bool) (n : ℕ) → b && not (nat_lt most_registers n) ≡ true → n ≤ most_registers
 few b n is = by (nat_lt most_registers n) refl (both b (not (nat_lt most_registers n)) is).1
@@ -126,15 +126,15 @@ chosen false false true m words c all is = generate_fit words c all is
 chosen false false false true words c all is = migrate_fit words c all is
 chosen false false false false words c all is = absurd (cc)
 
-any_command : (s b : Bool) (command : List ℕ) (behind : Behind) (c : Command) →
-    list_all is_filled behind.positional ≡ true →
-    (if s then synthesise_of behind.positional behind.budget else if b then None
-    else plain_command_with command behind.positional) ≡ Some c → IsFit c
-any_command true b command behind c all is = synthesise_fit behind.positional behind.budget c is
-any_command false true command behind c all is = absurd (cc)
-any_command false false command behind c all is =
+any_command : (s b : Bool) (command : List ℕ) (arguments : Arguments) (c : Command) →
+    list_all is_filled arguments.positional ≡ true →
+    (if s then synthesise_of arguments.positional arguments.budget else if b then None
+    else plain_command_with command arguments.positional) ≡ Some c → IsFit c
+any_command true b command arguments c all is = synthesise_fit arguments.positional arguments.budget c is
+any_command false true command arguments c all is = absurd (cc)
+any_command false false command arguments c all is =
     chosen (bytes_eq command (codes "run")) (bytes_eq command (codes "check")) (bytes_eq command (codes "gen"))
-    (bytes_eq command (codes "migrate")) behind.positional c all is
+    (bytes_eq command (codes "migrate")) arguments.positional c all is
 
 -- a command that is spelled is fit
 pub spelled_fit : (c : Command) → IsSpelled c → IsFit c
@@ -143,6 +143,6 @@ spelled_fit c spelled = by spelled.0 spelled.1
     by : (words : List (List ℕ)) → command_of words ≡ Some c → IsFit c
     by [] is = absurd (cc)
     by (command ∷ words) is =
-        let from = made (command_with command) (behind_of words) c is in
+        let from = made (command_with command) (arguments_of words) c is in
         any_command (bytes_eq command (codes "synth")) (is_some from.0.budget) command from.0 c
         (all_filled words from.0 from.1) from.2

@@ -22,9 +22,9 @@ use Rattle.clap.specs.declared.error.kind.ErrorKind.TheVariants.{UnknownArgument
 use Rattle.clap.specs.declared.parser.matches.ArgMatches.{ArgMatches}
 use Rattle.clap.proofs.FaultLemmas.{leaf_fault}
 use Rattle.clap.proofs.WalkLemmas.{first_value-rows, raw_values-rows}
-use Rattle.tm_commands.specs.Words.{Behind, Split, behind_of, budget_before, is_option, part_behind, split_words}
+use Rattle.tm_commands.specs.Words.{Arguments, Split, arguments_of, budget_before, is_option, part_behind, split_words}
 use Rattle.tm_commands.specs.Words.{with_budget, with_word}
-use Rattle.tm_commands.specs.Inner.Splitting.{behind_found, budget_of, words_app, words_of}
+use Rattle.tm_commands.specs.Inner.Splitting.{arguments_found, budget_of, words_app, words_of}
 use Rattle.tm_commands.proofs.Expected.{Pending, Text, budget_after, can_use, expected, expected_whole, expects_none}
 use Rattle.tm_commands.proofs.Expected.{found_alone, from, use_pending, used_after, value, word_behind_value}
 use Rattle.tm_commands.proofs.Expected.{word_behind_words, words}
@@ -43,20 +43,20 @@ rest_of w ws = (fold (walked level.rules []) w ws).held
 abbrev whole_fault : Walk → List Text → Kinds
 whole_fault w ws = or_else (walk_fault level [] w ws) (fault_after (rest_of w ws))
 
-abbrev found_in : Held → Option Behind
-found_in h = behind_found (words_in (finished level.rules h)) (first_of (codes "budget") (finished level.rules h))
+abbrev found_in : Held → Option Arguments
+found_in h = arguments_found (words_in (finished level.rules h)) (first_of (codes "budget") (finished level.rules h))
 
 -- from here words lead to this: it is what is found, or there is a fault, and it is nothing
-pub record Leads (w : Walk) (ws : List Text) (o : Option Behind) : Type 0 where
+pub record Leads (w : Walk) (ws : List Text) (o : Option Arguments) : Type 0 where
   found : whole_fault w ws ≡ [] → found_in (rest_of w ws) ≡ o
   refused : (whole_fault w ws ≡ [] → ⊥) → o ≡ None
 
-leads_as : (w : Walk) (ws : List Text) (o other : Option Behind) → o ≡ other → Leads w ws o → Leads w ws other
-leads_as w ws o other is leads = subst (λ (o : Option Behind). Leads w ws o) is leads
+leads_as : (w : Walk) (ws : List Text) (o other : Option Arguments) → o ≡ other → Leads w ws o → Leads w ws other
+leads_as w ws o other is leads = subst (λ (o : Option Arguments). Leads w ws o) is leads
 
 module _ (w : Walk) (word : Text) (ws : List Text) where
   -- a word without a fault
-  leads_on : (next : Walk) (o : Option Behind) → turn_fault level [] w word ≡ [] →
+  leads_on : (next : Walk) (o : Option Arguments) → turn_fault level [] w word ≡ [] →
       walked level.rules [] w word ≡ next → Leads next ws o → Leads w (word ∷ ws) o
   unfolding walk_fault
   leads_on next o turn step leads =
@@ -83,7 +83,7 @@ module _ (w : Walk) (word : Text) (ws : List Text) where
       }
 
   -- a word that has one or not
-  leads_if : (t : Bool) (k : ErrorKind) (next : Walk) (o : Option Behind) →
+  leads_if : (t : Bool) (k : ErrorKind) (next : Walk) (o : Option Arguments) →
       turn_fault level [] w word ≡ cond t [] (k ∷ []) → walked level.rules [] w word ≡ next →
       (t ≡ true → Leads next ws o) → Leads w (word ∷ ws) (cond t o None)
   leads_if true k next o turn step leads = leads_on next o turn step (leads refl)
@@ -101,9 +101,9 @@ module _ (behind : Bool) (rows : List Row) (kept : List Text) (budget : Option T
       found_in (rest_of (place behind rows p) [])
       ≡ from (used_after kept p) (budget_after budget p) [] (Some (record { positional = []; budgets = [] }))
   end_found after =
-      ap (λ (rs : List Row). behind_found (words_in rs) (first_of (codes "budget") rs))
+      ap (λ (rs : List Row). arguments_found (words_in rs) (first_of (codes "budget") rs))
       (last_rows (settled level.rules (place behind rows p).held).rows ∙ settled_rows behind rows p)
-      ∙ ap₂ behind_found after.words after.found
+      ∙ ap₂ arguments_found after.words after.found
       ∙ found_alone (used_after kept p) (budget_after budget p)
 
   end_leads : (t : Bool) → can_use budget p ≡ t →
@@ -197,7 +197,7 @@ abbrev stand : Bool → List Row → Pending → Walk
 stand true rows p = opened false rows
 stand false rows p = place false rows p
 
-abbrev wanted : Bool → List Text → Option Text → Pending → Option Split → Option Behind
+abbrev wanted : Bool → List Text → Option Text → Pending → Option Split → Option Arguments
 wanted true kept budget p o = from kept budget [] o
 wanted false kept budget p o = expected kept budget p o
 
@@ -367,7 +367,7 @@ strings_are_text [] = tt
 strings_are_text (s ∷ strings) = (IsUtf8-string_bytes s, strings_are_text strings)
 
 pub starts : {Z : Type 0} (strings : List (String Z)) → length strings ≤ usize_max →
-    Leads (place false [] (words [])) (map string_bytes strings) (behind_of (map string_bytes strings))
+    Leads (place false [] (words [])) (map string_bytes strings) (arguments_of (map string_bytes strings))
 starts strings few =
     leads_as (place false [] (words [])) (map string_bytes strings) _ _ (expected_whole (map string_bytes strings))
     (lead (map string_bytes strings) (strings_are_text strings) false [] [] None (words [])
@@ -377,16 +377,16 @@ split_fault : (ws : List Text) → fault_of words_app ws ≡ whole_fault (place 
 split_fault ws = leaf_fault (built words_app) nothing_held ws refl
 
 module _ (app : App) (ws : List Text) (is : app ≡ words_app)
-    (leads : Leads (place false [] (words [])) ws (behind_of ws)) where
+    (leads : Leads (place false [] (words [])) ws (arguments_of ws)) where
   -- where `clap` splits the words, what it found stands behind the command
   pub split_whole : (m : ArgMatches) → (is_simple_and_free app ≡ true → fault_of app ws ≡ []) →
-      HasMatchesOf app ws m → behind_found (words_of m) (budget_of m) ≡ behind_of ws
+      HasMatchesOf app ws m → arguments_found (words_of m) (budget_of m) ≡ arguments_of ws
   split_whole m faultless matches =
       let none : fault_of words_app ws ≡ [] =
       ap (λ a. fault_of a ws) (sym is) ∙ faultless (ap is_simple_and_free is) in
       let rows : rows_of (found_of m) ≡ matches_of words_app ws =
       (matches (ap is_simple is)).0 ∙ ap (λ a. matches_of a ws) is in
-      ap₂ behind_found
+      ap₂ arguments_found
       (ap (λ o. unwrap_or o []) (raw_values-rows (found_of m) (codes "words"))
       ∙ ap (λ r. unwrap_or (all_of (codes "words") r) []) rows)
       (first_value-rows (found_of m) (codes "budget") ∙ ap (first_of (codes "budget")) rows)
@@ -394,7 +394,7 @@ module _ (app : App) (ws : List Text) (is : app ≡ words_app)
 
   -- where it refuses them for another cause than memory, one of them has no reading
   pub split_refused : (error : Error) → (is_simple_and_free app ≡ true → HasKind (fault_of app ws) error) →
-      (kind_of error ≡ OutOfMemory → ⊥) → None ≡ behind_of ws
+      (kind_of error ≡ OutOfMemory → ⊥) → None ≡ arguments_of ws
   split_refused error kinds other =
       let kind : HasKind (fault_of words_app ws) error =
       subst (λ a. HasKind (fault_of a ws) error) is (kinds (ap is_simple_and_free is)) in

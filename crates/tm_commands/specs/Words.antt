@@ -79,14 +79,14 @@ split_words false (word ∷ words) =
     else option_map_or (λ number. budget_before number (split_words false words))
     (part_behind (codes "--budget=") word) (word_before word (split_words false words))
 
--- what stands behind a command: the positional words, and a budget where one is given
-pub record Behind : Type 0 where
+-- the arguments of a command: the positional words, and a budget where one is given
+pub record Arguments : Type 0 where
   pub positional : List (List ℕ)
   pub budget : Option ℕ
 
 -- these words, and this budget if there is one
-abbrev pub behind_with : List (List ℕ) → Option ℕ → Behind
-behind_with positional budget = record { positional = positional; budget = budget }
+abbrev pub arguments_with : List (List ℕ) → Option ℕ → Arguments
+arguments_with positional budget = record { positional = positional; budget = budget }
 
 -- the budget, where there is at most one
 abbrev pub one_budget : List ℕ → Option (Option ℕ)
@@ -94,14 +94,14 @@ one_budget [] = Some None
 one_budget (n ∷ []) = Some (Some n)
 one_budget _ = None
 
--- split words as what stands behind a command, where none is empty and at most one is a budget
-abbrev pub behind_as : Split → Option Behind
-behind_as s = option_and_then
-    (λ budget. then_some (list_all is_filled s.positional) (behind_with s.positional budget)) (one_budget s.budgets)
+-- split words as arguments, where none is empty and at most one is a budget
+abbrev pub arguments_as : Split → Option Arguments
+arguments_as s = option_and_then
+    (λ budget. then_some (list_all is_filled s.positional) (arguments_with s.positional budget)) (one_budget s.budgets)
 
--- what stands behind a command, where each word has a reading
-abbrev pub behind_of : List (List ℕ) → Option Behind
-behind_of words = option_and_then behind_as (split_words false words)
+-- the arguments that words are, where each of these has a reading
+abbrev pub arguments_of : List (List ℕ) → Option Arguments
+arguments_of words = option_and_then arguments_as (split_words false words)
 
 -- `run` with its positional words
 abbrev pub run_of : List (List ℕ) → Option Command
@@ -138,17 +138,17 @@ plain_command_with command words =
     else if bytes_eq command (codes "migrate") then migrate_of words
     else None
 
--- the command that a first word begins, with what stands behind it: `synth` alone has a budget
-abbrev pub command_with : List ℕ → Behind → Option Command
-command_with command behind =
-    if bytes_eq command (codes "synth") then synthesise_of behind.positional behind.budget
-    else if is_some behind.budget then None
-    else plain_command_with command behind.positional
+-- the command that a first word begins, with its arguments: `synth` alone has a budget
+abbrev pub command_with : List ℕ → Arguments → Option Command
+command_with command arguments =
+    if bytes_eq command (codes "synth") then synthesise_of arguments.positional arguments.budget
+    else if is_some arguments.budget then None
+    else plain_command_with command arguments.positional
 
 -- the reading of the words, where they have one: the first word is the command
 abbrev pub command_of : List (List ℕ) → Option Command
 command_of [] = None
-command_of (command ∷ words) = option_and_then (command_with command) (behind_of words)
+command_of (command ∷ words) = option_and_then (command_with command) (arguments_of words)
 
 -- a command as the code has it
 abbrev pub command_view : Words → Command

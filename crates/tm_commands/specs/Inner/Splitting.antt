@@ -7,8 +7,8 @@ use Rattle.clap.specs.Words.{App, Rule, first_value, found_of, matched_of, new_a
 use Rattle.clap.specs.declared.builder.action.ArgAction.TheVariants.{Append, Set}
 use Rattle.clap.specs.declared.builder.value_parser.ValueParser.TheVariants.{NonEmptyString}
 use Rattle.clap.specs.declared.parser.matches.ArgMatches.{ArgMatches}
-use Rattle.tm_commands.specs.declared.words.splitting.Behind.{Behind as Found}
-use Rattle.tm_commands.specs.Words.{Behind, behind_with, greatest_budget, number_of}
+use Rattle.tm_commands.specs.declared.words.splitting.Arguments.{Arguments as Found}
+use Rattle.tm_commands.specs.Words.{Arguments, arguments_with, greatest_budget, number_of}
 
 -- any number of positional words, none of them empty
 abbrev pub words_rule : Rule
@@ -45,10 +45,10 @@ abbrev pub asked : Option (List ℕ) → Option (Option ℕ)
 asked None = Some None
 asked (Some word) = option_map (λ n. Some n) (number_of greatest_budget word)
 
--- what stands behind a command, from what was found
-abbrev pub behind_found : (positional : List (List ℕ)) → Option (List ℕ) → Option Behind
-behind_found positional word = option_map (behind_with positional) (asked word)
+-- the arguments of a command, from what was found
+abbrev pub arguments_found : (positional : List (List ℕ)) → Option (List ℕ) → Option Arguments
+arguments_found positional word = option_map (arguments_with positional) (asked word)
 
--- what stands behind a command, as the code has it
-abbrev pub behind_view : Found → Behind
-behind_view found = record { positional = map (λ w. w.now) found.words.items; budget = found.budget }
+-- the arguments of a command, as the code has them
+abbrev pub arguments_view : Found → Arguments
+arguments_view found = record { positional = map (λ w. w.now) found.words.items; budget = found.budget }

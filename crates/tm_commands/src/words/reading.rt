@@ -2,14 +2,14 @@
 ghost use Rattle.std.specs.Prelude.{◌≡◌, map, IfOk};
 ghost use Rattle.std.specs.Option.{option_map};
 ghost use Rattle.std.specs.String.{string_bytes};
-ghost use Rattle.tm_commands.specs.Words.{check_of, command_of, command_view, command_with as command_behind};
-ghost use Rattle.tm_commands.specs.Words.{generate_of, migrate_of, plain_command_with as plain_command_behind};
+ghost use Rattle.tm_commands.specs.Words.{check_of, command_of, command_view, command_with as command_given};
+ghost use Rattle.tm_commands.specs.Words.{generate_of, migrate_of, plain_command_with as plain_command_given};
 ghost use Rattle.tm_commands.specs.Words.{run_of, synthesise_of};
-ghost use Rattle.tm_commands.specs.Inner.Splitting.{behind_view};
+ghost use Rattle.tm_commands.specs.Inner.Splitting.{arguments_view};
 
 use crate::words::command::Command;
 use crate::words::number::read_number;
-use crate::words::splitting::{Behind, split};
+use crate::words::splitting::{Arguments, split};
 use std::alloc::{AllocError, Global};
 
 /// The most registers of a generated specification.
@@ -75,7 +75,7 @@ fn migrate_with<'a>(words: &[&'a str]) -> Option<Command<'a>>
 
 /// A command other than `synth`, with its positional words.
 fn plain_command_with<'a>(command: &str, words: &[&'a str]) -> Option<Command<'a>>
-    ensures { option_map command_view result ≡ plain_command_behind command.now (map (λ w. w.now) words.now) }
+    ensures { option_map command_view result ≡ plain_command_given command.now (map (λ w. w.now) words.now) }
 {
     match command {
         "run" => run_with(words),
@@ -86,15 +86,15 @@ fn plain_command_with<'a>(command: &str, words: &[&'a str]) -> Option<Command<'a
     }
 }
 
-/// The command that a first word begins, with what stands behind it: `synth` alone has a budget.
-fn command_with<'a>(command: &str, behind: &Behind<'a>) -> Option<Command<'a>>
-    ensures { option_map command_view result ≡ command_behind command.now (behind_view behind.now) }
+/// The command that a first word begins, with its arguments: `synth` alone has a budget.
+fn command_with<'a>(command: &str, arguments: &Arguments<'a>) -> Option<Command<'a>>
+    ensures { option_map command_view result ≡ command_given command.now (arguments_view arguments.now) }
 {
     match command {
-        "synth" => synthesise_with(&behind.words, behind.budget),
-        _ => match behind.budget {
+        "synth" => synthesise_with(&arguments.words, arguments.budget),
+        _ => match arguments.budget {
             Some(_) => None,
-            None => plain_command_with(command, &behind.words),
+            None => plain_command_with(command, &arguments.words),
         },
     }
 }
@@ -107,7 +107,7 @@ pub fn read_words<'a>(alloc: Global, words: &'a [String]) -> Result<Option<Comma
         return Ok(None);
     };
     match split(alloc, others)? {
-        Some(behind) => Ok(command_with(command.as_str(), &behind)),
+        Some(arguments) => Ok(command_with(command.as_str(), &arguments)),
         None => Ok(None),
     }
 }

@@ -3,8 +3,8 @@ ghost use Rattle.std.specs.Prelude.{◌≡◌, map, false, IfOk};
 ghost use Rattle.std.specs.Option.{option_map};
 ghost use Rattle.std.specs.String.{string_bytes};
 ghost use Rattle.clap.specs.Words.{app_of, rule_of};
-ghost use Rattle.tm_commands.specs.Words.{behind_of};
-ghost use Rattle.tm_commands.specs.Inner.Splitting.{asked, behind_found, behind_view, budget_of, budget_rule};
+ghost use Rattle.tm_commands.specs.Words.{arguments_of};
+ghost use Rattle.tm_commands.specs.Inner.Splitting.{asked, arguments_found, arguments_view, budget_of, budget_rule};
 ghost use Rattle.tm_commands.specs.Inner.Splitting.{words_app, words_of, words_rule};
 
 use crate::words::number::read_number;
@@ -19,9 +19,9 @@ const WORDS: &str = "words";
 /// The id and the name of the budget.
 const BUDGET: &str = "budget";
 
-/// What stands behind a command.
+/// The arguments of a command.
 #[derive(Drop)]
-pub struct Behind<'a> {
+pub struct Arguments<'a> {
     /// The positional words.
     pub words: Vec<&'a str>,
     pub budget: Option<u32>,
@@ -81,27 +81,27 @@ fn read_budget(word: Option<&str>) -> Option<Option<u32>>
     }
 }
 
-/// What stands behind a command, from what was found; none where the budget is no number.
-fn read_behind<'a>(
+/// The arguments of a command, from what was found; none where the budget is no number.
+fn read_arguments<'a>(
     alloc: Global,
     matches: &ArgMatches<'a>,
-) -> Result<Option<Behind<'a>>, AllocError>
-    ensures { IfOk result (λ r. option_map behind_view r
-        ≡ behind_found (words_of matches.now) (budget_of matches.now)) }
+) -> Result<Option<Arguments<'a>>, AllocError>
+    ensures { IfOk result (λ r. option_map arguments_view r
+        ≡ arguments_found (words_of matches.now) (budget_of matches.now)) }
 {
     let Some(budget) = read_budget(matches.get_str(BUDGET)) else {
         return Ok(None);
     };
     let words = positional(alloc, matches)?;
-    Ok(Some(Behind { words, budget }))
+    Ok(Some(Arguments { words, budget }))
 }
 
-/// What stands behind a command; none where one of the words has no reading. It takes time linear in the words.
-pub fn split<'a>(alloc: Global, words: &'a [String]) -> Result<Option<Behind<'a>>, AllocError>
-    ensures { IfOk result (λ r. option_map behind_view r ≡ behind_of (map string_bytes words.now)) }
+/// The arguments that words are; none where one of these has no reading. It takes time linear in the words.
+pub fn split<'a>(alloc: Global, words: &'a [String]) -> Result<Option<Arguments<'a>>, AllocError>
+    ensures { IfOk result (λ r. option_map arguments_view r ≡ arguments_of (map string_bytes words.now)) }
 {
     match splitter(alloc)?.try_get_matches_from(words) {
-        Ok(matches) => read_behind(alloc, &matches),
+        Ok(matches) => read_arguments(alloc, &matches),
         Err(error) => {
             if error.kind() == ErrorKind::OutOfMemory {
                 Err(AllocError)

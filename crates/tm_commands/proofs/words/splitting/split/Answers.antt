@@ -10,11 +10,11 @@ use Rattle.tm_commands.proofs.words.splitting.split.Goals as goal
 
 pub returns-in-Ok : goal.returns-in-Ok
 returns-in-Ok c =
-    IfOk-weaker c.read_behind.result _ _
+    IfOk-weaker c.read_arguments.result _ _
     (λ r is. is
     ∙ split_whole (app_of c.in_ok-splitter.field-0) (map string_bytes c.args.words.now) c.in_ok-splitter.ensures
     (starts c.args.words.now (omega arith)) c.in-Ok.matches c.in-Ok.ensures.kinds c.in-Ok.ensures.matches)
-    c.read_behind.ensures
+    c.read_arguments.ensures
 
 pub returns : goal.returns
 returns c =
