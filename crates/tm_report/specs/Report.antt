@@ -125,7 +125,7 @@ track_line first = codes "track " ++ decimal first ++ codes "\n"
 -- the line of a predicate that was added: its number in the pool, and the two states that it tells apart
 abbrev pub add_line : DesignTree → Added → List ℕ
 add_line d a =
-    codes "add " ++ decimal a.predicate ++ codes " " ++ state_text d a.left ++ codes " / " ++ state_text d a.right
+    codes "add " ++ decimal a.predicate ++ codes ": " ++ state_text d a.left ++ codes " / " ++ state_text d a.right
     ++ codes "\n"
 
 -- the lines of the predicates that were tracked, in order

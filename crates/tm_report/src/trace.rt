@@ -43,7 +43,7 @@ fn add_line(alloc: Global, design: &Design, added: &Added) -> Result<Vec<u8>, Al
 {
     let mut line = Vec::from_slice(alloc, b"add ")?;
     push_number(&mut line, u64::from(added.predicate))?;
-    push(&mut line, b" ")?;
+    push(&mut line, b": ")?;
     push_state(&mut line, design, &added.left)?;
     push(&mut line, b" / ")?;
     push_state(&mut line, design, &added.right)?;
