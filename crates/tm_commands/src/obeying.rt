@@ -156,8 +156,9 @@ pub fn obey_and_report<F: Files, O: Sink>(
 
     // No file changes but those that the command writes. At `Driver`, `Environment`, `Generated` and `Migrated` what
     // they hold is the driver with its certificate, the environment's certificate, the text or the certificate that was
-    // asked for; where a read failed, a text is refused or a budget is spent none of them has changed. After a failed write the other file
-    // stands that was written before. Where the output failed they are as the outcome says whose lines it did not take.
+    // asked for; where a read failed, a text is refused or a budget is spent none of them has changed. After a failed
+    // write the other file stands that was written before. Where the output failed they are as the outcome says whose
+    // lines it did not take.
     ensures files { KeepsFiles (command_of (map string_bytes words.now))
         (files_data ⟦<F as Files>⟧ files.old) (files_data ⟦<F as Files>⟧ files.new) (outcome_of result) }
 {

@@ -14,8 +14,8 @@ use tm_syntax::fault::Faulty;
 pub enum Status {
     /// The choices were read to their end and are a play of so many steps.
     Played(u64),
-    /// A driver was found over these predicates, and its files are written: it has so many ranked regions for each goal,
-    /// and its certificate so many nodes.
+    /// A driver was found over these predicates, and its files are written: it has so many ranked regions for each
+    /// goal, and its certificate so many nodes.
     Driver {
         ranks: Ranks,
         trace: Trace,

@@ -45,8 +45,8 @@ pub enum Ending {
     Faulty(Faulty),
     /// The choices were played to this end.
     Play(PlayEnd),
-    /// A driver was found over these predicates, and its files are written: it has so many ranked regions for each goal,
-    /// and its certificate so many nodes.
+    /// A driver was found over these predicates, and its files are written: it has so many ranked regions for each
+    /// goal, and its certificate so many nodes.
     Driver {
         ranks: Ranks,
         trace: Trace,
