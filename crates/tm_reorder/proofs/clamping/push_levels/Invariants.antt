@@ -1,0 +1,10 @@
+use Rattle.std.specs.Prelude.{⊤}
+use Rattle.tm_dd.specs.Reduced.{Extends}
+use Rattle.tm_reorder.specs.Inner.Clamped.{ArePushed}
+use Rattle.tm_reorder.proofs.clamping.push_levels.Given as goal
+
+abbrev pub invariant-loop-bit : goal.invariant-loop-bit
+invariant-loop-bit l = record {
+  extends : Extends l.fn.dd.table l.dd.table;
+  pushed : ArePushed l.fn.dd.table l.dd.table l.levels l._bit (λ v. ⊤) l.fn.bits.items l.bits.items;
+}
