@@ -1,6 +1,6 @@
 -- The bits of a number, clamped one behind the other, and those of numbers one behind the other.
-use Rattle.std.proofs.Common.{◌≡◌, ◌⊎◌, inl, inr, ℕ, zero, suc, ◌+◌, ◌-◌, ◌/◌, ◌%◌, ◌^◌, ◌<◌, ◌≤◌, ⊤, Bool, true, false, if◌then◌else◌, List, [], ◌∷◌, ◌++◌, length, map, drop, get_or, slice_get, Some, refl, sym, ap, ◌∙◌, subst, true≢false, arith}
-use Rattle.std.specs.Prelude.{◌==◌, All, sum_by}
+use Rattle.std.proofs.Common.{◌≡◌, ◌⊎◌, inl, inr, ℕ, zero, suc, ◌+◌, ◌-◌, ◌/◌, ◌%◌, ◌^◌, ◌<◌, ◌≤◌, Bool, true, false, if◌then◌else◌, List, [], ◌∷◌, ◌++◌, length, map, drop, get_or, slice_get, Some, refl, sym, ap, ◌∙◌, subst, true≢false, arith}
+use Rattle.std.specs.Prelude.{◌==◌, ⊤, All, sum_by}
 use Rattle.std.specs.List.{range_with_len}
 use Rattle.std.proofs.lemmas.List.{drop_more, length_push}
 use Rattle.std.proofs.lemmas.List.FromFn.{length-map-range_with_len}
@@ -11,13 +11,17 @@ use Rattle.tm_base.proofs.NumberBits.{number_is_its_bits}
 use Rattle.tm_dd.specs.declared.node.NodeId.{NodeId}
 use Rattle.tm_dd.specs.declared.node.TheConstants.{FALSE, TRUE}
 use Rattle.tm_dd.specs.Reduced.{Extends}
-use Rattle.tm_dd.specs.Table.{Table, Knows, means}
-use Rattle.tm_dd.proofs.CallerLaws.{Extends-refl, Extends-trans}
+use Rattle.tm_dd.specs.Table.{Table, Knows, level_of, means}
+use Rattle.tm_dd.proofs.CallerLaws.{Extends-refl, Extends-trans, level_of-IsConstant, means-FALSE, means-TRUE}
 use Rattle.tm_ddops.specs.Manager.{IsFunction}
-use Rattle.tm_game_bits.proofs.Numbers.{length-bits_of, number_below}
+use Rattle.tm_game_bits.proofs.Numbers.{number_below}
 use Rattle.tm_numbering.proofs.Items.{get_more}
 use Rattle.tm_reorder.specs.declared.fields.Field.{Field}
 use Rattle.tm_reorder.specs.Inner.Clamped.{AreBits, AreClamped, ArePushed, AreRight, AreWithin, HavePlaces, IsOneMore, IsWithin, by_place}
+
+length-bits_of : (w n : ℕ) → length (bits_of w n) ≡ w
+length-bits_of zero n = refl
+length-bits_of (suc w) n = omega (arith, length-bits_of w n)
 
 -- ---- one bit
 -- a number that is at most another: where the other has a 0 first, so has it; and if it has each 1 that the other has,
@@ -46,6 +50,93 @@ still_tight : (one m b : Bool) → (if one then (if m then b else false) else m)
 still_tight true true b is = (refl, λ one. is)
 still_tight true false b is = absurd (true≢false (sym is))
 still_tight false m b is = (is, λ one. absurd (true≢false (sym one)))
+
+-- ---- diagrams of bits
+-- the level that is read for a place is one
+pub level_below : (levels : List ℕ) (count many k level : ℕ) → All (λ l. l < count) levels → many ≡ count →
+    k < length levels → level ≡ get_or levels k level → level < many
+level_below levels count many k level below same within read =
+    let low = below k level within in
+    omega (arith, low, read, same)
+
+-- the constants lie below a level
+pub below_false : (s : Table) (level : ℕ) → level < s.levels → level < level_of s FALSE
+below_false s level low = subst (λ (n : ℕ). level < n) (sym (level_of-IsConstant s FALSE (omega arith))) low
+
+pub below_true : (s : Table) (level : ℕ) → level < s.levels → level < level_of s TRUE
+below_true s level low = subst (λ (n : ℕ). level < n) (sym (level_of-IsConstant s TRUE (omega arith))) low
+
+either_bit : (b : Bool) → (if b then true else false) ≡ b
+either_bit true = refl
+either_bit false = refl
+
+pub bit_is : (t : Table) (level : ℕ) (id : NodeId) →
+    IsFunction t id (λ v. if v level then means t TRUE v else means t FALSE v) → IsFunction t id (λ v. v level)
+bit_is t level id is = record {
+  known = is.known;
+  meaning = λ v.
+      is.meaning v ∙ (λ i. if v level then means-TRUE t v i else means-FALSE t v i) ∙ either_bit (v level);
+}
+
+module _ (s t : Table) (one : Bool) (tight bit id : NodeId) (grows : Extends s t) (tight_known : Knows s tight)
+    (bit_known : Knows s bit) where
+  pub clamped_is : one ≡ false →
+      IsFunction t id (λ v. if means t tight v then means t FALSE v else means t bit v) →
+      IsFunction t id (λ v. if one then means s bit v else (if means s tight v then false else means s bit v))
+  clamped_is zero is = record {
+    known = is.known;
+    meaning = λ v.
+        is.meaning v
+        ∙ (λ i. if grows.same_meaning tight tight_known v i then means-FALSE t v i
+        else grows.same_meaning bit bit_known v i)
+        ∙ ap (λ (b : Bool). if b then means s bit v else (if means s tight v then false else means s bit v)) (sym zero);
+  }
+
+  pub tightened_is : one ≡ true →
+      IsFunction t id (λ v. if means t tight v then means t bit v else means t FALSE v) →
+      IsFunction t id (λ v. if one then (if means s tight v then means s bit v else false) else means s tight v)
+  tightened_is set is = record {
+    known = is.known;
+    meaning = λ v.
+        is.meaning v
+        ∙ (λ i. if grows.same_meaning tight tight_known v i then grows.same_meaning bit bit_known v i
+        else means-FALSE t v i)
+        ∙ ap (λ (b : Bool). if b then (if means s tight v then means s bit v else false) else means s tight v) (sym set);
+  }
+
+-- a bit that was made, clamped and put behind others
+pub one_clamped : (s t u w : Table) (level : ℕ) (one : Bool) (tight bit next here : NodeId)
+    (before after : List NodeId) → Extends s t → Extends t u → Extends u w → Knows s tight →
+    IsFunction t bit (λ v. v level) →
+    IsFunction u next (λ v. if one then (if means t tight v then means t bit v else false) else means t tight v) →
+    IsFunction w here (λ v. if one then means u bit v else (if means u tight v then false else means u bit v)) →
+    after ≡ before ++ here ∷ [] → IsOneMore s w level one tight before after next
+one_clamped s t u w level one tight bit next here before after first second third known bit_is next_is here_is items =
+    record {
+      id = here;
+      items = items;
+      here = record {
+        known = here_is.known;
+        meaning = λ v.
+            here_is.meaning v
+            ∙ (λ i. if one then bit_later v i else (if tight_later v i then false else bit_later v i));
+      };
+      further = record {
+        known = omega (arith, third.rises, next_is.known);
+        meaning = λ v.
+            third.same_meaning next next_is.known v
+            ∙ next_is.meaning v
+            ∙ (λ i. if one then (if first.same_meaning tight known v i then bit_is.meaning v i else false)
+            else first.same_meaning tight known v i);
+      };
+    }
+  where
+    bit_later : (v : ℕ → Bool) → means u bit v ≡ v level
+    bit_later v = second.same_meaning bit bit_is.known v ∙ bit_is.meaning v
+
+    tight_later : (v : ℕ → Bool) → means u tight v ≡ means s tight v
+    tight_later v =
+        second.same_meaning tight (omega (arith, first.rises, known)) v ∙ first.same_meaning tight known v
 
 -- ---- the bits of a number
 -- what is left of a number is at most what is left of the last value
@@ -241,7 +332,6 @@ module _ (s : Table) (levels : List ℕ) (fields : List Field) (have : HavePlace
 
     pub room_here : length bits + f.width ≤ length levels
     room_here =
-        let width = λ (x : Field). x.width in
         let all = sum_by-cons (λ (x : Field). x.width) f (drop (done + 1) fields) in
         let same = ap (sum_by (λ (x : Field). x.width)) there in
         omega (arith, are.room, all, same)

@@ -46,9 +46,9 @@ pub record IsOneMore (s t : Table) (level : ℕ) (one : Bool) (tight : NodeId) (
   pub further : IsFunction t next (λ v. if one then (if means s tight v then v level else false) else means s tight v)
 
 -- so many bits were put behind others, and are right, at such values, where the others are
-pub record ArePushed (s t : Table) (levels : List ℕ) (count : ℕ) (IsSuch : (ℕ → Bool) → Type 0)
+pub record ArePushed (s t : Table) (levels : List ℕ) (many : ℕ) (IsSuch : (ℕ → Bool) → Type 0)
     (before after : List NodeId) : Type 0 where
-  pub count : length after ≡ length before + count
+  pub count : length after ≡ length before + many
   pub known : AreBits t after
   pub right : (v : ℕ → Bool) → AreRight s levels before v → IsSuch v → AreRight t levels after v
 

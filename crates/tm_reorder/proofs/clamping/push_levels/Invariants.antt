@@ -1,3 +1,4 @@
+use Rattle.std.proofs.Common.{◌≡◌, ◌+◌, length}
 use Rattle.std.specs.Prelude.{⊤}
 use Rattle.tm_dd.specs.Reduced.{Extends}
 use Rattle.tm_reorder.specs.Inner.Clamped.{ArePushed}
@@ -6,5 +7,6 @@ use Rattle.tm_reorder.proofs.clamping.push_levels.Given as goal
 abbrev pub invariant-loop-bit : goal.invariant-loop-bit
 invariant-loop-bit l = record {
   extends : Extends l.fn.dd.table l.dd.table;
+  count : length l.bits.items ≡ length l.fn.bits.items + l._bit;
   pushed : ArePushed l.fn.dd.table l.dd.table l.levels l._bit (λ v. ⊤) l.fn.bits.items l.bits.items;
 }
