@@ -1,6 +1,6 @@
 -- Sets of a certificate that is told again hold the same states, or the same valid ones. Here `order` is the new order,
 -- and `old` the order of the certificate.
-use Rattle.std.proofs.Common.{◌≡◌, ℕ, suc, ◌<◌, ⊤, Bool, false, List, [], ◌∷◌, length, map, get_or, refl, sym, ap, ◌∙◌, subst, arith}
+use Rattle.std.proofs.Common.{◌≡◌, ℕ, suc, ◌<◌, Bool, false, List, [], ◌∷◌, length, map, get_or, refl, sym, ap, ◌∙◌, subst, arith}
 use Rattle.std.specs.List.{AllZip}
 use Rattle.std.proofs.lemmas.List.{get_or_default}
 use Rattle.tm_agreement.specs.Agreement.{Agree, DriversAgree, LevelAgrees, LevelsAgree, RankedAgree}
@@ -20,7 +20,7 @@ use Rattle.tm_sem.specs.Certificates.{DriverSets, Level}
 use Rattle.tm_sem.specs.State.{StateData}
 use Rattle.tm_sem.specs.StateBits.{state_bits, state_widths}
 use Rattle.tm_sem.specs.Step.{IsState}
-use Rattle.std.specs.Prelude.{sum}
+use Rattle.std.specs.Prelude.{⊤, sum}
 use Rattle.tm_syntax.specs.Design.{DesignTree}
 use Rattle.tm_verdict.specs.Fitting.{AreNodes, FitsDriver, FitsEnvironment}
 use Rattle.tm_verdict.specs.Sets.{bit_at, driver_sets, level_sets, levels_of, ranked_set, set_of}

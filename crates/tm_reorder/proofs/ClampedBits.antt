@@ -53,11 +53,11 @@ still_tight false m b is = (is, λ one. absurd (true≢false (sym one)))
 
 -- ---- diagrams of bits
 -- the level that is read for a place is one
-pub level_below : (levels : List ℕ) (count many k level : ℕ) → All (λ l. l < count) levels → many ≡ count →
-    k < length levels → level ≡ get_or levels k level → level < many
-level_below levels count many k level below same within read =
-    let low = below k level within in
-    omega (arith, low, read, same)
+pub level_below : (levels : List ℕ) (count many k : ℕ) → All (λ l. l < count) levels → many ≡ count →
+    k < length levels → get_or levels k 0 < many
+level_below levels count many k below same within =
+    let low = below k 0 within in
+    omega (arith, low, same)
 
 -- the constants lie below a level
 pub below_false : (s : Table) (level : ℕ) → level < s.levels → level < level_of s FALSE
@@ -83,13 +83,13 @@ module _ (s t : Table) (one : Bool) (tight bit id : NodeId) (grows : Extends s t
   pub clamped_is : one ≡ false →
       IsFunction t id (λ v. if means t tight v then means t FALSE v else means t bit v) →
       IsFunction t id (λ v. if one then means s bit v else (if means s tight v then false else means s bit v))
-  clamped_is zero is = record {
+  clamped_is unset is = record {
     known = is.known;
     meaning = λ v.
         is.meaning v
         ∙ (λ i. if grows.same_meaning tight tight_known v i then means-FALSE t v i
         else grows.same_meaning bit bit_known v i)
-        ∙ ap (λ (b : Bool). if b then means s bit v else (if means s tight v then false else means s bit v)) (sym zero);
+        ∙ ap (λ (b : Bool). if b then means s bit v else (if means s tight v then false else means s bit v)) (sym unset);
   }
 
   pub tightened_is : one ≡ true →
@@ -251,11 +251,11 @@ module _ (s : Table) (levels : List ℕ) (f : Field) (before : List NodeId) wher
           (stay_right t u levels now v grows are.known (are.right v right within))
           (more.here.meaning v
           ∙ bit_right one (means t tight v) (v level)
-          (λ is zero. value v ∙ (first_left v within is one one_is (length now + 1) refl).0 zero)
+          (λ is unset. value v ∙ (first_left v within is one one_is (length now + 1) refl).0 unset)
           ∙ value v);
       left = λ v within is.
           let still = still_tight one (means t tight v) (v level) (sym (more.further.meaning v) ∙ is) in
-          (first_left v within still.0 one one_is (length later) long).1 (λ zero. sym (value v) ∙ still.1 zero);
+          (first_left v within still.0 one one_is (length later) long).1 (λ set. sym (value v) ∙ still.1 set);
     }
       where
         long : length later ≡ length now + 1

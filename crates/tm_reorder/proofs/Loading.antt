@@ -18,6 +18,21 @@ use Rattle.tm_verdict.proofs.Values.{always_holds, entry_holds, never_holds}
 use Rattle.tm_reorder.specs.Inner.Clamped.{AreBits}
 use Rattle.tm_reorder.specs.Inner.Moved.{AreFirstMoved, AreMoved, IsMoved, seen}
 
+-- ---- the bits of old levels
+-- the bit of an old level is known, and seen as its value
+pub bit_known : (s t : Table) (bits : List NodeId) (place : ℕ) (bit : NodeId) → Extends s t → AreBits s bits →
+    slice_get bits place ≡ Some bit → Knows t bit
+bit_known s t bits place bit grows known at =
+    let before = known place bit at in
+    omega (arith, grows.rises, before)
+
+pub bit_seen : (s t : Table) (order : List ℕ) (bits : List NodeId) (level : ℕ) (bit : NodeId) → Extends s t →
+    AreBits s bits → slice_get bits (get_or order level 0) ≡ Some bit → (v : ℕ → Bool) →
+    means t bit v ≡ seen s order bits v level
+bit_seen s t order bits level bit grows known at v =
+    grows.same_meaning bit (known (get_or order level 0) bit at) v
+    ∙ ap (λ (id : NodeId). means s id v) (sym (get_or_from_slice_get bits (get_or order level 0) bit FALSE at))
+
 -- ---- the first entries
 module _ (see : (ℕ → Bool) → ℕ → Bool) (nodes : List Entry) where
   pub begun : (s : Table) → AreFirstMoved s see nodes 0 (FALSE ∷ TRUE ∷ [])

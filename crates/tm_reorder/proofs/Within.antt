@@ -2,6 +2,7 @@
 use Rattle.std.proofs.Common.{◌≡◌, ℕ, zero, suc, ◌+◌, ◌<◌, ◌≤◌, ◌^◌, Bool, false, List, [], ◌∷◌, length, map, get_or, refl, sym, ap, ◌∙◌, subst, arith}
 use Rattle.std.specs.Prelude.{All, sum, sum_by}
 use Rattle.std.specs.List.{AllZip, range_with_len}
+use Rattle.std.proofs.lemmas.List.Elements.{All-nil}
 use Rattle.std.proofs.lemmas.List.Sums.{sum_by-cons}
 use Rattle.tm_base.specs.Bits.{number_of}
 use Rattle.tm_game_bits.specs.AssignedStates.{numbers_from}
@@ -54,6 +55,10 @@ width_sum : (fs : List Field) → sum_by width fs ≡ sum (map width fs)
 width_sum [] = refl
 width_sum (f ∷ fs) =
     sum_by-cons width f fs ∙ ap (λ n. f.width + n) (width_sum fs) ∙ sym (sum_by-cons (λ (x : ℕ). x) f.width (map width fs))
+
+-- no field asks for a place
+pub no_places : (count : ℕ) → HavePlaces count []
+no_places count = record { each = All-nil IsField; room = omega arith }
 
 module _ (d : DesignTree) (fields : List Field) (are : AreFields d fields) where
   pub fields_sum : sum_by width fields ≡ sum (state_widths d)

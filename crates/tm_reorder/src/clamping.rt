@@ -137,7 +137,7 @@ fn push_levels(
     ensures pushed { OnOk result (ArePushed dd.old.table dd.new.table levels.now count (λ v. ⊤)
         bits.old.items bits.new.items) }
 {
-    for _bit in 0..count {
+    for _place in 0..count {
         let level = levels[bits.len()];
         let bit = bit_of(dd, level)?;
         bits.push(bit)?;
@@ -160,7 +160,8 @@ fn push_field(
     ensures pushed { OnOk result (ArePushed dd.old.table dd.new.table levels.now field.width
         (λ v. IsWithin field (by_place levels.now v) (length bits.old.items)) bits.old.items bits.new.items) }
 {
-    if is_whole(field) {
+    let whole = is_whole(field);
+    if whole {
         push_levels(dd, levels, field.width as usize, bits)
     } else {
         push_number(dd, levels, field, bits)

@@ -32,9 +32,9 @@ abbrev pub RanksTold : ((ℕ → Bool) → ℕ → Bool) → List Entry → List
 RanksTold see old new olds news = ArePairs (RankTold see old new) olds news (length olds)
 
 -- a driver's certificate
-pub record DriverTold (order : List ℕ) (see : (ℕ → Bool) → ℕ → Bool) (c moved : DriverData) : Type 0 where
-  pub order : moved.order ≡ order
-  pub nodes : AreNodes (length order) moved.nodes
+pub record DriverTold (new_order : List ℕ) (see : (ℕ → Bool) → ℕ → Bool) (c moved : DriverData) : Type 0 where
+  pub order : moved.order ≡ new_order
+  pub nodes : AreNodes (length new_order) moved.nodes
   pub region : IsTold see c.nodes moved.nodes c.region moved.region
   pub goals : ArePairs (RanksTold see c.nodes moved.nodes) c.goals moved.goals (length c.goals)
 
@@ -49,9 +49,9 @@ pub record LevelTold (see : (ℕ → Bool) → ℕ → Bool) (old new : List Ent
   pub chains : ArePairs (ChainTold see old new) l.chains m.chains (length l.chains)
 
 -- an environment's certificate
-pub record EnvironmentTold (order : List ℕ) (see : (ℕ → Bool) → ℕ → Bool) (c moved : EnvData) : Type 0 where
-  pub order : moved.order ≡ order
-  pub nodes : AreNodes (length order) moved.nodes
+pub record EnvironmentTold (new_order : List ℕ) (see : (ℕ → Bool) → ℕ → Bool) (c moved : EnvData) : Type 0 where
+  pub order : moved.order ≡ new_order
+  pub nodes : AreNodes (length new_order) moved.nodes
   pub levels : ArePairs (LevelTold see c.nodes moved.nodes) c.levels moved.levels (length c.levels)
 
 -- a driver's certificate was moved, and is told right where each number is within its field

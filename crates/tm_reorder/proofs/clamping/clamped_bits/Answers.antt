@@ -46,3 +46,10 @@ loop-field-preserved c =
     c.push_field.new.dd.table c.push_field.new.bits.items c.push_field.ensures.extends
     c.in_ok-push_field.ensures.pushed in
     record { extends = first.extends; first = first }
+
+pub returns-clause-clamped : goal.returns-clause-clamped
+returns-clause-clamped c =
+    all_clamped c.args.dd.now.table c.args.levels.now c.args.fields.now c.requires.places c.loop-field.dd.table
+    c.push_levels.new.dd.table c.loop-field.field-index _ c.loop-field.bits.items c.push_levels.new.bits.items
+    c.push_levels.ensures.extends c.loop-field.invariant.first
+    (omega (arith, c.len.ensures, c.loop-field.bits.ok.0)) c.in_ok-push_levels.ensures.pushed

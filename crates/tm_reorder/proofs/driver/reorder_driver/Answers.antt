@@ -1,12 +1,12 @@
-use Rattle.std.proofs.Common.{ap, sym, ◌∙◌}
-use Rattle.std.specs.Prelude.{sum}
+use Rattle.std.proofs.Common.{length}
 use Rattle.std.proofs.lemmas.Result.{IfOk-weaker}
 use Rattle.tm_reorder.proofs.Agreed.{drivers_same}
 use Rattle.tm_reorder.proofs.Reordered.{driver_fits, ranks_counted}
+use Rattle.tm_reorder.proofs.Within.{no_places}
 use Rattle.tm_reorder.proofs.driver.reorder_driver.Goals as goal
 
 pub move_driver-requires-clause-places : goal.move_driver-requires-clause-places
-move_driver-requires-clause-places c = ?
+move_driver-requires-clause-places c = no_places (length c.args.order.now)
 
 pub returns-clause-order : goal.returns-clause-order
 returns-clause-order c = IfOk-weaker c.move_driver.result _ _ (λ moved m. m.2.order) c.move_driver.ensures

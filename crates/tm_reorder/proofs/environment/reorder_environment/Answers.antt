@@ -1,12 +1,12 @@
-use Rattle.std.proofs.Common.{ap, sym, ◌∙◌}
-use Rattle.std.specs.Prelude.{sum}
+use Rattle.std.proofs.Common.{length}
 use Rattle.std.proofs.lemmas.Result.{IfOk-weaker}
 use Rattle.tm_reorder.proofs.Agreed.{levels_same}
 use Rattle.tm_reorder.proofs.Reordered.{environment_fits}
+use Rattle.tm_reorder.proofs.Within.{no_places}
 use Rattle.tm_reorder.proofs.environment.reorder_environment.Goals as goal
 
 pub move_environment-requires-clause-places : goal.move_environment-requires-clause-places
-move_environment-requires-clause-places c = ?
+move_environment-requires-clause-places c = no_places (length c.args.order.now)
 
 pub returns-clause-order : goal.returns-clause-order
 returns-clause-order c = IfOk-weaker c.move_environment.result _ _ (λ moved m. m.2.order) c.move_environment.ensures
