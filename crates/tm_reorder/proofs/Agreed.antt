@@ -40,115 +40,115 @@ zip_pairs f g P R step (x ∷ xs) (y ∷ ys) are = (
 )
 
 module _ (d : DesignTree) (order old : List ℕ) (is : IsOrder (length order) order) (old_is : IsOrder (length order) old)
-    where
-  old_length : length old ≡ length order
-  old_length = length_order (length order) old old_is
+  where
+    old_length : length old ≡ length order
+    old_length = length_order (length order) old old_is
 
-  -- the bit of a place at a state
-  place_bit : (s : StateData) (p : ℕ) → p < length order →
-      bit_at d order s (level_in order p) ≡ get_or (state_bits d s) p false
-  place_bit s p low =
-      let found = level_of_place (length order) order is p low in
-      ap (λ (q : ℕ). get_or (state_bits d s) q false)
-      (get_or_default order (level_in order p) (length order) 0 found.below ∙ found.at)
+    -- the bit of a place at a state
+    place_bit : (s : StateData) (p : ℕ) → p < length order →
+        bit_at d order s (level_in order p) ≡ get_or (state_bits d s) p false
+    place_bit s p low =
+        let found = level_of_place (length order) order is p low in
+        ap (λ (q : ℕ). get_or (state_bits d s) q false)
+        (get_or_default order (level_in order p) (length order) 0 found.below ∙ found.at)
 
-  -- the numbers of a valid state are within their fields
-  pub fields_within : (fields : List Field) → AreFields d fields → sum (state_widths d) ≡ length order →
-      (s : StateData) → IsState d s → AreWithin fields (λ p. bit_at d order s (level_in order p)) 0
-  fields_within fields are all s valid =
-      within_agree fields (λ q. get_or (state_bits d s) q false) (λ p. bit_at d order s (level_in order p)) 0
-      (λ q below. sym (place_bit s q (omega (arith, below, fields_sum d fields are, all))))
-      (valid_within d fields are s valid)
+    -- the numbers of a valid state are within their fields
+    pub fields_within : (fields : List Field) → AreFields d fields → sum (state_widths d) ≡ length order →
+        (s : StateData) → IsState d s → AreWithin fields (λ p. bit_at d order s (level_in order p)) 0
+    fields_within fields are all s valid =
+        within_agree fields (λ q. get_or (state_bits d s) q false) (λ p. bit_at d order s (level_in order p)) 0
+        (λ q below. sym (place_bit s q (omega (arith, below, fields_sum d fields are, all))))
+        (valid_within d fields are s valid)
 
-  module _ (fields : List Field) (see : (ℕ → Bool) → ℕ → Bool) (right : SeesRight order old fields see)
-      (IsSuch : StateData → Type 0)
-      (within : (s : StateData) → IsSuch s → AreWithin fields (λ p. bit_at d order s (level_in order p)) 0)
-      (old_nodes nodes : List Entry) (old_nodes_are : AreNodes (length order) old_nodes) where
-    -- a bit of the old order is seen
-    bit_seen : (s : StateData) → IsSuch s → (k : ℕ) → k < length order →
-        see (bit_at d order s) k ≡ bit_at d old s k
-    bit_seen s such k below =
-        right (bit_at d order s) k (within s such) below
-        ∙ place_bit s (get_or old k 0) (order_below (length order) old old_is k 0 (omega (arith, below, old_length)))
-        ∙ ap (λ (q : ℕ). get_or (state_bits d s) q false)
-        (get_or_default old k 0 (length old) (omega (arith, below, old_length)))
+    module _ (fields : List Field) (see : (ℕ → Bool) → ℕ → Bool) (right : SeesRight order old fields see)
+        (IsSuch : StateData → Type 0)
+        (within : (s : StateData) → IsSuch s → AreWithin fields (λ p. bit_at d order s (level_in order p)) 0)
+        (old_nodes nodes : List Entry) (old_nodes_are : AreNodes (length order) old_nodes) where
+      -- a bit of the old order is seen
+      bit_seen : (s : StateData) → IsSuch s → (k : ℕ) → k < length order →
+          see (bit_at d order s) k ≡ bit_at d old s k
+      bit_seen s such k below =
+          right (bit_at d order s) k (within s such) below
+          ∙ place_bit s (get_or old k 0) (order_below (length order) old old_is k 0 (omega (arith, below, old_length)))
+          ∙ ap (λ (q : ℕ). get_or (state_bits d s) q false)
+          (get_or_default old k 0 (length old) (omega (arith, below, old_length)))
 
-    -- a set holds such a state where it did
-    set_at : (k n : ℕ) → IsTold see old_nodes nodes k n → (s : StateData) → IsSuch s →
-        set_of d order nodes n s ≡ set_of d old old_nodes k s
-    set_at k n told s such =
-        told.same (bit_at d order s)
-        ∙ reads_levels (length order) k old_nodes (see (bit_at d order s)) (bit_at d old s) old_nodes_are
-        (bit_seen s such)
+      -- a set holds such a state where it did
+      set_at : (k n : ℕ) → IsTold see old_nodes nodes k n → (s : StateData) → IsSuch s →
+          set_of d order nodes n s ≡ set_of d old old_nodes k s
+      set_at k n told s such =
+          told.same (bit_at d order s)
+          ∙ reads_levels (length order) k old_nodes (see (bit_at d order s)) (bit_at d old s) old_nodes_are
+          (bit_seen s such)
 
-  -- ---- where no field is asked for, all sets are the same
-  module _ (see : (ℕ → Bool) → ℕ → Bool) (right : SeesRight order old [] see) (old_nodes nodes : List Entry)
-      (old_nodes_are : AreNodes (length order) old_nodes) where
-    set_same : (k n : ℕ) → IsTold see old_nodes nodes k n → set_of d order nodes n ≡ set_of d old old_nodes k
-    set_same k n told =
-        λ i. λ s. set_at [] see right (λ _. ⊤) (λ _ _. tt) old_nodes nodes old_nodes_are k n told s tt i
+    -- ---- where no field is asked for, all sets are the same
+    module _ (see : (ℕ → Bool) → ℕ → Bool) (right : SeesRight order old [] see) (old_nodes nodes : List Entry)
+        (old_nodes_are : AreNodes (length order) old_nodes) where
+      set_same : (k n : ℕ) → IsTold see old_nodes nodes k n → set_of d order nodes n ≡ set_of d old old_nodes k
+      set_same k n told =
+          λ i. λ s. set_at [] see right (λ _. ⊤) (λ _ _. tt) old_nodes nodes old_nodes_are k n told s tt i
 
-    rank_same : (r q : Rank) → RankTold see old_nodes nodes r q →
-        ranked_set d order nodes q ≡ ranked_set d old old_nodes r
-    rank_same r q told =
-        let set = set_same r.set q.set told.1 in
-        λ i. record { fair = told.0 i; set = set i }
+      rank_same : (r q : Rank) → RankTold see old_nodes nodes r q →
+          ranked_set d order nodes q ≡ ranked_set d old old_nodes r
+      rank_same r q told =
+          let set = set_same r.set q.set told.1 in
+          λ i. record { fair = told.0 i; set = set i }
 
-    ranks_same : (olds news : List Rank) → RanksTold see old_nodes nodes olds news →
-        map (ranked_set d order nodes) news ≡ map (ranked_set d old old_nodes) olds
-    ranks_same olds news told =
-        maps_same (ranked_set d old old_nodes) (ranked_set d order nodes) (RankTold see old_nodes nodes) olds news
-        rank_same told
+      ranks_same : (olds news : List Rank) → RanksTold see old_nodes nodes olds news →
+          map (ranked_set d order nodes) news ≡ map (ranked_set d old old_nodes) olds
+      ranks_same olds news told =
+          maps_same (ranked_set d old old_nodes) (ranked_set d order nodes) (RankTold see old_nodes nodes) olds news
+          rank_same told
 
-    chain_same : (olds news : List ℕ) → ChainTold see old_nodes nodes olds news →
-        map (set_of d order nodes) news ≡ map (set_of d old old_nodes) olds
-    chain_same olds news told =
-        maps_same (set_of d old old_nodes) (set_of d order nodes) (IsTold see old_nodes nodes) olds news set_same told
+      chain_same : (olds news : List ℕ) → ChainTold see old_nodes nodes olds news →
+          map (set_of d order nodes) news ≡ map (set_of d old old_nodes) olds
+      chain_same olds news told =
+          maps_same (set_of d old old_nodes) (set_of d order nodes) (IsTold see old_nodes nodes) olds news set_same told
 
-    level_same : (l m : LevelData) → LevelTold see old_nodes nodes l m →
-        level_sets d order nodes m ≡ level_sets d old old_nodes l
-    level_same l m told =
-        let set = set_same l.set m.set told.set in
-        let chains = maps_same (map (set_of d old old_nodes)) (map (set_of d order nodes))
-        (ChainTold see old_nodes nodes) l.chains m.chains chain_same told.chains in
-        λ i. record { goal = told.goal i; set = set i; chains = chains i }
+      level_same : (l m : LevelData) → LevelTold see old_nodes nodes l m →
+          level_sets d order nodes m ≡ level_sets d old old_nodes l
+      level_same l m told =
+          let set = set_same l.set m.set told.set in
+          let chains = maps_same (map (set_of d old old_nodes)) (map (set_of d order nodes))
+          (ChainTold see old_nodes nodes) l.chains m.chains chain_same told.chains in
+          λ i. record { goal = told.goal i; set = set i; chains = chains i }
 
-  -- ---- else they hold the same valid states
-  module _ (fields : List Field) (are : AreFields d fields) (all : sum (state_widths d) ≡ length order)
-      (see : (ℕ → Bool) → ℕ → Bool) (right : SeesRight order old fields see) (old_nodes nodes : List Entry)
-      (old_nodes_are : AreNodes (length order) old_nodes) where
-    set_agrees : (k n : ℕ) → IsTold see old_nodes nodes k n →
-        Agree d (set_of d order nodes n) (set_of d old old_nodes k)
-    set_agrees k n told = record {
-      same = λ s valid.
-          set_at fields see right (IsState d) (fields_within fields are all) old_nodes nodes old_nodes_are k n told s
-          valid;
-    }
+    -- ---- else they hold the same valid states
+    module _ (fields : List Field) (are : AreFields d fields) (all : sum (state_widths d) ≡ length order)
+        (see : (ℕ → Bool) → ℕ → Bool) (right : SeesRight order old fields see) (old_nodes nodes : List Entry)
+        (old_nodes_are : AreNodes (length order) old_nodes) where
+      set_agrees : (k n : ℕ) → IsTold see old_nodes nodes k n →
+          Agree d (set_of d order nodes n) (set_of d old old_nodes k)
+      set_agrees k n told = record {
+        same = λ s valid.
+            set_at fields see right (IsState d) (fields_within fields are all) old_nodes nodes old_nodes_are k n told s
+            valid;
+      }
 
-    rank_agrees : (r q : Rank) → RankTold see old_nodes nodes r q →
-        RankedAgree d (ranked_set d order nodes q) (ranked_set d old old_nodes r)
-    rank_agrees r q told = record { fair = told.0; set = set_agrees r.set q.set told.1 }
+      rank_agrees : (r q : Rank) → RankTold see old_nodes nodes r q →
+          RankedAgree d (ranked_set d order nodes q) (ranked_set d old old_nodes r)
+      rank_agrees r q told = record { fair = told.0; set = set_agrees r.set q.set told.1 }
 
-    ranks_agree : (olds news : List Rank) → RanksTold see old_nodes nodes olds news →
-        AllZip (RankedAgree d) (map (ranked_set d order nodes) news) (map (ranked_set d old old_nodes) olds)
-    ranks_agree olds news told =
-        zip_pairs (ranked_set d old old_nodes) (ranked_set d order nodes) (RankTold see old_nodes nodes)
-        (RankedAgree d) rank_agrees olds news told
+      ranks_agree : (olds news : List Rank) → RanksTold see old_nodes nodes olds news →
+          AllZip (RankedAgree d) (map (ranked_set d order nodes) news) (map (ranked_set d old old_nodes) olds)
+      ranks_agree olds news told =
+          zip_pairs (ranked_set d old old_nodes) (ranked_set d order nodes) (RankTold see old_nodes nodes)
+          (RankedAgree d) rank_agrees olds news told
 
-    chain_agrees : (olds news : List ℕ) → ChainTold see old_nodes nodes olds news →
-        AllZip (Agree d) (map (set_of d order nodes) news) (map (set_of d old old_nodes) olds)
-    chain_agrees olds news told =
-        zip_pairs (set_of d old old_nodes) (set_of d order nodes) (IsTold see old_nodes nodes) (Agree d) set_agrees olds
-        news told
+      chain_agrees : (olds news : List ℕ) → ChainTold see old_nodes nodes olds news →
+          AllZip (Agree d) (map (set_of d order nodes) news) (map (set_of d old old_nodes) olds)
+      chain_agrees olds news told =
+          zip_pairs (set_of d old old_nodes) (set_of d order nodes) (IsTold see old_nodes nodes) (Agree d) set_agrees olds
+          news told
 
-    level_agrees : (l m : LevelData) → LevelTold see old_nodes nodes l m →
-        LevelAgrees d (level_sets d order nodes m) (level_sets d old old_nodes l)
-    level_agrees l m told = record {
-      goal = told.goal;
-      set = set_agrees l.set m.set told.set;
-      chains = zip_pairs (map (set_of d old old_nodes)) (map (set_of d order nodes)) (ChainTold see old_nodes nodes)
-          (AllZip (Agree d)) chain_agrees l.chains m.chains told.chains;
-    }
+      level_agrees : (l m : LevelData) → LevelTold see old_nodes nodes l m →
+          LevelAgrees d (level_sets d order nodes m) (level_sets d old old_nodes l)
+      level_agrees l m told = record {
+        goal = told.goal;
+        set = set_agrees l.set m.set told.set;
+        chains = zip_pairs (map (set_of d old old_nodes)) (map (set_of d order nodes)) (ChainTold see old_nodes nodes)
+            (AllZip (Agree d)) chain_agrees l.chains m.chains told.chains;
+      }
 
 -- ---- certificates
 module _ (d : DesignTree) (order : List ℕ) (is : IsOrder (length order) order) (see : (ℕ → Bool) → ℕ → Bool) where

@@ -1,13 +1,13 @@
 -- The places of the old and the new order, and the bits that are seen at them.
-use Rattle.std.proofs.Common.{◌≡◌, ℕ, ◌<◌, ◌≤◌, Bool, List, [], length, map, get_or, slice_get, Some, refl, sym, ap, ◌∙◌, subst, arith}
+use Rattle.std.proofs.Common.{◌≡◌, ℕ, ◌<◌, ◌≤◌, Bool, List, length, map, get_or, sym, ap, ◌∙◌, subst, arith}
 use Rattle.std.specs.Prelude.{All, sum_by}
 use Rattle.std.specs.List.{range_with_len}
 use Rattle.std.proofs.lemmas.List.FromFn.{get_or-map-range_with_len, length-map-range_with_len}
-use Rattle.std.proofs.lemmas.Option.{get_or_from_slice_get, slice_get-get_or}
+use Rattle.std.proofs.lemmas.Option.{slice_get-get_or}
 use Rattle.tm_cert.specs.declared.cert.Entry.{Entry}
 use Rattle.tm_dd.specs.declared.node.NodeId.{NodeId}
 use Rattle.tm_dd.specs.declared.node.TheConstants.{FALSE}
-use Rattle.tm_dd.specs.Table.{Table, means}
+use Rattle.tm_dd.specs.Table.{Table}
 use Rattle.tm_game_bits.specs.Order.{IsOrder, level_in}
 use Rattle.tm_game_bits.proofs.Orders.{length_order, level_of_place, order_below}
 use Rattle.tm_reorder.specs.declared.fields.Field.{Field}

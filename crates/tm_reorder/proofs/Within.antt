@@ -1,5 +1,5 @@
 -- The numbers of valid states are within their fields.
-use Rattle.std.proofs.Common.{◌≡◌, ℕ, zero, suc, ◌+◌, ◌<◌, ◌≤◌, ◌^◌, Bool, false, List, [], ◌∷◌, length, map, get_or, refl, sym, ap, ◌∙◌, subst, arith}
+use Rattle.std.proofs.Common.{◌≡◌, ℕ, suc, ◌+◌, ◌<◌, ◌≤◌, Bool, false, List, [], ◌∷◌, map, get_or, refl, sym, ap, ◌∙◌, subst, arith}
 use Rattle.std.specs.Prelude.{All, sum, sum_by}
 use Rattle.std.specs.List.{AllZip, range_with_len}
 use Rattle.std.proofs.lemmas.List.Elements.{All-nil}
@@ -9,7 +9,7 @@ use Rattle.tm_game_bits.specs.AssignedStates.{numbers_from}
 use Rattle.tm_game_bits.proofs.Numbers.{Fits, numbers_agree, numbers_back}
 use Rattle.tm_reorder.specs.declared.fields.Field.{Field}
 use Rattle.tm_reorder.specs.Fields.{AreFields, IsField}
-use Rattle.tm_reorder.specs.Inner.Clamped.{AreWithin, HavePlaces, IsWithin}
+use Rattle.tm_reorder.specs.Inner.Clamped.{AreWithin, HavePlaces}
 use Rattle.tm_sem.specs.State.{StateData}
 use Rattle.tm_sem.specs.StateBits.{state_bits, state_numbers, state_widths}
 use Rattle.tm_sem.specs.Step.{IsState}

@@ -37,12 +37,7 @@ fn is_whole(field: Field) -> bool {
 
 // The bit of a number, where the last value has `one` at its place, and `tight` tells whether all bits before it are 1
 // that the last value has. If they are, and the last value has a 0 here, the bit of a valid state is 0.
-fn clamped(
-    dd: &mut Manager,
-    one: bool,
-    tight: NodeId,
-    bit: NodeId,
-) -> Result<NodeId, AllocError>
+fn clamped(dd: &mut Manager, one: bool, tight: NodeId, bit: NodeId) -> Result<NodeId, AllocError>
     requires tight { Knows dd.old.table tight }
     requires bit { Knows dd.old.table bit }
     ensures extends { Extends dd.old.table dd.new.table }
@@ -57,12 +52,7 @@ fn clamped(
 }
 
 // Whether all bits up to this one are 1 that the last value has.
-fn tightened(
-    dd: &mut Manager,
-    one: bool,
-    tight: NodeId,
-    bit: NodeId,
-) -> Result<NodeId, AllocError>
+fn tightened(dd: &mut Manager, one: bool, tight: NodeId, bit: NodeId) -> Result<NodeId, AllocError>
     requires tight { Knows dd.old.table tight }
     requires bit { Knows dd.old.table bit }
     ensures extends { Extends dd.old.table dd.new.table }

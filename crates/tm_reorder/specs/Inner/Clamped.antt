@@ -1,6 +1,6 @@
 -- The bits of a state as diagrams. Here `levels` has the level of each place, `bits` the diagrams of the bits of the
 -- first places, s and t are the tables of a store before and after, and v gives each level's value.
-use Rattle.std.specs.Prelude.{◌≡◌, ℕ, ◌+◌, ◌<◌, ◌≤◌, ◌^◌, ⊤, Bool, false, List, [], ◌∷◌, ◌++◌, All, Some, length, map, sum_by, slice_get, slice_index_or, if◌then◌else◌}
+use Rattle.std.specs.Prelude.{◌≡◌, ℕ, ◌+◌, ◌≤◌, ⊤, Bool, false, List, [], ◌∷◌, ◌++◌, All, Some, length, map, sum_by, slice_get, slice_index_or, if◌then◌else◌}
 use Rattle.std.specs.List.{range_with_len}
 use Rattle.tm_base.specs.Bits.{number_of}
 use Rattle.tm_dd.specs.declared.node.NodeId.{NodeId}

@@ -1,10 +1,7 @@
-use Rattle.std.proofs.Common.{◌≡◌, ℕ, ◌+◌, ◌<◌, ◌≤◌, List, length, sym, subst, arith}
+use Rattle.std.proofs.Common.{ℕ, ◌<◌, sym, subst, arith}
 use Rattle.std.specs.Prelude.{All}
 use Rattle.std.proofs.lemmas.Option.{slice_get-get_or}
-use Rattle.tm_dd.specs.declared.node.NodeId.{NodeId}
-use Rattle.tm_dd.proofs.CallerLaws.{Extends-trans}
 use Rattle.tm_numbering.proofs.Items.{at_index}
-use Rattle.tm_reorder.specs.declared.fields.Field.{Field}
 use Rattle.tm_reorder.specs.Fields.{IsField}
 use Rattle.tm_reorder.proofs.ClampedBits.{AreFirst, all_clamped, none_first, one_first, room_here}
 use Rattle.tm_reorder.proofs.clamping.clamped_bits.Goals as goal

@@ -1,4 +1,4 @@
-use Rattle.std.proofs.Common.{◌≡◌, ◌+◌, ◌<◌, length, get_or, ap, arith}
+use Rattle.std.proofs.Common.{◌≡◌, length, get_or, ap, arith}
 use Rattle.std.specs.Prelude.{⊤}
 use Rattle.tm_dd.proofs.CallerLaws.{Extends-refl, Extends-trans}
 use Rattle.tm_reorder.proofs.ClampedBits.{level_below, none_pushed, one_pushed, pushed_such}

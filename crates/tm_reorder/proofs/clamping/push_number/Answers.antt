@@ -1,4 +1,4 @@
-use Rattle.std.proofs.Common.{◌≡◌, ◌+◌, ◌<◌, length, get_or, ap, arith}
+use Rattle.std.proofs.Common.{◌≡◌, length, get_or, ap, arith}
 use Rattle.tm_reorder.proofs.ClampedBits.{begun, level_below, one_more, pushed}
 use Rattle.tm_reorder.proofs.clamping.push_number.Goals as goal
 
