@@ -100,7 +100,8 @@ module _ (d : DesignTree) (values : HasValues d) (small : AreSmall d) where
   each_is : All IsField (state_fields d)
   each_is =
       All-append IsField (variables ++ places) (field_to (1 + length d.processes) ∷ [])
-      (All-append IsField variables places (each_map (value_field d.spec) (VarFits d.spec) value_is d.vars values.variables)
+      (All-append IsField variables places
+      (each_map (value_field d.spec) (VarFits d.spec) value_is d.vars values.variables)
       (each_place d (λ p. number_field (end_number d p) (small.locations p)) processes))
       (All-cons IsField (field_to (1 + length d.processes)) []
       (number_field (1 + length d.processes) small.processes) (All-nil IsField))
@@ -117,7 +118,8 @@ module _ (d : DesignTree) (values : HasValues d) (small : AreSmall d) where
   most s valid =
       zip_append (variables ++ places) (field_to (1 + length d.processes) ∷ []) (s.values ++ s.places) (s.last ∷ [])
       (zip_append variables places s.values s.places
-      (zip_map (value_field d.spec) (λ (v : Var) n. n < type_size d.spec v.ty) (λ v n below. omega (arith, below)) d.vars
+      (zip_map (value_field d.spec) (λ (v : Var) n. n < type_size d.spec v.ty) (λ v n below. omega (arith, below))
+      d.vars
       s.values valid.values)
       (zip_map (λ p. field_to (end_number d p)) (λ p k. k ≤ end_number d p) (λ p k most. most) processes s.places
       valid.places))

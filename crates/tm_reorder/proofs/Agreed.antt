@@ -138,8 +138,8 @@ module _ (d : DesignTree) (order old : List ℕ) (is : IsOrder (length order) or
       chain_agrees : (olds news : List ℕ) → ChainTold see old_nodes nodes olds news →
           AllZip (Agree d) (map (set_of d order nodes) news) (map (set_of d old old_nodes) olds)
       chain_agrees olds news told =
-          zip_pairs (set_of d old old_nodes) (set_of d order nodes) (IsTold see old_nodes nodes) (Agree d) set_agrees olds
-          news told
+          zip_pairs (set_of d old old_nodes) (set_of d order nodes) (IsTold see old_nodes nodes) (Agree d) set_agrees
+          olds news told
 
       level_agrees : (l m : LevelData) → LevelTold see old_nodes nodes l m →
           LevelAgrees d (level_sets d order nodes m) (level_sets d old old_nodes l)

@@ -89,7 +89,8 @@ module _ (s t : Table) (one : Bool) (tight bit id : NodeId) (grows : Extends s t
         is.meaning v
         ∙ (λ i. if grows.same_meaning tight tight_known v i then means-FALSE t v i
         else grows.same_meaning bit bit_known v i)
-        ∙ ap (λ (b : Bool). if b then means s bit v else (if means s tight v then false else means s bit v)) (sym unset);
+        ∙ ap (λ (b : Bool). if b then means s bit v else (if means s tight v then false else means s bit v))
+        (sym unset);
   }
 
   pub tightened_is : one ≡ true →
@@ -101,7 +102,8 @@ module _ (s t : Table) (one : Bool) (tight bit id : NodeId) (grows : Extends s t
         is.meaning v
         ∙ (λ i. if grows.same_meaning tight tight_known v i then grows.same_meaning bit bit_known v i
         else means-FALSE t v i)
-        ∙ ap (λ (b : Bool). if b then (if means s tight v then means s bit v else false) else means s tight v) (sym set);
+        ∙ ap (λ (b : Bool). if b then (if means s tight v then means s bit v else false) else means s tight v)
+        (sym set);
   }
 
 -- a bit that was made, clamped and put behind others
@@ -284,7 +286,9 @@ module _ (s : Table) (levels : List ℕ) (before : List NodeId) where
       IsFunction u id (λ v. v level) → later ≡ now ++ id ∷ [] →
       ArePushed s u levels (done + 1) (λ v. ⊤) before later
   one_pushed t u now later done level id grows are level_is is items = record {
-    count = let long = length_push now id in omega (arith, ap (λ (ids : List NodeId). length ids) items, long, are.count);
+    count =
+        let long = length_push now id in
+        omega (arith, ap (λ (ids : List NodeId). length ids) items, long, are.count);
     known = more_known u now later id items (stay_known t u now grows are.known) is.known;
     right = λ v right such.
         more_right u levels now later id v items

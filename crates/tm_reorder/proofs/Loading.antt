@@ -66,7 +66,8 @@ module _ (see : (ℕ → Bool) → ℕ → Bool) (nodes : List Entry) where
   all_moved s done ids all are = record { count = omega (arith, are.count, all); each = are.each }
 
   -- ---- one more entry
-  module _ (count : ℕ) (nodes_are : AreNodes count nodes) (done : ℕ) (e : Entry) (at : slice_get nodes done ≡ Some e) where
+  module _ (count : ℕ) (nodes_are : AreNodes count nodes) (done : ℕ) (e : Entry)
+      (at : slice_get nodes done ≡ Some e) where
     node : IsNode count (take done nodes) e
     node = nodes_are done e at
 

@@ -49,7 +49,8 @@ module _ (order old : List ℕ) (is : IsOrder (length order) order) (old_is : Is
       AreClamped s levels fields bits → SeesRight order old fields (seen s old bits)
   sees_right s fields bits room are v level within below =
       let place = get_or old level 0 in
-      let low : place < length order = order_below (length order) old old_is level 0 (omega (arith, below, old_length)) in
+      let low : place < length order =
+      order_below (length order) old old_is level 0 (omega (arith, below, old_length)) in
       let there : place < length bits = omega (arith, low, are.count, levels_long) in
       are.right v all place (get_or bits place FALSE) (slice_get-get_or bits place FALSE there)
       ∙ ap v (level_at place low)

@@ -27,7 +27,8 @@ module _ (order : List ℕ) (s : Table) (reduced : IsReduced s) (count : s.level
   set_told k n stands = record {
     within = number_within s reduced s.levels kept nodes numbered stands.0 n stands.2;
     same = λ v.
-        worth s reduced s.levels kept nodes numbered v stands.0 n stands.2 ∙ (loaded.each k stands.0 stands.1).meaning v;
+        worth s reduced s.levels kept nodes numbered v stands.0 n stands.2
+        ∙ (loaded.each k stands.0 stands.1).meaning v;
   }
 
   nodes_told : AreNodes (length order) nodes

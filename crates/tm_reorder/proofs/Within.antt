@@ -54,7 +54,9 @@ zip_fits (f ∷ fs) (n ∷ ns) fit all =
 width_sum : (fs : List Field) → sum_by width fs ≡ sum (map width fs)
 width_sum [] = refl
 width_sum (f ∷ fs) =
-    sum_by-cons width f fs ∙ ap (λ n. f.width + n) (width_sum fs) ∙ sym (sum_by-cons (λ (x : ℕ). x) f.width (map width fs))
+    sum_by-cons width f fs
+    ∙ ap (λ n. f.width + n) (width_sum fs)
+    ∙ sym (sum_by-cons (λ (x : ℕ). x) f.width (map width fs))
 
 -- no field asks for a place
 pub no_places : (count : ℕ) → HavePlaces count []

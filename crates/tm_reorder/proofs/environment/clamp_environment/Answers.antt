@@ -24,4 +24,5 @@ returns-clause-sets c =
 pub returns-clause-fits : goal.returns-clause-fits
 returns-clause-fits c =
     IfOk-weaker c.move_environment.result _ _
-    (λ moved m. environment_fits c.args.order.now c.requires.order m.0 c.args.cert.now moved m.2) c.move_environment.ensures
+    (λ moved m. environment_fits c.args.order.now c.requires.order m.0 c.args.cert.now moved m.2)
+    c.move_environment.ensures

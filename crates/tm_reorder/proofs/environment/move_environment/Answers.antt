@@ -46,7 +46,8 @@ load_moved-requires-clause-bits c =
     c.in_ok-bits.ensures.clamped
 
 pub renumber_environment-requires-clause-reduced : goal.renumber_environment-requires-clause-reduced
-renumber_environment-requires-clause-reduced c = subst IsReduced (sym c.store.ensures.value) c.store.ensures.manager.reduced
+renumber_environment-requires-clause-reduced c =
+    subst IsReduced (sym c.store.ensures.value) c.store.ensures.manager.reduced
 
 pub renumber_environment-requires-clause-levels : goal.renumber_environment-requires-clause-levels
 renumber_environment-requires-clause-levels c =
