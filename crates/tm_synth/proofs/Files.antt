@@ -3,6 +3,10 @@ use Rattle.std.proofs.Common.{◌≡◌, ℕ, ◌+◌, ◌*◌, List, [], length
 use Rattle.std.specs.Prelude.{sum}
 use Rattle.std.proofs.lemmas.List.{length-map}
 use Rattle.serde_json.specs.Data.{Data}
+use Rattle.tm_agreement.specs.Agreement.{DriversAgree, LevelAgrees, LevelsAgree}
+use Rattle.tm_agreement.proofs.Agreeing.{zip_length}
+use Rattle.tm_agreement.proofs.DriversAgreeing as drivers
+use Rattle.tm_agreement.proofs.LevelsAgreeing as levels
 use Rattle.tm_cert.specs.Cert.{DriverData, EnvData}
 use Rattle.tm_cert.specs.CertValue.{IsCert, IsCertText}
 use Rattle.tm_cert.specs.Written.{driver_data, environment_data}
@@ -12,7 +16,6 @@ use Rattle.tm_cert.specs.declared.shape.Kind.TheVariants as kinds
 use Rattle.tm_cir.specs.Answer.{Answers}
 use Rattle.tm_cir.specs.Text.{IsDriverText}
 use Rattle.tm_cir.specs.Tree.{BlockTree}
-use Rattle.tm_flat_pool.specs.Cells.{AreDriverUnions, AreLevelUnions}
 use Rattle.tm_flat_pool.specs.Predicates.{pool}
 use Rattle.tm_game_bits.proofs.Orders.{length_order}
 use Rattle.tm_game_pool.specs.Separating.{predicates_at}
@@ -20,7 +23,7 @@ use Rattle.tm_judge.specs.Judged.{CanJudgeDriver, CanJudgeEnvironment}
 use Rattle.tm_judge.specs.Shape.{shape_of}
 use Rattle.tm_refine.specs.Decided.{numbers_of}
 use Rattle.tm_refine.specs.declared.trace.Trace.{Trace}
-use Rattle.tm_sem.specs.Certificates.{DriverSets, Level, MeetsDriver, MeetsEnvironment, longest_chain}
+use Rattle.tm_sem.specs.Certificates.{DriverSets, Level, longest_chain}
 use Rattle.tm_sem.specs.Fairness.{conditions}
 use Rattle.tm_sem.specs.Loss.{Beats}
 use Rattle.tm_sem.specs.State.{StateData}
@@ -28,11 +31,13 @@ use Rattle.tm_sem.specs.StateBits.{state_widths}
 use Rattle.tm_sem.specs.Step.{IsInitial}
 use Rattle.tm_sem.specs.Strategy.{Good}
 use Rattle.tm_syntax.specs.Design.{DesignTree}
+use Rattle.tm_verdict.specs.Regular.{IsRegular}
 use Rattle.tm_verdict.specs.Sets.{driver_sets, level_sets, levels_of}
 use Rattle.tm_synth.specs.Found.{IsDriverFound, IsEnvironmentFound}
 use Rattle.tm_synth.specs.Shown.{IsDriverShown, IsEnvironmentShown, IsWeightOrder}
 use Rattle.tm_synth.specs.Traced.{TracesDriver, TracesLevels}
 use Rattle.tm_synth.specs.Written.{IsWrittenDriver, IsWrittenLoss}
+use Rattle.tm_synth.proofs.Agreed.{chains_agree, driver_unions, level_unions}
 use Rattle.tm_synth.proofs.Certificates.{driver_is, environment_is}
 
 -- ---- the text of a certificate that was put into the weight order
@@ -41,7 +46,8 @@ module _ (d : DesignTree) (weight : List ℕ) (is : IsWeightOrder d weight) (bit
   bits_are = sym (many ∙ length_order (sum (state_widths d)) weight is.order)
 
   pub driver_written : (bs : List BlockTree) (c moved : DriverData) (cert : List ℕ) (nodes : ℕ) →
-      moved.order ≡ weight → driver_sets d moved ≡ driver_sets d c → map length moved.goals ≡ map length c.goals →
+      moved.order ≡ weight → DriversAgree d (driver_sets d moved) (driver_sets d c) →
+      map length moved.goals ≡ map length c.goals →
       CanJudgeDriver d bs moved →
       ((shape : CertShape) (value : Data) → shape.bits ≡ bits → IsCert shape value (certs.Driver moved) →
       IsCertText shape cert (certs.Driver moved)) → nodes ≡ length moved.nodes → IsWrittenDriver d c cert nodes
@@ -55,7 +61,8 @@ module _ (d : DesignTree) (weight : List ℕ) (is : IsWeightOrder d weight) (bit
     nodes_are = nodes_are;
   }
 
-  pub loss_written : (c moved : EnvData) (cert : List ℕ) → moved.order ≡ weight → levels_of d moved ≡ levels_of d c →
+  pub loss_written : (c moved : EnvData) (cert : List ℕ) → moved.order ≡ weight →
+      LevelsAgree d (levels_of d moved) (levels_of d c) →
       CanJudgeEnvironment d moved →
       ((shape : CertShape) (value : Data) → shape.bits ≡ bits → IsCert shape value (certs.Environment moved) →
       IsCertText shape cert (certs.Environment moved)) → IsWrittenLoss d c cert
@@ -70,23 +77,26 @@ module _ (d : DesignTree) (weight : List ℕ) (is : IsWeightOrder d weight) (bit
 -- ---- what is found
 -- a driver
 pub driver_found : (d : DesignTree) (bs : List BlockTree) (c : DriverData) (driver cert ranks : List ℕ) (nodes : ℕ) →
-    IsDriverShown d bs c → IsDriverText d driver bs → ((cs : List BlockTree) → IsDriverText d driver cs → cs ≡ bs) →
+    IsRegular d → IsDriverShown d bs c → IsDriverText d driver bs →
+    ((cs : List BlockTree) → IsDriverText d driver cs → cs ≡ bs) →
     IsWrittenDriver d c cert nodes → ranks ≡ map length c.goals → (trace : Trace) →
     TracesDriver d trace (driver_sets d c) → IsDriverFound d driver cert ranks nodes trace
-driver_found d bs c driver cert ranks nodes shown reads only written ranks_are trace traced = record {
+driver_found d bs c driver cert ranks nodes regular shown reads only written ranks_are trace traced = record {
   blocks = bs;
   certificate = written.certificate;
   reads_so = reads;
   reads_only_so = only;
   certifies = written.certifies;
   order = written.order;
-  meets = subst (λ (s : DriverSets). MeetsDriver d (Answers bs) s) (sym written.sets) shown.meets;
+  meets = drivers.meets d regular.steady (Answers bs) (driver_sets d c) (driver_sets d written.certificate)
+      (drivers.flipped d (driver_sets d written.certificate) (driver_sets d c) written.sets) shown.meets;
   ranks_are = ranks_are ∙ sym written.ranks;
   nodes_are = written.nodes_are;
   good = subst (λ (rs : List ℕ). Good d (Answers bs) rs) (sym ranks_are) shown.good;
   honest = traced.honest;
-  unions = subst (λ (s : DriverSets). AreDriverUnions d (predicates_at (pool d) (numbers_of trace)) s)
-      (sym written.sets) traced.unions;
+  unions = driver_unions d (predicates_at (pool d) (numbers_of trace)) (driver_sets d c)
+      (driver_sets d written.certificate)
+      (drivers.flipped d (driver_sets d written.certificate) (driver_sets d c) written.sets) traced.unions;
 }
 
 -- a driver's trace speaks of sets, and so of equal ones
@@ -109,20 +119,23 @@ module _ (d : DesignTree) (c : EnvData) (shown : IsEnvironmentShown d c) where
         certificate = written.certificate;
         certifies = written.certifies;
         order = written.order;
-        meets = subst (λ (s : List Level). MeetsEnvironment d s) (sym written.sets) shown.meets;
+        meets = levels.meets d (levels_of d c) (levels_of d written.certificate) back shown.meets;
         levels_are = levels_are ∙ sym (length-map c.levels (level_sets d c.order c.nodes))
-            ∙ (λ i. length (sym written.sets i))
+            ∙ zip_length (LevelAgrees d) (levels_of d c) (levels_of d written.certificate) back
             ∙ length-map written.certificate.levels
             (level_sets d written.certificate.order written.certificate.nodes);
         many_are = fairs_are;
-        chain_is = chain_is ∙ (λ i. longest_chain (sym written.sets i));
+        chain_is = chain_is ∙ chains_agree d (levels_of d c) (levels_of d written.certificate) back;
         lost = shown.lost;
         within = within;
         honest = traced.honest;
-        unions = subst (λ (s : List Level). AreLevelUnions d (predicates_at (pool d) (numbers_of trace)) s)
-            (sym written.sets) traced.unions;
+        unions = level_unions d (predicates_at (pool d) (numbers_of trace)) (levels_of d c)
+            (levels_of d written.certificate) back traced.unions;
       }
     where
+      back : LevelsAgree d (levels_of d c) (levels_of d written.certificate)
+      back = levels.flipped d (levels_of d written.certificate) (levels_of d c) written.sets
+
       within : steps levels fairs chain
       within =
           subst (λ (k : ℕ). steps levels fairs k) (sym chain_is)

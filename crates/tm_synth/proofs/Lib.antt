@@ -1,3 +1,4 @@
+mod Agreed
 mod Calling
 mod Certificates
 mod Files

@@ -27,7 +27,7 @@ use tm_cert::{Cert, DriverCert, write_shaped};
 use tm_cir::Blocks;
 use tm_cprint::print;
 use tm_game::Game;
-use tm_judge::{judge_driver, ranks_of};
+use tm_judge::{judge_driver, ranks_of, sound_designs_of_texts_are_regular};
 use tm_refine::Trace;
 use tm_solve::Iterates;
 use tm_strat::{Driven, driver};
@@ -98,12 +98,17 @@ struct CertText {
 }
 
 // The text of a certificate in the weight order.
-fn write_cert(alloc: Global, cert: &DriverCert, weight: &[u32]) -> Result<CertText, AllocError>
-    requires { (d : DesignTree) × (bs : List BlockTree) × CanJudgeDriver d bs cert.now × IsWeightOrder d weight.now }
-    ensures { (d : DesignTree) (bs : List BlockTree) → CanJudgeDriver d bs cert.now → IsWeightOrder d weight.now
-        → IfOk result (λ text. IsWrittenDriver d cert.now text.bytes.items text.nodes) }
+fn write_cert(
+    alloc: Global,
+    design: &Design,
+    cert: &DriverCert,
+    weight: &[u32],
+) -> Result<CertText, AllocError>
+    requires weight { IsWeightOrder (design_tree design.now) weight.now }
+    requires can { (bs : List BlockTree) × CanJudgeDriver (design_tree design.now) bs cert.now }
+    ensures { IfOk result (λ text. IsWrittenDriver (design_tree design.now) cert.now text.bytes.items text.nodes) }
 {
-    let moved = match driver_in_order(alloc, cert, weight) {
+    let moved = match driver_in_order(alloc, design, cert, weight) {
         Ok(moved) => moved,
         Err(error) => return Err(error),
     };
@@ -138,12 +143,13 @@ fn texts_of(
         → TracesDriver (design_tree design.now) trace (driver_sets (design_tree design.now) made.now.cert)
         → IsDriverFound (design_tree design.now) t.driver.items t.cert.bytes.items t.ranks.items t.cert.nodes trace) }
 {
+    sound_designs_of_texts_are_regular();
     let ranks = match ranks_of(alloc, &made.cert) {
         Ok(ranks) => ranks,
         Err(error) => return Err(error),
     };
     let driver = print(alloc, design, &made.blocks)?;
-    let cert = write_cert(alloc, &made.cert, weight)?;
+    let cert = write_cert(alloc, design, &made.cert, weight)?;
     Ok(Texts {
         driver,
         cert,

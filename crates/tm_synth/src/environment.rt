@@ -5,7 +5,6 @@ ghost use Rattle.tm_sem.specs.Certificates.{MeetsEnvironment};
 ghost use Rattle.tm_solve.specs.Iterates as solution;
 ghost use Rattle.tm_solve.specs.Iterates.{KnowsAll};
 ghost use Rattle.tm_solve_exact.specs.Exact.{IsExactOf, exact_ids};
-ghost use Rattle.tm_syntax.specs.Design.{DesignTree};
 ghost use Rattle.tm_syntax.specs.Design.View.{design_tree};
 ghost use Rattle.tm_syntax.specs.Faults.{IsOfText, IsSound};
 ghost use Rattle.tm_synth.specs.Found.{IsFound};
@@ -27,12 +26,17 @@ use tm_syntax::design::Design;
 use tm_verdict::Verdict;
 
 // The text of a certificate in the weight order.
-fn write_cert(alloc: Global, cert: &EnvCert, weight: &[u32]) -> Result<Vec<u8>, AllocError>
-    requires { (d : DesignTree) × CanJudgeEnvironment d cert.now × IsWeightOrder d weight.now }
-    ensures { (d : DesignTree) → CanJudgeEnvironment d cert.now → IsWeightOrder d weight.now
-        → IfOk result (λ text. IsWrittenLoss d cert.now text.items) }
+fn write_cert(
+    alloc: Global,
+    design: &Design,
+    cert: &EnvCert,
+    weight: &[u32],
+) -> Result<Vec<u8>, AllocError>
+    requires weight { IsWeightOrder (design_tree design.now) weight.now }
+    requires can { CanJudgeEnvironment (design_tree design.now) cert.now }
+    ensures { IfOk result (λ text. IsWrittenLoss (design_tree design.now) cert.now text.items) }
 {
-    let moved = match environment_in_order(alloc, cert, weight) {
+    let moved = match environment_in_order(alloc, design, cert, weight) {
         Ok(moved) => Cert::Environment(moved),
         Err(error) => return Err(error),
     };
@@ -55,7 +59,7 @@ fn judged(
     ensures written { IfOk result (λ text. IsWrittenLoss (design_tree design.now) cert.now text.items) }
 {
     match judge_environment(alloc, design, cert)? {
-        Verdict::Accepted => write_cert(alloc, cert, weight),
+        Verdict::Accepted => write_cert(alloc, design, cert, weight),
         Verdict::Refused { .. } => unreachable!(),
     }
 }

@@ -8,6 +8,3 @@ unreachable-requires c =
     let d = design_tree c.args.design.now in
     never_refused d (levels_of d c.args.cert.now) _ _ _ _ c.requires.meets c.in_ok-judge_environment.ensures.only
     c.in-Refused.is
-
-pub returns-clause-written : goal.returns-clause-written
-returns-clause-written c = c.write_cert.ensures (design_tree c.args.design.now) c.requires.can c.requires.weight
