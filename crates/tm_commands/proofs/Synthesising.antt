@@ -149,11 +149,6 @@ writes_none name files = record {
   same_others = λ n other. refl;
 }
 
--- the same with a name that is written otherwise
-pub writes_so : {name same : List ℕ} {old new : FilesData} → same ≡ name → OnlyWrites same old new →
-    OnlyWrites name old new
-writes_so {old = old} {new = new} is wrote = subst (λ (n : List ℕ). OnlyWrites n old new) is wrote
-
 -- one of two files was written
 touches_one : (a b name : List ℕ) (old new : FilesData) → (name ≡ a) ⊎ (name ≡ b) → OnlyWrites name old new →
     OnlyTouches [] (a ∷ b ∷ []) old new
