@@ -1,8 +1,8 @@
 //! Prints the blocks of a driver as C text.
 #![tactic(auto)]
 
-mod expression;
-mod piece;
+pub mod expression;
+pub mod piece;
 mod printer;
 
-pub use printer::print;
+pub use printer::{print, push_arguments};

@@ -116,8 +116,9 @@ fn push_call(
     Ok(())
 }
 
+/// Puts the arguments of a call behind the text, with commas between them.
 #[tactic(auto, using(crate::proofs::Behind::append_assoc))]
-fn push_arguments(text: &mut Vec<u8>, design: &Design, args: &[Num64]) -> Result<(), AllocError>
+pub fn push_arguments(text: &mut Vec<u8>, design: &Design, args: &[Num64]) -> Result<(), AllocError>
     ensures { OnOk result (text.new.items ≡ text.old.items
         ++ arguments_text (design_tree design.now) (map num_tree args.now)) }
 {

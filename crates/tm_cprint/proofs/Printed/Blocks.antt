@@ -45,7 +45,7 @@ more_prints d counted (x ∷ xs) fits rest us are breaks =
     (num_prints d counted x (first_of_all (FitsNumIn d) x xs fits) _ _ behind (more_breaks d xs rest breaks)))
     refl)
 
-arguments_print : (d : DesignTree) → IsCounted d → (xs : List NumTree) → All (FitsNumIn d) xs →
+pub arguments_print : (d : DesignTree) → IsCounted d → (xs : List NumTree) → All (FitsNumIn d) xs →
     Prints d (arguments_text d xs) (argument_tokens xs)
 arguments_print d counted [] fits rest us are breaks = are
 arguments_print d counted (x ∷ xs) fits rest us are breaks =
@@ -54,7 +54,7 @@ arguments_print d counted (x ∷ xs) fits rest us are breaks =
     same_as (append_assoc (num_text d x) (more_text d xs) rest) (append_assoc (num_tokens x) (more_tokens xs) us)
     (num_prints d counted x (first_of_all (FitsNumIn d) x xs fits) _ _ behind (more_breaks d xs rest breaks))
 
-arguments_quiet : (d : DesignTree) (xs : List NumTree) (rest : List ℕ) → All (FitsNumIn d) xs →
+pub arguments_quiet : (d : DesignTree) (xs : List NumTree) (rest : List ℕ) → All (FitsNumIn d) xs →
     Quiet (arguments_text d xs ++ 41 ∷ rest)
 arguments_quiet d [] rest fits = refl
 arguments_quiet d (x ∷ xs) rest fits =
@@ -97,7 +97,7 @@ call_tokens : (t : Token) (xs us : List Token) →
 call_tokens t xs us = simp append_assoc
 
 -- a task whose parameters are counted is one of the design
-task_within : (d : DesignTree) (k n : ℕ) → parameter_count d k ≡ Some n → k < length d.tasks
+pub task_within : (d : DesignTree) (k n : ℕ) → parameter_count d k ≡ Some n → k < length d.tasks
 task_within d k n counts = of (slice_get_cases d.tasks k).1
   where
     of : ((x : Item) × (k < length d.tasks) × (slice_get d.tasks k ≡ Some x) × (get_or d.tasks k x ≡ x))

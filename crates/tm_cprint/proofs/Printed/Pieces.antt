@@ -61,7 +61,7 @@ short (comparing GreaterEqual) b rest after quiet whole = absurd (grown 61 b res
 short (joining truths.And) b rest after quiet whole = absurd (grown 38 b rest after 38 refl whole quiet)
 short (joining truths.Or) b rest after quiet whole = absurd (grown 124 b rest after 124 refl whole quiet)
 
-two_bytes : (s : Sign) → length (sign_text s) ≤ 2
+pub two_bytes : (s : Sign) → length (sign_text s) ≤ 2
 two_bytes open_parenthesis = omega arith
 two_bytes close_parenthesis = omega arith
 two_bytes open_brace = omega arith
@@ -89,7 +89,7 @@ two_bytes (joining truths.And) = omega arith
 two_bytes (joining truths.Or) = omega arith
 
 -- in front of a quiet text each sign is the longest
-longest : (s : Sign) (rest : List ℕ) → Quiet rest → IsLongestSign s rest
+pub longest : (s : Sign) (rest : List ℕ) → Quiet rest → IsLongestSign s rest
 longest open_parenthesis rest quiet longer after whole = short longer 40 rest after quiet whole
 longest close_parenthesis rest quiet longer after whole = short longer 41 rest after quiet whole
 longest open_brace rest quiet longer after whole = short longer 123 rest after quiet whole

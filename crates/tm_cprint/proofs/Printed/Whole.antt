@@ -50,11 +50,11 @@ is_driver d counted bs few fits text is =
     subst (λ (t : List ℕ). IsDriverText d t bs) (sym is) printed
 
 -- a list in memory is not longer than a number of 64 bits tells
-short : {T Z : Type 0} (v : Vec T Z) → length v.items < 2 ^ 64
+pub short : {T Z : Type 0} (v : Vec T Z) → length v.items < 2 ^ 64
 short v = omega (arith, v.ok, v.small)
 
 -- a design in memory has not more items than a number of 64 bits tells
-counted : (d : Design) → IsCounted (design_tree d)
+pub counted : (d : Design) → IsCounted (design_tree d)
 counted d = record { vars = short d.vars; processes = short d.processes; tasks = short d.tasks }
 
 few_blocks : (blocks : Blocks) → length (trees_of blocks) < 2 ^ 64

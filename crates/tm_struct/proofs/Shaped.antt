@@ -1,0 +1,51 @@
+-- The driver that is made of blocks is their shape.
+use Rattle.std.proofs.Common.{◌≡◌, ℕ, ◌+◌, ◌*◌, ◌<◌, ◌≤◌, ◌↔◌, ◌⊎◌, inl, inr, true, false, Option, None, Some, List, length, slice_get, refl, sym, ap, subst, ◌∙◌, true≢false, arith}
+use Rattle.std.specs.Option.{option_map_or}
+use Rattle.std.proofs.lemmas.Bool.{cases_lt}
+use Rattle.std.proofs.lemmas.Option.{slice_get_past}
+use Rattle.tm_syntax.specs.Design.{DesignTree}
+use Rattle.tm_cir.specs.Tree.{TruthTree, BlockTree, test}
+use Rattle.tm_cir.specs.Fit.{FitBlocks}
+use Rattle.tm_struct.specs.declared.reaching.Reach.{Reach}
+use Rattle.tm_struct.specs.Tree.{ActionTree, ProgramTree}
+use Rattle.tm_struct.specs.Shape.{IsFunction, IsWritten, IsShape}
+use Rattle.tm_struct.specs.Inner.Reaching.{LeadOn, reach_at, becomes_function, AreReaches}
+use Rattle.tm_struct.specs.Inner.Naming.{is_function, AreNamedFrom, AreNamed, AreFunctions}
+use Rattle.tm_struct.proofs.Reached.{chosen}
+
+pub lead_on : (d : DesignTree) (bs : List BlockTree) → FitBlocks d bs → LeadOn bs
+lead_on d bs fit = record {
+  some = fit.some;
+  later = λ at i j t is.
+      let fits = fit.each at (test t i j) is in (fits.1.0, fits.1.1, fits.2.0, fits.2.1);
+}
+
+pub named_so : (bs : List BlockTree) (rs : List Reach) (order : List ℕ) (numbers : List (Option ℕ)) →
+    AreNamed bs rs order numbers → (at : ℕ) → IsFunction order at ↔ (is_function bs rs at ≡ true)
+named_so bs rs order numbers named at =
+    (λ function. (named.are function.0 at function.1).1, λ so. named.all at (omega arith) so)
+
+-- the functions are blocks that there are
+pub named_within : (bs : List BlockTree) (rs : List Reach) (order : List ℕ) (numbers : List (Option ℕ)) →
+    AreNamed bs rs order numbers → (k at : ℕ) → slice_get order k ≡ Some at → at < length bs
+named_within bs rs order numbers named k at is = of (cases_lt at (length bs))
+  where
+    of : (at < length bs) ⊎ (length bs ≤ at) → at < length bs
+    of (inl within) = within
+    of (inr past) =
+        absurd (true≢false
+        (sym (named.are k at is).1
+        ∙ ap (λ o. option_map_or (λ b. becomes_function b (reach_at rs at)) o false) (slice_get_past bs at past)))
+
+pub shape_made : (bs : List BlockTree) → LeadOn bs → (rs : List Reach) → AreReaches bs rs → (order : List ℕ)
+    (numbers : List (Option ℕ)) → AreNamed bs rs order numbers → (functions : List ActionTree) (main : ActionTree) →
+    AreFunctions bs order functions → IsWritten bs order 0 main →
+    IsShape bs (record { functions = functions; main = main })
+shape_made bs on rs table order numbers named functions main written first = record {
+  order = order;
+  falls = named.falls;
+  chosen = chosen bs on rs table order (named_so bs rs order numbers named);
+  many = written.many;
+  functions = λ k at a is also. written.each k at a is also;
+  main = first;
+}

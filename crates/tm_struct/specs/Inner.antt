@@ -1,0 +1,5 @@
+-- What contracts of private functions alone cite.
+pub mod Answering
+pub mod Laying
+pub mod Naming
+pub mod Reaching
