@@ -41,7 +41,8 @@ pub fn answer(alloc: Global, blocks: &Blocks, state: &State, goal: u32) -> Move
     }
 }
 
-fn arguments(alloc: Global, nums: &[Num64], state: &State, goal: u32) -> Args
+/// The values of a call's arguments.
+pub fn arguments(alloc: Global, nums: &[Num64], state: &State, goal: u32) -> Args
     requires few { length nums.now ≤ MOST_ARGUMENTS }
     requires fits { All (λ n. FitsNum (length state.now.values) (length state.now.places) (num_tree n)) nums.now }
     ensures { result ≡ map (λ n. num_value state.now goal (num_tree n)) nums.now }

@@ -15,10 +15,10 @@ ghost use Rattle.tm_cir.specs.Text.{IsDriverText};
 mod answering;
 pub mod block;
 mod blocks;
-mod evaluation;
+pub mod evaluation;
 mod fit;
 
-pub use answering::answer;
+pub use answering::{answer, arguments};
 pub use block::{Block, Num64, Truth};
 pub use blocks::Blocks;
 pub use fit::parameter_count;

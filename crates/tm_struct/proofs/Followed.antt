@@ -74,6 +74,13 @@ module _ (bs : List BlockTree) (on : LeadOn bs) (rs : List Reach) (at : ℕ) (wi
   leads_one f s (leave p) there same = absurd (cc)
   leads_one f s idle there same = absurd (cc)
 
+  -- both branches lead to blocks of the table
+  pub both_within : (f s : ℕ) → Some (f, s) ≡ branches_of b → (f < length rs) × (s < length rs)
+  both_within f s leads =
+      let found = leads_one f s b is (sym leads) in
+      let later = on.later at f s found.0 found.1 in
+      (omega (arith, later.1, table.long), omega (arith, later.3, table.long))
+
   -- the block is a test
   pub followed_test : (f s : ℕ) (after : List Reach) → Some (f, s) ≡ branches_of b → f < 2 ^ 32 → s < 2 ^ 32 →
       after ≡ both_marked (ifs_inside (reach_at rs at)) rs f s → IsTable bs after (2 * (at + 1))

@@ -113,3 +113,11 @@ fits_body p s one at within = of (slice_get p.functions at) refl
             past (inl found) = let wrong : None ≡ Some found.0 = sym is ∙ found.2 in absurd (cc)
             past (inr end) = omega (arith, within, end.0)
     of (Some a) is = fits_there one.design s at a one.state (one.program.functions at a is)
+
+-- a function that is named leads to the same move
+pub goes_there : (p : ProgramTree) (s : StateData) (g k : ℕ) (m : Move) → k < length p.functions →
+    LeadsTo p.functions s g (body_of p k) m → LeadsTo p.functions s g (go k) m
+goes_there p s g k m within leads =
+    let is : slice_get p.functions k ≡ Some (get_or p.functions k idle) = slice_get-get_or p.functions k idle within in
+    goes_on is
+    (subst (λ (o : Option ActionTree). LeadsTo p.functions s g (option_map_or (λ a. a) o p.main) m) is leads)

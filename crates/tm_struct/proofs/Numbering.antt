@@ -161,3 +161,13 @@ small_function bs rs table at is = table.small at (λ never. of (slice_get bs at
         true≢false
         (sym is ∙ ap (λ o. option_map_or (λ x. becomes_function x (reach_at rs at)) o false) there
         ∙ ap (becomes_function b) never ∙ unreached b)
+
+-- a block that becomes a function is given the next number
+pub function_named : (bs : List BlockTree) (rs : List Reach) (at : ℕ) (order more : List ℕ)
+    (numbers : List (Option ℕ)) (n : ℕ) → AreReaches bs rs → AreNamedFrom bs rs (at + 1) order numbers →
+    at < length bs → is_function bs rs at ≡ true → n ≡ length order → more ≡ order ++ at ∷ [] →
+    AreNamedFrom bs rs at more (set numbers at (Some n))
+function_named bs rs at order more numbers n table before within is number put =
+    subst (λ (l : List ℕ). AreNamedFrom bs rs at l (set numbers at (Some n))) (sym put)
+    (subst (λ (k : ℕ). AreNamedFrom bs rs at (order ++ at ∷ []) (set numbers at (Some k))) (sym number)
+    (named_more bs rs at order numbers before is within (small_function bs rs table at is)))

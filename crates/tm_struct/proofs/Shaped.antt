@@ -4,13 +4,16 @@ use Rattle.std.specs.Option.{option_map_or}
 use Rattle.std.proofs.lemmas.Bool.{cases_lt}
 use Rattle.std.proofs.lemmas.Option.{slice_get_past}
 use Rattle.tm_syntax.specs.Design.{DesignTree}
+use Rattle.std.proofs.lemmas.List.{length-map}
+use Rattle.tm_cir.specs.declared.block.Block.{Block}
 use Rattle.tm_cir.specs.Tree.{TruthTree, BlockTree, test}
+use Rattle.tm_cir.specs.View.{block_tree, block_trees}
 use Rattle.tm_cir.specs.Fit.{FitBlocks}
 use Rattle.tm_struct.specs.declared.reaching.Reach.{Reach}
 use Rattle.tm_struct.specs.Tree.{ActionTree, ProgramTree}
 use Rattle.tm_struct.specs.Shape.{IsFunction, IsWritten, IsShape}
 use Rattle.tm_struct.specs.Inner.Reaching.{LeadOn, reach_at, becomes_function, AreReaches}
-use Rattle.tm_struct.specs.Inner.Naming.{is_function, AreNamedFrom, AreNamed, AreFunctions}
+use Rattle.tm_struct.specs.Inner.Naming.{is_function, AreNumbers, AreNamedFrom, AreNamed, AreFunctions}
 use Rattle.tm_struct.proofs.Reached.{chosen}
 
 pub lead_on : (d : DesignTree) (bs : List BlockTree) → FitBlocks d bs → LeadOn bs
@@ -49,3 +52,26 @@ shape_made bs on rs table order numbers named functions main written first = rec
   functions = λ k at a is also. written.each k at a is also;
   main = first;
 }
+
+-- of blocks in memory: the functions are blocks that there are
+pub listed_within : (list : List Block) (rs : List Reach) (order : List ℕ) (numbers : List (Option ℕ)) →
+    AreNamed (block_trees list) rs order numbers → (k at : ℕ) → slice_get order k ≡ Some at → at < length list
+listed_within list rs order numbers named k at is =
+    omega (arith, named_within (block_trees list) rs order numbers named k at is, length-map list block_tree)
+
+-- each has a place for its number
+pub listed_long : (list : List Block) (rs : List Reach) (order : List ℕ) (numbers : List (Option ℕ)) →
+    AreNamed (block_trees list) rs order numbers → length numbers ≡ length list
+listed_long list rs order numbers named = named.long ∙ length-map list block_tree
+
+-- and the shape of the blocks that were listed
+pub shape_listed : (bs : List BlockTree) (list : List Block) → block_trees list ≡ bs → LeadOn (block_trees list) →
+    (rs : List Reach) → AreReaches (block_trees list) rs → (order : List ℕ) (numbers : List (Option ℕ)) →
+    AreNamed (block_trees list) rs order numbers → (functions : List ActionTree) (main : ActionTree) →
+    AreFunctions (block_trees list) order functions →
+    ((order : List ℕ) → AreNumbers order numbers → IsWritten (block_trees list) order 0 main) →
+    IsShape bs (record { functions = functions; main = main })
+shape_listed bs list same on rs table order numbers named functions main written first =
+    subst (λ (l : List BlockTree). IsShape l (record { functions = functions; main = main })) same
+    (shape_made (block_trees list) on rs table order numbers named functions main written
+    (first order named.numbered))

@@ -1,21 +1,16 @@
 //! The answer of a structured driver.
-ghost use Rattle.std.specs.Prelude.{◌≡◌, ◌≤◌, ℕ, length, map, All};
+ghost use Rattle.std.specs.Prelude.{◌≡◌, ℕ};
 ghost use Rattle.tm_sem.specs.declared.state.Move.{Move};
-ghost use Rattle.tm_cir.specs.View.{num_tree};
-ghost use Rattle.tm_cir.specs.Meaning.{num_value};
-ghost use Rattle.tm_cir.specs.Fit.{FitsNum};
 ghost use Rattle.tm_struct.specs.View.{action_tree, program_tree};
 ghost use Rattle.tm_struct.specs.Fit.{AreOfOneDesign};
 ghost use Rattle.tm_struct.specs.Answer.{AnswersSo};
 ghost use Rattle.tm_struct.specs.Inner.Answering.{FitsAt, body_of, IsEndOf};
 
-use crate::evaluation::{is_so, value};
 use crate::program::{Structured, Tree};
-use smallvec::SmallVec;
 use std::alloc::Global;
-use tm_cir::Num64;
-use tm_cir::block::MOST_ARGUMENTS;
-use tm_sem::state::{Args, Move, State};
+use tm_cir::arguments;
+use tm_cir::evaluation::is_so;
+use tm_sem::state::{Move, State};
 
 /// The driver's move at a state, where `goal` is the number of the pending goal: the tests are followed from
 /// `driver_turn`, and through the functions that it names, to a call, a leave or nothing. It takes no memory.
@@ -60,16 +55,4 @@ fn end_of<'a>(tree: &'a Tree, state: &State, goal: u32) -> &'a Tree
         };
     }
     end
-}
-
-fn arguments(alloc: Global, nums: &[Num64], state: &State, goal: u32) -> Args
-    requires few { length nums.now ≤ MOST_ARGUMENTS }
-    requires fits { All (λ n. FitsNum (length state.now.values) (length state.now.places) (num_tree n)) nums.now }
-    ensures { result ≡ map (λ n. num_value state.now goal (num_tree n)) nums.now }
-{
-    let mut list = SmallVec::new(alloc);
-    for num in nums {
-        list.push_reserved(value(num, state, goal));
-    }
-    Args { list }
 }

@@ -3,7 +3,6 @@
 
 mod answering;
 mod copying;
-mod evaluation;
 mod laws;
 mod laying;
 mod naming;

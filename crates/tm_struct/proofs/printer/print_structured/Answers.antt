@@ -1,4 +1,4 @@
-use Rattle.std.proofs.Common.{◌≡◌}
+use Rattle.std.proofs.Common.{◌≡◌, ap}
 use Rattle.tm_syntax.specs.Design.View.{design_tree}
 use Rattle.tm_struct.specs.View.{action_tree, action_trees, program_tree}
 use Rattle.tm_struct.specs.Layout.{program_text}
@@ -10,7 +10,7 @@ laid_out : (c : goal.In_ok-push_body) →
 laid_out c =
     is_laid_out (design_tree c.args.design.now) (action_trees c.deref.result.now) _ (action_tree c.args.program.now.main)
     _ _ _ _ _ c.new-text.ensures.items c.in_ok-push.ensures c.in_ok-push_functions.ensures c.in_ok-push-2.ensures
-    c.in_ok-push_body.ensures ?
+    c.in_ok-push_body.ensures (ap action_trees c.deref.ensures.value)
 
 pub returns-clause-reads_so : goal.returns-clause-reads_so
 returns-clause-reads_so c = reads_so c.args.design.now c.args.program.now c.push_body.new.text.items c.requires (laid_out c)
