@@ -314,7 +314,7 @@ fn are_digits(bytes: &[u8]) -> bool
 }
 
 /// The first byte and the others.
-fn parted(bytes: &[u8]) -> Option<(u8, &[u8])>
+pub fn parted(bytes: &[u8]) -> Option<(u8, &[u8])>
     ensures { MatchOption result (bytes.now ≡ []) (λ r. bytes.now ≡ r.0 ∷ r.1.now) }
 {
     let (first, others) = bytes.split_first()?;

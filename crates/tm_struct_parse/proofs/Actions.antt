@@ -70,7 +70,7 @@ truth_only t tokens rest is = record {
   only = λ z other after first p. same_truth z t after other (sym p.are);
 }
 
-block_text : (a : ActionTree) (rest : List Token) →
+pub block_text : (a : ActionTree) (rest : List Token) →
     braced (action_tokens a) ++ rest ≡ begin_mark ∷ (action_tokens a ++ (end_mark ∷ rest))
 block_text a rest = ap (λ (l : List Token). begin_mark ∷ l) (append_assoc (action_tokens a) (end_mark ∷ []) rest)
 
@@ -267,7 +267,7 @@ test_lists t x y rest =
     ap (λ (l : List Token). word if_word ∷ sign open_parenthesis ∷ l)
     (regroup t (sign close_parenthesis ∷ []) x (word else_word ∷ y) rest)
 
-choose_text : (t : TruthTree) (a b : ActionTree) (rest : List Token) →
+pub choose_text : (t : TruthTree) (a b : ActionTree) (rest : List Token) →
     action_tokens (choose t a b) ++ rest
     ≡ word if_word ∷ open_mark
     ∷ (truth_tokens t

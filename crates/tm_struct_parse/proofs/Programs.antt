@@ -281,7 +281,7 @@ function_read f a b c rest is name body =
 abbrev next_form : List WrittenFunction → WrittenProgram → List Token → List Token → Type 0
 next_form fs = Part IsFunction (λ f. IsProgram (fs ++ f ∷ []))
 
-functions_text : (f : WrittenFunction) (fs : List WrittenFunction) (rest : List Token) →
+pub functions_text : (f : WrittenFunction) (fs : List WrittenFunction) (rest : List Token) →
     functions_tokens (f ∷ fs) ++ rest
     ≡ static_word ∷ word void ∷ function f.number ∷ (body_tokens f.action ++ (functions_tokens fs ++ rest))
 functions_text f fs rest =

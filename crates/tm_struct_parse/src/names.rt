@@ -10,7 +10,7 @@ ghost use Rattle.tm_cparse.specs.View.{token_tree, tokens_of};
 ghost use Rattle.tm_cparse.specs.Faults.{names_item};
 ghost use Rattle.tm_cparse.specs.Inner.Names.{TokenList, AreKnown, HaveArguments};
 ghost use Rattle.tm_struct_parse.specs.Written.{WrittenProgram, AreWritten};
-ghost use Rattle.tm_struct_parse.specs.Inner.Names.{before_behind, place_behind, place_after, first_place, IsRight, AreRight, IsFaultAt, IsFirstFault};
+ghost use Rattle.tm_struct_parse.specs.Inner.Names.{functions_behind, turn_behind, before_behind, place_behind, callable_at, place_after, first_place, IsRight, AreRight, IsFaultAt, IsFirstFault};
 
 use crate::bad::BadStructured;
 use tm_cparse::names::{argument_count, is_process, names_item, takes};
@@ -28,19 +28,18 @@ enum Before {
     Other,
 }
 
-/// Where a token of a driver stands: behind the names of so many functions, where so many may be called, and behind
-/// what.
+/// Where a token of a driver stands: behind the names of so many functions, whether in `driver_turn`, and behind what.
 #[derive(Clone, Copy, Debug)]
 struct TokenPlace {
     functions: usize,
-    callable: usize,
+    in_turn: bool,
     before: Before,
 }
 
 /// The place of a driver's first token.
 const FIRST_PLACE: TokenPlace = TokenPlace {
     functions: 0,
-    callable: 0,
+    in_turn: false,
     before: Before::Other,
 };
 
@@ -69,6 +68,7 @@ fn function_count(spots: &[Spot]) -> usize
 }
 
 /// The first token at fault of a driver with so many functions.
+#[tactic(auto, using(crate::proofs::NameSteps::first_fault_steps))]
 fn fault_within(design: &Design, count: usize, spots: &[Spot]) -> Option<BadStructured>
     requires { HaveArguments (tokens_of spots.now) }
     ensures { MatchOption result
@@ -92,23 +92,29 @@ fn place_behind(place: TokenPlace, token: Token) -> TokenPlace
     requires { place.functions + 1 < 2 ^ 64 }
     ensures { result ≡ place_behind place (token_tree token) }
 {
-    let before = before_behind(place.before, token);
+    TokenPlace {
+        functions: functions_behind(place, token),
+        in_turn: turn_behind(place.in_turn, token),
+        before: before_behind(place.before, token),
+    }
+}
+
+fn functions_behind(place: TokenPlace, token: Token) -> usize
+    requires { place.functions + 1 < 2 ^ 64 }
+    ensures { result ≡ functions_behind place (token_tree token) }
+{
     match token {
-        Token::Label(_) if place.before == Before::Void => TokenPlace {
-            functions: place.functions + 1,
-            callable: place.functions,
-            before,
-        },
-        Token::Word(Word::DriverTurn) => TokenPlace {
-            functions: place.functions,
-            callable: place.functions,
-            before,
-        },
-        _ => TokenPlace {
-            functions: place.functions,
-            callable: place.callable,
-            before,
-        },
+        Token::Label(_) if place.before == Before::Void => place.functions + 1,
+        _ => place.functions,
+    }
+}
+
+fn turn_behind(in_turn: bool, token: Token) -> bool
+    ensures { result ≡ turn_behind in_turn (token_tree token) }
+{
+    match token {
+        Token::Word(Word::DriverTurn) => true,
+        _ => in_turn,
     }
 }
 
@@ -130,7 +136,14 @@ fn fault_at(
     place: TokenPlace,
     spot: Spot,
     others: &[Spot],
-) -> Option<BadStructured> {
+) -> Option<BadStructured>
+    requires { HaveArguments (token_tree spot.token ∷ tokens_of others.now) }
+    ensures { MatchOption result
+        ((names_item (token_tree spot.token) ≡ true → spot.known ≡ true)
+        × IsRight (design_tree design.now) place (token_tree spot.token) (tokens_of others.now))
+        (IsFaultAt (design_tree design.now) count place (token_tree spot.token) spot.known spot.line
+        (tokens_of others.now)) }
+{
     let line = spot.line as u64;
     if names_item(spot.token) && !spot.known {
         return Some(BadStructured::UnknownName(line));
@@ -149,7 +162,11 @@ fn function_fault(
     place: TokenPlace,
     number: usize,
     line: u64,
-) -> Option<BadStructured> {
+) -> Option<BadStructured>
+    ensures { (d : DesignTree) (known : Bool) (others : TokenList)
+        → MatchOption result (IsRight d place (label number) others)
+        (IsFaultAt d count place (label number) known line others) }
+{
     if place.before == Before::Void {
         if number == place.functions {
             None
@@ -158,10 +175,21 @@ fn function_fault(
         }
     } else if number >= count {
         Some(BadStructured::Text(line))
-    } else if number >= place.callable {
+    } else if number >= callable_at(place) {
         Some(BadStructured::ForwardCall(line))
     } else {
         None
+    }
+}
+
+/// How many functions may be named at a place.
+fn callable_at(place: TokenPlace) -> usize
+    ensures { result ≡ callable_at place }
+{
+    if place.in_turn {
+        place.functions
+    } else {
+        place.functions.saturating_sub(1)
     }
 }
 
@@ -171,7 +199,11 @@ fn constant_fault(
     place: TokenPlace,
     number: u64,
     line: u64,
-) -> Option<BadStructured> {
+) -> Option<BadStructured>
+    ensures { (count : ℕ) (known : Bool) (others : TokenList)
+        → MatchOption result (IsRight (design_tree design.now) place (constant number) others)
+        (IsFaultAt (design_tree design.now) count place (constant number) known line others) }
+{
     if place.before == Before::Process && !is_process(design, number) {
         Some(BadStructured::UnknownName(line))
     } else {
@@ -182,11 +214,17 @@ fn constant_fault(
 /// The fault of a call, whose task stands before these tokens, where its number of arguments is wrong.
 fn arguments_fault(
     design: &Design,
-    task: u32,
+    number: u32,
     others: &[Spot],
     line: u64,
-) -> Option<BadStructured> {
-    if takes(design, task, argument_count(others)) {
+) -> Option<BadStructured>
+    requires { (args : List NumTree) × (rest : TokenList) ×
+        (tokens_of others.now ≡ parenthesized (argument_tokens args) ++ sign semicolon ∷ rest) }
+    ensures { (count : ℕ) (place : TokenPlace)
+        → MatchOption result (IsRight (design_tree design.now) place (task number) (tokens_of others.now))
+        (IsFaultAt (design_tree design.now) count place (task number) true line (tokens_of others.now)) }
+{
+    if takes(design, number, argument_count(others)) {
         None
     } else {
         Some(BadStructured::Text(line))

@@ -1,16 +1,17 @@
 //! Cuts a structured text into its tokens. They are those of the C text with jumps, but that this text has the word
 //! `static` in the place of `goto`, and the names of functions in the place of labels: so readers of expressions serve
 //! both.
-ghost use Rattle.std.specs.Prelude.{◌≡◌, ◌+◌, ◌^◌, ◌<◌, ℕ, length, IfOk, MatchOption};
+ghost use Rattle.std.specs.Prelude.{◌≡◌, ◌+◌, ◌^◌, ◌<◌, ◌∷◌, ℕ, length, IfOk, MatchOption};
 ghost use Rattle.tm_syntax.specs.Design.{DesignTree};
 ghost use Rattle.tm_syntax.specs.Design.View.{design_tree};
 ghost use Rattle.tm_cparse.specs.View.{token_tree};
-ghost use Rattle.tm_cparse.specs.Cut.{BeginsNoBlank};
+ghost use Rattle.tm_cparse.specs.Cut.{IsNumber, BeginsNoBlank};
+ghost use Rattle.tm_struct_parse.specs.Cut.{IsFunctionName};
 ghost use Rattle.tm_struct_parse.specs.Inner.Scanning.{is_common, IsOwnToken, IsNoOwnToken, BeginsNoOwnToken, IsNoSpot, IsNextSpot, IsScan};
 
 use std::alloc::{AllocError, Global};
 use tm_cparse::scan::{Scan, behind_blanks, open_behind, run_len};
-use tm_cparse::shape::{is_exact, is_number, item_number};
+use tm_cparse::shape::{is_exact, is_number, item_number, parted};
 use tm_cparse::spot::Spot;
 use tm_cparse::token::{Token, Word};
 use tm_syntax::design::Design;
@@ -51,7 +52,13 @@ fn next_spot(design: &Design, text: &[u8], open_count: u32, line: u64) -> Option
         (λ r. IsNextSpot (design_tree design.now) open_count line text.now r.0 r.1) }
 {
     match tm_cparse::scan::next_spot(design, text, open_count, line) {
-        Some((spot, len)) => is_common(spot.token).then_some((spot, len)),
+        Some((spot, len)) => {
+            if is_common(spot.token) {
+                Some((spot, len))
+            } else {
+                None
+            }
+        }
         None => own_spot(text, line),
     }
 }
@@ -73,13 +80,17 @@ fn own_spot(text: &[u8], line: u64) -> Option<(Spot, usize)>
         (λ r. (d : DesignTree) (open_count : ℕ) → IsNextSpot d open_count line text.now r.0 r.1) }
 {
     let len = run_len(text);
-    let (token, known) = own_token(&text[..len])?;
-    let spot = Spot {
-        token,
-        known,
-        line: line as u32,
-    };
-    Some((spot, len))
+    match own_token(&text[..len]) {
+        Some((token, known)) => {
+            let spot = Spot {
+                token,
+                known,
+                line: line as u32,
+            };
+            Some((spot, len))
+        }
+        None => None,
+    }
 }
 
 /// The word `static` or the name of a function that letters, digits and `_` are, and whether its number has 32 bits.
@@ -89,10 +100,30 @@ fn own_token(run: &[u8]) -> Option<(Token, bool)>
     if run == b"static".as_slice() {
         return Some((STATIC, true));
     }
-    let digits = run.strip_prefix(b"b")?;
-    if !is_number(digits) {
-        return None;
+    match function_digits(run) {
+        Some(digits) => Some(function_token(digits)),
+        None => None,
     }
+}
+
+/// The digits of a function's name, if the run is one.
+fn function_digits(run: &[u8]) -> Option<&[u8]>
+    ensures { MatchOption result ((k : ℕ) → ¬ IsFunctionName k run.now)
+        (λ digits. IsNumber digits.now × (run.now ≡ 98 ∷ digits.now)) }
+{
+    let (first, digits) = parted(run)?;
+    if first == b'b' && is_number(digits) {
+        Some(digits)
+    } else {
+        None
+    }
+}
+
+/// The name of a function, by its digits.
+fn function_token(digits: &[u8]) -> (Token, bool)
+    requires { IsNumber digits.now }
+    ensures { IsOwnToken (98 ∷ digits.now) (token_tree result.0) result.1 }
+{
     let number = item_number(digits);
-    Some((Token::Label(number), is_exact(digits, number)))
+    (Token::Label(number), is_exact(digits, number))
 }

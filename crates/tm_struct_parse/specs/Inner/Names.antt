@@ -1,5 +1,5 @@
 -- What each token of a structured driver names, by what stands before it and behind it.
-use Rattle.std.specs.Prelude.{◌≡◌, ◌≢◌, ℕ, ◌+◌, ◌^◌, ◌<◌, ◌≤◌, ◌⊎◌, Bool, true, false, List, [], ◌∷◌, ◌++◌, length}
+use Rattle.std.specs.Prelude.{◌≡◌, ◌≢◌, ℕ, ◌+◌, ◌-◌, ◌^◌, ◌<◌, ◌≤◌, ◌⊎◌, Bool, true, false, List, [], ◌∷◌, ◌++◌, length, if◌then◌else◌}
 use Rattle.tm_syntax.specs.Design.{DesignTree}
 use Rattle.tm_cir.specs.Tree.{NumTree}
 use Rattle.tm_cir.specs.Text.Token.{Token, word, label, task, constant, sign, Word, void, driver_turn, termite_leave, Sign, open_parenthesis}
@@ -40,22 +40,20 @@ abbrev pub functions_behind : TokenPlace → Token → ℕ
 functions_behind at (label k) = begun_behind at.functions at.before
 functions_behind at t = at.functions
 
--- the number of functions that may be named behind a name, by what stands before it
-abbrev pub open_behind : ℕ → ℕ → Before → ℕ
-open_behind functions callable Void = functions
-open_behind functions callable before = callable
+-- whether `driver_turn` has begun behind a token
+abbrev pub turn_behind : Bool → Token → Bool
+turn_behind in_turn (word driver_turn) = true
+turn_behind in_turn t = in_turn
 
--- the same, behind any token
-abbrev pub callable_behind : TokenPlace → Token → ℕ
-callable_behind at (label k) = open_behind at.functions at.callable at.before
-callable_behind at (word driver_turn) = at.functions
-callable_behind at t = at.callable
+-- the number of functions that may be named at a place: in a function those before it, in `driver_turn` all
+abbrev pub callable_at : TokenPlace → ℕ
+callable_at at = if at.in_turn then at.functions else at.functions - 1
 
--- the place behind a token, and behind several
+-- the place behind a token
 abbrev pub place_behind : TokenPlace → Token → TokenPlace
 place_behind at t = record {
   functions = functions_behind at t;
-  callable = callable_behind at t;
+  in_turn = turn_behind at.in_turn t;
   before = before_behind at.before t;
 }
 
@@ -66,12 +64,12 @@ place_after at (t ∷ ts) = place_after (place_behind at t) ts
 
 -- the place of a driver's first token
 abbrev pub first_place : TokenPlace
-first_place = record { functions = 0; callable = 0; before = Other }
+first_place = record { functions = 0; in_turn = false; before = Other }
 
 -- the name of a function that begins is the next one; any other names a function that may be named
 abbrev pub IsRightName : TokenPlace → Before → ℕ → Type 0
 IsRightName at Void k = k ≡ at.functions
-IsRightName at before k = k < at.callable
+IsRightName at before k = k < callable_at at
 
 -- the design has the process that leaves; its number has 32 bits
 abbrev pub IsRightConstant : DesignTree → Before → ℕ → Type 0
@@ -101,7 +99,7 @@ pub data IsFaultAt (d : DesignTree) (count : ℕ) (at : TokenPlace) (t : Token) 
   out_of_order : {k : ℕ} → at.before ≡ Void → t ≡ label k → k ≢ at.functions →
       IsFaultAt d count at t known line others (Text line)
   beyond : {k : ℕ} → at.before ≢ Void → t ≡ label k → count ≤ k → IsFaultAt d count at t known line others (Text line)
-  forward : {k : ℕ} → at.before ≢ Void → t ≡ label k → k < count → at.callable ≤ k →
+  forward : {k : ℕ} → at.before ≢ Void → t ≡ label k → k < count → callable_at at ≤ k →
       IsFaultAt d count at t known line others (ForwardCall line)
   wrong_count : {k : ℕ} (args : List NumTree) (rest : List Token) → t ≡ task k → known ≡ true →
       others ≡ parenthesized (argument_tokens args) ++ rest → ¬ TakesArguments d k (length args) →

@@ -1,0 +1,11 @@
+use Rattle.std.proofs.Common.{rules}
+use Rattle.tm_struct_parse.proofs.Popped.{drafted, part_begins, part_small, part_goes_on, part_ends}
+use Rattle.tm_struct_parse.proofs.draft.trees.Goals as goal
+
+pub loop-named-init : goal.loop-named-init
+loop-named-init c = part_begins c.args.drafts.items c.new-trees.result.items c.requires (search rules)
+
+pub tree-requires : goal.tree-requires
+tree-requires c =
+    part_small (drafted c.args.drafts.items) c.loop-named.drafts.items _ c.loop-named.trees.items
+    c.in-Some.named c.loop-named.invariant c.in-Some.ensures.items
