@@ -1,6 +1,6 @@
 -- Blocks that are laid for actions from the last one to the first, and turned over.
 use Rattle.std.proofs.Common.{◌≡◌, ℕ, zero, suc, ◌+◌, ◌-◌, ◌<◌, ◌≤◌, ◌⊎◌, inl, inr, true, false, Option, None, Some, option_map, List, [], ◌∷◌, ◌++◌, All, map, length, take, reverse, get_or, slice_get, refl, sym, ap, subst, ◌∙◌, append_assoc, length-append, arith}
-use Rattle.std.proofs.lemmas.List.{append-nil, length-map, length-take, length-reverse, get_or-reverse, take_more}
+use Rattle.std.proofs.lemmas.List.{append-nil, map-append, length-map, length-take, length-reverse, get_or-reverse, take_more, take_all}
 use Rattle.std.proofs.lemmas.Option.{slice_get_within, slice_get-get_or, slice_get-map, get_or_from_slice_get}
 use Rattle.tm_syntax.specs.Design.{DesignTree}
 use Rattle.tm_sem.specs.State.{StateData}
@@ -9,6 +9,8 @@ use Rattle.tm_cir.specs.Tree.{NumTree, TruthTree, BlockTree, test}
 use Rattle.tm_cir.specs.Tree as blocks
 use Rattle.tm_cir.specs.Fit.{FitsTruth, FitsBlock, FitBlocks}
 use Rattle.tm_cir.specs.Answer.{AnswersFrom, goes_first, goes_second, calls, leaves, idles, Answers}
+use Rattle.tm_struct.specs.declared.program.Tree.{Tree}
+use Rattle.tm_struct.specs.View.{action_tree, action_trees}
 use Rattle.tm_struct.specs.Tree.{ActionTree, choose, call, leave, go, idle, ProgramTree}
 use Rattle.tm_struct.specs.Fit.{FitsAction}
 use Rattle.tm_struct.specs.Inner.Laying.{NamesBelow, Does, Grows, IsPut, LeadBack, LeadsUpTo, FitsLaid, FitAllLaid, AreStarts, IsLaid, AreLaid, turned, turned_over}
@@ -141,6 +143,42 @@ test_laid before one two after starts i j number t a b second first put =
           (fit_then d two (test t i j) (first.fit d fits.1 (second.fit d fits.2 fit)) fits.0);
     }
 
+-- the same of actions as the code has them
+pub test_there : (before one two after : List BlockTree) (starts : List ℕ) (i j number : ℕ) (t copy : TruthTree)
+    (a b x y whole : ActionTree) → IsLaid before one starts j y → y ≡ b → IsLaid one two starts i x → x ≡ a → copy ≡ t →
+    IsPut two after number (test copy i j) → whole ≡ choose t a b → IsLaid before after starts number whole
+test_there before one two after starts i j number t copy a b x y whole second second_is first first_is same put is =
+    subst (IsLaid before after starts number) (sym is)
+    (test_laid before one two after starts i j number t a b (subst (IsLaid before one starts j) second_is second)
+    (subst (IsLaid one two starts i) first_is first)
+    (subst (λ (u : TruthTree). IsPut two after number (test u i j)) same put))
+
+pub call_there : (before after : List BlockTree) (starts : List ℕ) (number task : ℕ) (args copy : List NumTree)
+    (whole : ActionTree) → copy ≡ args → IsPut before after number (blocks.call task copy) → whole ≡ call task args →
+    IsLaid before after starts number whole
+call_there before after starts number task args copy whole same put is =
+    subst (IsLaid before after starts number) (sym is)
+    (call_laid before after starts number task args
+    (subst (λ (l : List NumTree). IsPut before after number (blocks.call task l)) same put))
+
+pub leave_there : (before after : List BlockTree) (starts : List ℕ) (number process : ℕ) (whole : ActionTree) →
+    IsPut before after number (blocks.leave process) → whole ≡ leave process → IsLaid before after starts number whole
+leave_there before after starts number process whole put is =
+    subst (IsLaid before after starts number) (sym is) (leave_laid before after starts number process put)
+
+pub idle_there : (before after : List BlockTree) (starts : List ℕ) (number : ℕ) (whole : ActionTree) →
+    IsPut before after number blocks.idle → whole ≡ idle → IsLaid before after starts number whole
+idle_there before after starts number whole put is =
+    subst (IsLaid before after starts number) (sym is) (idle_laid before after starts number put)
+
+pub go_there : (before : List BlockTree) (starts : List ℕ) (k : ℕ) (whole : ActionTree) →
+    All (λ s. s < length before) starts → NamesBelow (length starts) whole → whole ≡ go k →
+    IsLaid before before starts (get_or starts k 0) whole
+go_there before starts k whole within names is =
+    subst (IsLaid before before starts (get_or starts k 0)) (sym is)
+    (go_laid before starts k (get_or starts k 0) within
+    (slice_get-get_or starts k 0 (subst (NamesBelow (length starts)) is names)))
+
 -- starts stay within as blocks are put behind
 pub starts_within : (before after : List BlockTree) (starts : List ℕ) → Grows before after →
     All (λ s. s < length before) starts → All (λ s. s < length after) starts
@@ -218,6 +256,44 @@ one_laid before after starts functions start a laid next = record {
                       (laid.within k x (slice_get_within starts k y there)),
                 )
             of_part (inr last) = omega (arith, next.within, last.1)
+
+-- functions of a list in memory, up to one of them
+pub functions_begin : (before : List BlockTree) (starts : List ℕ) (fs : List Tree) → before ≡ [] → starts ≡ [] →
+    AreLaid before starts (action_trees (take 0 fs))
+functions_begin before starts fs none nothing =
+    subst (λ (l : List ℕ). AreLaid before l (action_trees (take 0 fs))) (sym nothing) (none_laid before none)
+
+taken_trees : (fs : List Tree) (i : ℕ) (f : Tree) → i < length fs → f ≡ get_or fs i f →
+    action_trees (take (i + 1) fs) ≡ action_trees (take i fs) ++ action_tree f ∷ []
+taken_trees fs i f within is =
+    ap action_trees
+    (take_more fs i f within ∙ ap (λ (y : Tree). take i fs ++ y ∷ []) (sym is))
+    ∙ map-append action_tree (take i fs) (f ∷ [])
+
+pub next_names : (bs : List BlockTree) (starts : List ℕ) (fs : List Tree) (i : ℕ) (f : Tree) →
+    ((k : ℕ) (a : ActionTree) → slice_get (action_trees fs) k ≡ Some a → NamesBelow k a) →
+    AreLaid bs starts (action_trees (take i fs)) → i < length fs → f ≡ get_or fs i f →
+    NamesBelow (length starts) (action_tree f)
+next_names bs starts fs i f names laid within is =
+    let there : slice_get (action_trees fs) i ≡ Some (action_tree f) =
+    slice_get-map action_tree fs i
+    ∙ ap (option_map action_tree) (slice_get-get_or fs i f within ∙ ap Some (sym is)) in
+    let long : length starts ≡ i =
+    omega (arith, laid.begins.many, length-map (take i fs) action_tree, length-take i fs, within) in
+    subst (λ (n : ℕ). NamesBelow n (action_tree f)) (sym long) (names i (action_tree f) there)
+
+pub functions_more : (before after : List BlockTree) (starts more : List ℕ) (fs : List Tree) (i start : ℕ) (f : Tree) →
+    AreLaid before starts (action_trees (take i fs)) → IsLaid before after starts start (action_tree f) →
+    more ≡ starts ++ start ∷ [] → i < length fs → f ≡ get_or fs i f → AreLaid after more (action_trees (take (i + 1) fs))
+functions_more before after starts more fs i start f laid next put within is =
+    subst (λ (l : List ℕ). AreLaid after l (action_trees (take (i + 1) fs))) (sym put)
+    (subst (AreLaid after (starts ++ start ∷ [])) (sym (taken_trees fs i f within is))
+    (one_laid before after starts (action_trees (take i fs)) start (action_tree f) laid next))
+
+pub functions_end : (bs : List BlockTree) (starts : List ℕ) (fs : List Tree) (i : ℕ) → length fs ≤ i →
+    AreLaid bs starts (action_trees (take i fs)) → AreLaid bs starts (action_trees fs)
+functions_end bs starts fs i all laid =
+    subst (λ (l : List Tree). AreLaid bs starts (action_trees l)) (take_all i fs all) laid
 
 -- what a list holds up to one of its numbers
 taken_there : {A : Type 0} (xs : List A) (n k : ℕ) (x : A) → slice_get xs k ≡ Some x → k < n →

@@ -11,6 +11,7 @@ pub mod Leading
 pub mod Numbering
 pub mod Printed
 pub mod Pushed
+pub mod Putting
 pub mod Reached
 pub mod Shaped
 pub mod Shapes

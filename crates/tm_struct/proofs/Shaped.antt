@@ -10,10 +10,10 @@ use Rattle.tm_cir.specs.Tree.{TruthTree, BlockTree, test}
 use Rattle.tm_cir.specs.View.{block_tree, block_trees}
 use Rattle.tm_cir.specs.Fit.{FitBlocks}
 use Rattle.tm_struct.specs.declared.reaching.Reach.{Reach}
-use Rattle.tm_struct.specs.Tree.{ActionTree, ProgramTree}
-use Rattle.tm_struct.specs.Shape.{IsFunction, IsWritten, IsShape}
+use Rattle.tm_struct.specs.Tree.{ActionTree, choose, ProgramTree}
+use Rattle.tm_struct.specs.Shape.{IsFunction, IsWritten, tests, IsNamed, IsShape}
 use Rattle.tm_struct.specs.Inner.Reaching.{LeadOn, reach_at, becomes_function, AreReaches}
-use Rattle.tm_struct.specs.Inner.Naming.{is_function, AreNumbers, AreNamedFrom, AreNamed, AreFunctions}
+use Rattle.tm_struct.specs.Inner.Naming.{is_function, number_at, AreNumbers, AreNamedFrom, AreNamed, AreFunctions}
 use Rattle.tm_struct.proofs.Reached.{chosen}
 
 pub lead_on : (d : DesignTree) (bs : List BlockTree) → FitBlocks d bs → LeadOn bs
@@ -75,3 +75,29 @@ shape_listed bs list same on rs table order numbers named functions main written
     subst (λ (l : List BlockTree). IsShape l (record { functions = functions; main = main })) same
     (shape_made (block_trees list) on rs table order numbers named functions main written
     (first order named.numbered))
+
+-- a block without a number is that of no function
+pub no_function : (order : List ℕ) (numbers : List (Option ℕ)) (at : ℕ) → AreNumbers order numbers →
+    number_at numbers at ≡ None → ¬ IsFunction order at
+no_function order numbers at are none function =
+    let wrong : None ≡ Some function.0 = sym none ∙ are.from at function.0 function.1 in cc
+
+-- the targets of a test lie behind it, and one turn less is left for each
+pub targets_later : (list : List Block) (at i j : ℕ) (t : TruthTree) → LeadOn (block_trees list) →
+    slice_get (block_trees list) at ≡ Some (test t i j) →
+    (at < i) × (i < length list) × (at < j) × (j < length list)
+targets_later list at i j t on is =
+    let later = on.later at i j t is in
+    let long = length-map list block_tree in (
+      later.0,
+      omega (arith, later.1, long),
+      later.2,
+      omega (arith, later.3, long),
+    )
+
+-- what is written for a test, by what is written for its branches
+pub test_written : (bs : List BlockTree) (order : List ℕ) (at i j : ℕ) (t copy : TruthTree) (a b whole : ActionTree) →
+    slice_get bs at ≡ Some (test t i j) → copy ≡ t → whole ≡ choose copy a b → IsNamed bs order i a →
+    IsNamed bs order j b → IsWritten bs order at whole
+test_written bs order at i j t copy a b whole is same made one other =
+    subst (IsWritten bs order at) (sym (made ∙ ap (λ (u : TruthTree). choose u a b) same)) (tests is one other)

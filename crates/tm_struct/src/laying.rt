@@ -24,8 +24,9 @@ use tm_syntax::design::Design;
 /// Blocks that answer as a structured driver does that is well made over this design.
 ///
 /// Each test, call, leave and `return` of the driver becomes a block of its own; where `driver_turn` is but a call of a
-/// function, those of later functions are left out. Blocks have numbers of 32 bits, so where these do not suffice, memory is wanting. Linear in the driver; it goes
-/// down by recursion as deep as `if` are open, 128 at most, and as parentheses nest.
+/// function, those of later functions are left out. Blocks have numbers of 32 bits, so where these do not suffice,
+/// memory is wanting. Linear in the driver; it goes down by recursion as deep as `if` are open, 128 at most, and as
+/// parentheses nest.
 pub fn blocks_of(alloc: Global, design: &Design, program: &Structured) -> Result<Blocks, AllocError>
     requires { FitsProgram (design_tree design.now) (program_tree program.now) }
     ensures fits { IfOk result (λ blocks. FitBlocks (design_tree design.now) (trees_of blocks)) }

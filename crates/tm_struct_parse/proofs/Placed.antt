@@ -123,22 +123,6 @@ module _ (d : DesignTree) (n : ℕ) (v : Bool) where
   right_action (go k) rest is behind = (is, (tt, (tt, (tt, behind))))
   right_action idle rest is behind = (tt, (tt, behind))
 
-  pub place_action : (a : ActionTree) (rest : List Token) →
-      place_after (outside n v) (action_tokens a ++ rest) ≡ place_after (outside n v) rest
-  place_action (choose t a b) rest =
-      ap (place_after (outside n v)) (choose_text t a b rest)
-      ∙ still_places n v (truth_tokens t) (behind_truth a b rest) (still_truth t)
-      ∙ ap (place_after (outside n v)) (block_text a (word else_word ∷ (braced (action_tokens b) ++ rest)))
-      ∙ place_action a (behind_first b rest)
-      ∙ ap (place_after (outside n v)) (block_text b rest)
-      ∙ place_action b (behind_second rest)
-  place_action (call k args) rest =
-      ap (place_after (outside n v)) (call_is k args rest)
-      ∙ still_places n v (argument_tokens args) (close_mark ∷ stop_mark ∷ rest) (still_arguments args)
-  place_action (leave p) rest = refl
-  place_action (go k) rest = refl
-  place_action idle rest = refl
-
   -- a function behind its name
   pub body_right : (a : ActionTree) (rest : List Token) → AreRight d (outside n v) (body_tokens a ++ rest) →
       IsRightAction d (callable_at (outside n v)) a × AreRight d (outside n v) rest
@@ -158,7 +142,25 @@ module _ (d : DesignTree) (n : ℕ) (v : Bool) where
     ),
   )
 
-  pub place_body : (a : ActionTree) (rest : List Token) →
+-- an action leaves the place as it is, and so does a function behind its name
+module _ (n : ℕ) (v : Bool) where
+  place_action : (a : ActionTree) (rest : List Token) →
+      place_after (outside n v) (action_tokens a ++ rest) ≡ place_after (outside n v) rest
+  place_action (choose t a b) rest =
+      ap (place_after (outside n v)) (choose_text t a b rest)
+      ∙ still_places n v (truth_tokens t) (behind_truth a b rest) (still_truth t)
+      ∙ ap (place_after (outside n v)) (block_text a (word else_word ∷ (braced (action_tokens b) ++ rest)))
+      ∙ place_action a (behind_first b rest)
+      ∙ ap (place_after (outside n v)) (block_text b rest)
+      ∙ place_action b (behind_second rest)
+  place_action (call k args) rest =
+      ap (place_after (outside n v)) (call_is k args rest)
+      ∙ still_places n v (argument_tokens args) (close_mark ∷ stop_mark ∷ rest) (still_arguments args)
+  place_action (leave p) rest = refl
+  place_action (go k) rest = refl
+  place_action idle rest = refl
+
+  place_body : (a : ActionTree) (rest : List Token) →
       place_after (outside n v) (body_tokens a ++ rest) ≡ place_after (outside n v) rest
   place_body a rest =
       ap (place_after (outside n v)) (block_text a rest) ∙ place_action a (behind_second rest)
@@ -239,7 +241,7 @@ place_functions n [] rest =
 place_functions n (f ∷ fs) rest =
     let same : n + 1 + length fs ≡ n + length (f ∷ fs) = omega arith in
     ap (place_after (outside n false)) (functions_text f fs rest)
-    ∙ place_body _ (n + 1) false f.action (functions_tokens fs ++ rest)
+    ∙ place_body (n + 1) false f.action (functions_tokens fs ++ rest)
     ∙ place_functions (n + 1) fs rest
     ∙ ap (λ (k : ℕ). place_after (outside k false) rest) same
 
@@ -293,7 +295,7 @@ function_count_is p =
     let same : 0 + length p.functions ≡ length p.functions = omega arith in
     ap (λ (l : List Token). (place_after first_place l).functions) (written_is p)
     ∙ ap (λ (q : TokenPlace). q.functions) (place_functions 0 p.functions (turn p.main))
-    ∙ ap (λ (q : TokenPlace). q.functions) (place_body _ (0 + length p.functions) true p.main [])
+    ∙ ap (λ (q : TokenPlace). q.functions) (place_body (0 + length p.functions) true p.main [])
     ∙ same
 
 pub written_have : (tokens : List Token) → (p : WrittenProgram) × AreWritten tokens p → HaveArguments tokens

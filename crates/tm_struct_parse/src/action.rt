@@ -26,7 +26,7 @@ pub fn action(alloc: Global, open_ifs: u32, spots: &[Spot]) -> Read<'_, Draft>
     let Some((token, rest)) = parted(spots) else {
         return Err(Stop::Unexpected(spots));
     };
-    match beginning(token) {
+    match beginning_of(token) {
         Some(Beginning::Test) => {
             if open_ifs < MOST_IFS {
                 test(alloc, open_ifs, rest)
@@ -53,7 +53,7 @@ enum Beginning {
 }
 
 /// What begins with a token, if an action may begin so.
-fn beginning(token: Token) -> Option<Beginning>
+fn beginning_of(token: Token) -> Option<Beginning>
     ensures { option_map first_token result ≡ beginning_of (token_tree token) }
 {
     match token {

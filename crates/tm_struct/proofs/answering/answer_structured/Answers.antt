@@ -1,5 +1,5 @@
 -- What the tests lead to fits the state, and an answer from there is one of the driver.
-use Rattle.std.proofs.Common.{◌≡◌, ℕ, List, map, length, arith, sym, ap, subst, ◌∙◌}
+use Rattle.std.proofs.Common.{◌≡◌, ℕ, ◌<◌, List, map, length, arith, sym, ap, subst, ◌∙◌}
 use Rattle.std.proofs.lemmas.List.{length-map}
 use mathlib.Core.List.{map-map}
 use Rattle.tm_sem.specs.declared.state.Move.{Move}
@@ -112,7 +112,8 @@ pub loop-task-preserved : goal.loop-task-preserved
 loop-task-preserved c =
     let here = (goal.at.loop-task-preserved c).After-end_of in
     let low = subst (FitsAt c.args.state.now c.loop-task.at) (ap action_tree c.in-Go.is) (fits here) in
-    let within = omega (arith, low, c.loop-task.invariant.within) in
+    let within : c.in-Go.number < length (program_tree c.args.program.now).functions =
+    omega (arith, low, c.loop-task.invariant.within) in
     record {
       within = omega (arith, within);
       leads = λ m follows.
