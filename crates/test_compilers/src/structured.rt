@@ -46,7 +46,12 @@ fn blocks_again(
 }
 
 /// The answers of blocks at the states of a seed.
-fn answers_of(alloc: Global, design: &Design, blocks: &Blocks, seed: u64) -> Result<String, AllocError>
+fn answers_of(
+    alloc: Global,
+    design: &Design,
+    blocks: &Blocks,
+    seed: u64,
+) -> Result<String, AllocError>
     requires { FitBlocks (design_tree design.now) (trees_of blocks.now) }
 {
     let mut rng = Pcg32::seed_from_u64(seed);
@@ -77,5 +82,7 @@ pub fn told_back(alloc: Global, drivers: u64) -> Result<String> {
             count = count.saturating_add(1);
         }
     }
-    Ok(format!(in alloc; "{count} of {drivers} drivers come back from structured text with the same answers\n")?)
+    Ok(format!(in alloc;
+        "{count} of {drivers} drivers come back from structured text with the same answers\n"
+    )?)
 }

@@ -137,33 +137,33 @@ in_range d below o (go k) fits nest = tt
 in_range d below o idle fits nest = tt
 
 abbrev FitEach : DesignTree → ℕ → List ActionTree → Type 0
-FitEach d n as = (k : ℕ) (a : ActionTree) → slice_get as k ≡ Some a → FitsAction d (n + k) a
+FitEach d n actions = (k : ℕ) (a : ActionTree) → slice_get actions k ≡ Some a → FitsAction d (n + k) a
 
-first_fits : (d : DesignTree) (n : ℕ) (a : ActionTree) (as : List ActionTree) → FitEach d n (a ∷ as) → FitsAction d n a
-first_fits d n a as each =
+first_fits : (d : DesignTree) (n : ℕ) (a : ActionTree) (actions : List ActionTree) → FitEach d n (a ∷ actions) → FitsAction d n a
+first_fits d n a actions each =
     let same : n + 0 ≡ n = omega arith in subst (λ (k : ℕ). FitsAction d k a) same (each 0 a refl)
 
-others_fit : (d : DesignTree) (n : ℕ) (a : ActionTree) (as : List ActionTree) → FitEach d n (a ∷ as) →
-    FitEach d (n + 1) as
-others_fit d n a as each k x is =
+others_fit : (d : DesignTree) (n : ℕ) (a : ActionTree) (actions : List ActionTree) → FitEach d n (a ∷ actions) →
+    FitEach d (n + 1) actions
+others_fit d n a actions each k x is =
     let same : n + suc k ≡ n + 1 + k = omega arith in
     subst (λ (m : ℕ). FitsAction d m x) same (each (suc k) x is)
 
-functions_right : (d : DesignTree) (n : ℕ) (as : List ActionTree) → HasNames d → FitEach d n as →
-    AreRightFunctions d n (numbered n as)
+functions_right : (d : DesignTree) (n : ℕ) (actions : List ActionTree) → HasNames d → FitEach d n actions →
+    AreRightFunctions d n (numbered n actions)
 functions_right d n [] names each = tt
-functions_right d n (a ∷ as) names each = (
-  (refl, fits_right d n a names (first_fits d n a as each)),
-  functions_right d (n + 1) as names (others_fit d n a as each),
+functions_right d n (a ∷ actions) names each = (
+  (refl, fits_right d n a names (first_fits d n a actions each)),
+  functions_right d (n + 1) actions names (others_fit d n a actions each),
 )
 
-functions_in_range : (d : DesignTree) (n : ℕ) (as : List ActionTree) → FitEach d n as → All (MayNest 0) as →
-    All FunctionInRange (numbered n as)
+functions_in_range : (d : DesignTree) (n : ℕ) (actions : List ActionTree) → FitEach d n actions → All (MayNest 0) actions →
+    All FunctionInRange (numbered n actions)
 functions_in_range d n [] each nest = All-nil FunctionInRange
-functions_in_range d n (a ∷ as) each nest =
-    All-cons FunctionInRange (record { number = n; action = a }) (numbered (n + 1) as)
-    (in_range d n 0 a (first_fits d n a as each) (All-head (MayNest 0) a as nest))
-    (functions_in_range d (n + 1) as (others_fit d n a as each) (All-tail (MayNest 0) a as nest))
+functions_in_range d n (a ∷ actions) each nest =
+    All-cons FunctionInRange (record { number = n; action = a }) (numbered (n + 1) actions)
+    (in_range d n 0 a (first_fits d n a actions each) (All-head (MayNest 0) a actions nest))
+    (functions_in_range d (n + 1) actions (others_fit d n a actions each) (All-tail (MayNest 0) a actions nest))
 
 from_zero : (d : DesignTree) (p : ProgramTree) → FitsProgram d p → FitEach d 0 p.functions
 from_zero d p fits k a is =

@@ -323,20 +323,20 @@ program_in_order d p right =
 -- functions with their numbers as names
 abbrev pub numbered : ℕ → List ActionTree → List WrittenFunction
 numbered n [] = []
-numbered n (a ∷ as) = record { number = n; action = a } ∷ numbered (n + 1) as
+numbered n (a ∷ actions) = record { number = n; action = a } ∷ numbered (n + 1) actions
 
 abbrev pub written_of : ProgramTree → WrittenProgram
 written_of p = record { functions = numbered 0 p.functions; main = p.main }
 
-numbered_tokens : (n : ℕ) (as : List ActionTree) → functions_tokens (numbered n as) ≡ function_tokens n as
+numbered_tokens : (n : ℕ) (actions : List ActionTree) → functions_tokens (numbered n actions) ≡ function_tokens n actions
 numbered_tokens n [] = refl
-numbered_tokens n (a ∷ as) =
-    ap (λ (l : List Token). static_word ∷ word void ∷ function n ∷ body_tokens a ++ l) (numbered_tokens (n + 1) as)
+numbered_tokens n (a ∷ actions) =
+    ap (λ (l : List Token). static_word ∷ word void ∷ function n ∷ body_tokens a ++ l) (numbered_tokens (n + 1) actions)
 
 pub written_program : (p : ProgramTree) → written_tokens (written_of p) ≡ program_tokens p
 written_program p =
     ap (λ (l : List Token). l ++ word void ∷ word driver_turn ∷ body_tokens p.main) (numbered_tokens 0 p.functions)
 
-pub numbered_length : (n : ℕ) (as : List ActionTree) → length (numbered n as) ≡ length as
+pub numbered_length : (n : ℕ) (actions : List ActionTree) → length (numbered n actions) ≡ length actions
 numbered_length n [] = refl
-numbered_length n (a ∷ as) = omega (arith, numbered_length (n + 1) as)
+numbered_length n (a ∷ actions) = omega (arith, numbered_length (n + 1) actions)

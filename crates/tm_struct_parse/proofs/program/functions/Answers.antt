@@ -11,14 +11,13 @@ use Rattle.tm_struct_parse.proofs.Programs.{function_moved, function_refused}
 use Rattle.tm_struct_parse.proofs.program.functions.Goals as goal
 
 pub loop-behind-init : goal.loop-behind-init
-loop-behind-init c =
-    (
-      subst
-          (λ (l : List NamedDraft).
-          Moves (IsProgram []) (IsProgram (map named_tree l)) (tokens_of c.args.spots.now) (tokens_of c.args.spots.now))
-          (sym c.new-functions.ensures.items) (stays (IsProgram []) (tokens_of c.args.spots.now)),
-      omega arith,
-    )
+loop-behind-init c = (
+  subst
+      (λ (l : List NamedDraft).
+      Moves (IsProgram []) (IsProgram (map named_tree l)) (tokens_of c.args.spots.now) (tokens_of c.args.spots.now))
+      (sym c.new-functions.ensures.items) (stays (IsProgram []) (tokens_of c.args.spots.now)),
+  omega arith,
+)
 
 pub returns-in_err-named-clause-refused : goal.returns-in_err-named-clause-refused
 returns-in_err-named-clause-refused c =
@@ -28,21 +27,20 @@ returns-in_err-named-clause-refused c =
     search rules
 
 pub loop-behind-preserved : goal.loop-behind-preserved
-loop-behind-preserved c =
-    (
-      moves_then c.loop-behind.invariant.0
-          (subst
-          (λ (l : List _).
-          Moves (IsProgram (map named_tree c.loop-behind.functions.items)) (IsProgram l)
-          (tokens_of c.loop-behind.rest.now) (tokens_of c.in_ok-named.behind.now))
-          (sym
-          (ap (map named_tree) c.in_ok-push.ensures.items
-          ∙ map-append named_tree c.loop-behind.functions.items (c.in_ok-named.named ∷ [])))
-          (function_moved (map named_tree c.loop-behind.functions.items) (named_tree c.in_ok-named.named)
-          (tokens_of c.loop-behind.rest.now) (tokens_of c.in-Some.behind.now) (tokens_of c.in_ok-named.behind.now)
-          c.in-Some.ensures.whole c.in_ok-named.ensures.taken)),
-      omega (arith, c.in-Some.ensures.shorter, c.in_ok-named.ensures.shorter, c.loop-behind.invariant.1),
-    )
+loop-behind-preserved c = (
+  moves_then c.loop-behind.invariant.0
+      (subst
+      (λ (l : List _).
+      Moves (IsProgram (map named_tree c.loop-behind.functions.items)) (IsProgram l)
+      (tokens_of c.loop-behind.rest.now) (tokens_of c.in_ok-named.behind.now))
+      (sym
+      (ap (map named_tree) c.in_ok-push.ensures.items
+      ∙ map-append named_tree c.loop-behind.functions.items (c.in_ok-named.named ∷ [])))
+      (function_moved (map named_tree c.loop-behind.functions.items) (named_tree c.in_ok-named.named)
+      (tokens_of c.loop-behind.rest.now) (tokens_of c.in-Some.behind.now) (tokens_of c.in_ok-named.behind.now)
+      c.in-Some.ensures.whole c.in_ok-named.ensures.taken)),
+  omega (arith, c.in-Some.ensures.shorter, c.in_ok-named.ensures.shorter, c.loop-behind.invariant.1),
+)
 
 pub returns-clause-taken : goal.returns-clause-taken
 returns-clause-taken c =
