@@ -1,5 +1,5 @@
-//! Structured drivers: the functions or faults of their texts, the shapes of blocks, what structured drivers answer, and
-//! the texts that they are printed as.
+//! Structured drivers: the functions or faults of their texts, the shapes of blocks, what structured drivers answer,
+//! and the texts that they are printed as.
 //!
 //! Above the rows stands a specification. A row asks of a source, and is answered by how many functions the structured
 //! driver has and how many blocks are made of it, or by why there is none. Behind `at VALUES goal GOAL:` it is answered

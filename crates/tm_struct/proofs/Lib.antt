@@ -8,6 +8,7 @@ pub mod Followed
 pub mod Grammar
 pub mod Laid
 pub mod Leading
+pub mod Listed
 pub mod Numbering
 pub mod Printed
 pub mod Pushed

@@ -1,5 +1,6 @@
 pub mod Actions
 pub mod BodyFaults
+pub mod Endings
 pub mod Files
 pub mod Fitting
 pub mod Forms

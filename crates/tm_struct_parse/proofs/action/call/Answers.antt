@@ -1,7 +1,7 @@
 use Rattle.std.proofs.Common.{map, refl, rules}
 use Rattle.tm_cir.specs.View.{num_tree}
 use Rattle.tm_cparse.specs.View.{tokens_of}
-use Rattle.tm_struct_parse.proofs.Actions.{call_no_open, call_no_arguments, call_no_stop, call_read}
+use Rattle.tm_struct_parse.proofs.Endings.{call_no_open, call_no_arguments, call_no_stop, call_read}
 use Rattle.tm_struct_parse.proofs.action.call.Goals as goal
 
 pub returns-in_err-rest-clause-refused : goal.returns-in_err-rest-clause-refused

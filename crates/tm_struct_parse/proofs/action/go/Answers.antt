@@ -1,6 +1,6 @@
 use Rattle.std.proofs.Common.{refl, rules}
 use Rattle.tm_cparse.specs.View.{tokens_of}
-use Rattle.tm_struct_parse.proofs.Actions.{go_no_open, go_no_close, go_no_stop, go_read}
+use Rattle.tm_struct_parse.proofs.Endings.{go_no_open, go_no_close, go_no_stop, go_read}
 use Rattle.tm_struct_parse.proofs.action.go.Goals as goal
 
 pub returns-in_err-rest-clause-refused : goal.returns-in_err-rest-clause-refused

@@ -1,6 +1,6 @@
 use Rattle.std.proofs.Common.{refl, rules}
 use Rattle.tm_cparse.specs.View.{tokens_of}
-use Rattle.tm_struct_parse.proofs.Actions.{idle_no_stop, idle_read}
+use Rattle.tm_struct_parse.proofs.Endings.{idle_no_stop, idle_read}
 use Rattle.tm_struct_parse.proofs.action.idle.Goals as goal
 
 pub returns-in_err-rest-clause-refused : goal.returns-in_err-rest-clause-refused

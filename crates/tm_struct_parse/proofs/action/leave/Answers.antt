@@ -1,6 +1,6 @@
 use Rattle.std.proofs.Common.{refl, rules}
 use Rattle.tm_cparse.specs.View.{tokens_of}
-use Rattle.tm_struct_parse.proofs.Actions.{leave_no_open, leave_no_process, leave_no_close, leave_no_stop, leave_read}
+use Rattle.tm_struct_parse.proofs.Endings.{leave_no_open, leave_no_process, leave_no_close, leave_no_stop, leave_read}
 use Rattle.tm_struct_parse.proofs.action.leave.Goals as goal
 
 pub returns-in_err-rest-clause-refused : goal.returns-in_err-rest-clause-refused
