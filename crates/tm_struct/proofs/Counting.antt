@@ -220,7 +220,10 @@ module _ (bs : List BlockTree) (on : LeadOn bs) (order : List ℕ)
   both_apart {i = i} {j = j} is one other reached x left right =
       let l = sound_named i x one (goes_on reached (first is)) (λ not. here) left in
       let r = sound_named j x other (goes_on reached (second is)) (λ not. here) right in
-      apart true≢false (record { reached = reached; leads = first is }) (record { reached = reached; leads = second is })
+      apart true≢false (record { reached = reached; leads = first is }) (record {
+        reached = reached;
+        leads = second is;
+      })
       (named_so one left) (named_so other right) (move_busy l.1) l.0 r.0
 
   once_none : Once []

@@ -113,7 +113,8 @@ module _ (bs : List BlockTree) (on : LeadOn bs) (rs : List Reach) (at : ℕ) (wi
       of Never never =
           subst (λ (l : List Reach). IsTable bs l (2 * (at + 1)))
           (sym (made ∙ ap (λ (o : Option ℕ). both_marked o rs f s) (ap ifs_inside never)))
-          (none_twice (λ to branch leads. told_reached bs on rs (2 * at) table at within (omega arith) leads.reached never))
+          (none_twice (λ to branch leads. told_reached bs on rs (2 * at) table at within (omega arith) leads.reached
+          never))
       of (Once around) so =
           marked_twice _ (ap ifs_inside so) (λ never. let wrong : Once around ≡ Never = sym so ∙ never in cc)
       of Often so = marked_twice 1 (ap ifs_inside so) (λ never. let wrong : Often ≡ Never = sym so ∙ never in cc)

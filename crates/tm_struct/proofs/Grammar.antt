@@ -127,7 +127,8 @@ same_action (choose t a b) (choose u x y) rest others same =
     let truth : t ≡ u = parts.0 in
     let ends : branches a b rest ≡ branches x y others = parts.1 in
     let left = sign close_brace ∷ word else_word ∷ sign open_brace ∷ (action_tokens b ++ (sign close_brace ∷ rest)) in
-    let right = sign close_brace ∷ word else_word ∷ sign open_brace ∷ (action_tokens y ++ (sign close_brace ∷ others)) in
+    let right = sign close_brace ∷ word else_word ∷ sign open_brace ∷ (action_tokens y ++ (sign close_brace ∷ others))
+    in
     let first = same_action a x left right (cc) in
     let first_same : a ≡ x = first.0 in
     let first_ends : left ≡ right = first.1 in

@@ -284,7 +284,8 @@ next_names bs starts fs i f names laid within is =
 
 pub functions_more : (before after : List BlockTree) (starts more : List ℕ) (fs : List Tree) (i start : ℕ) (f : Tree) →
     AreLaid before starts (action_trees (take i fs)) → IsLaid before after starts start (action_tree f) →
-    more ≡ starts ++ start ∷ [] → i < length fs → f ≡ get_or fs i f → AreLaid after more (action_trees (take (i + 1) fs))
+    more ≡ starts ++ start ∷ [] → i < length fs → f ≡ get_or fs i f →
+    AreLaid after more (action_trees (take (i + 1) fs))
 functions_more before after starts more fs i start f laid next put within is =
     subst (λ (l : List ℕ). AreLaid after l (action_trees (take (i + 1) fs))) (sym put)
     (subst (AreLaid after (starts ++ start ∷ [])) (sym (taken_trees fs i f within is))
@@ -303,7 +304,8 @@ taken_there (y ∷ ys) zero k x is low = absurd (omega arith)
 taken_there (y ∷ ys) (suc n) zero x is low = is
 taken_there (y ∷ ys) (suc n) (suc k) x is low = taken_there ys n k x is (omega (arith, low))
 
-pub from_taken : {A : Type 0} (xs : List A) (n k : ℕ) (x : A) → slice_get (take n xs) k ≡ Some x → slice_get xs k ≡ Some x
+pub from_taken : {A : Type 0} (xs : List A) (n k : ℕ) (x : A) → slice_get (take n xs) k ≡ Some x →
+    slice_get xs k ≡ Some x
 from_taken [] zero k x is = absurd (cc)
 from_taken [] (suc n) k x is = absurd (cc)
 from_taken (y ∷ ys) zero k x is = absurd (cc)

@@ -51,8 +51,11 @@ same_move fs s g idles other = sym (read fs s g other)
 -- an action that fits a design has what evaluation needs at a state of it
 pub fits_there : (d : DesignTree) (s : StateData) (below : ℕ) (a : ActionTree) → CoversDesign d s →
     FitsAction d below a → FitsAt s below a
-fits_there d s below (choose t a b) covers fits =
-    (rw (covers.values, covers.places) fits.0, fits_there d s below a covers fits.1, fits_there d s below b covers fits.2)
+fits_there d s below (choose t a b) covers fits = (
+  rw (covers.values, covers.places) fits.0,
+  fits_there d s below a covers fits.1,
+  fits_there d s below b covers fits.2,
+)
 fits_there d s below (call task args) covers fits = (fits.1, rw (covers.values, covers.places) fits.2)
 fits_there d s below (leave p) covers fits = tt
 fits_there d s below (go k) covers fits = fits
@@ -102,7 +105,8 @@ pub fits_body : (p : ProgramTree) (s : StateData) → AreOfOneDesign p s → (at
 fits_body p s one at within = of (slice_get p.functions at) refl
   where
     of : (o : Option ActionTree) → slice_get p.functions at ≡ o → FitsAt s at (option_map_or (λ a. a) o p.main)
-    of None is = subst (λ (n : ℕ). FitsAt s n p.main) whole (fits_there one.design s (length p.functions) p.main one.state one.program.main)
+    of None is = subst (λ (n : ℕ). FitsAt s n p.main) whole (fits_there one.design s (length p.functions) p.main
+        one.state one.program.main)
       where
         whole : length p.functions ≡ at
         whole = past (slice_get_cases p.functions at).1

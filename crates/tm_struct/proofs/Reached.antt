@@ -28,7 +28,10 @@ module _ (bs : List BlockTree) (on : LeadOn bs) (rs : List Reach) (table : AreRe
   -- a branch that is reached was followed
   all_followed : {at from : ℕ} {branch : Bool} → IsBranch bs at from branch →
       IsFollowed bs (2 * length bs) at from branch
-  all_followed {at} {from} {branch} is = record { is = is; below = of branch (leads_later bs on from branch at is.leads) }
+  all_followed {at} {from} {branch} is = record {
+    is = is;
+    below = of branch (leads_later bs on from branch at is.leads);
+  }
     where
       of : (p : Bool) → (from < at) × (at < length bs) → branch_number from p < 2 * length bs
       of true later = omega (arith, later.0, later.1)
@@ -109,7 +112,8 @@ module _ (bs : List BlockTree) (on : LeadOn bs) (rs : List Reach) (table : AreRe
 
   -- what a test stands in, by the table
   stand_of : (n at : ℕ) → at ≤ n → at < length bs → (t : TruthTree) (i j : ℕ) →
-      slice_get bs at ≡ Some (test t i j) → (inside : ℕ) → ifs_inside (reach_at rs at) ≡ Some inside → Stand bs order at inside
+      slice_get bs at ≡ Some (test t i j) → (inside : ℕ) → ifs_inside (reach_at rs at) ≡ Some inside →
+      Stand bs order at inside
   stand_of zero at few within t i j is inside told =
       by_reach at (λ from low. absurd (omega (arith, few, low))) within t i j is inside told (reach_at rs at) refl
   stand_of (suc n) at few within t i j is inside told =
@@ -162,7 +166,8 @@ module _ (bs : List BlockTree) (on : LeadOn bs) (rs : List Reach) (table : AreRe
     reached = reached_so bs on rs (2 * length bs) table at (slice_get_within bs at b is)
         (λ never. true≢false (sym so ∙ ap (becomes_function b) never ∙ unreached b));
     busy = λ nothing.
-        true≢false (sym so ∙ ap (λ x. becomes_function x (reach_at rs at)) (is_one (slice_get bs at) b idle is nothing));
+        true≢false (sym so ∙ ap (λ x. becomes_function x (reach_at rs at))
+        (is_one (slice_get bs at) b idle is nothing));
     why = of b is so (reach_at rs at) refl (table.tells at (slice_get_within bs at b is));
   }
     where
@@ -275,7 +280,8 @@ module _ (bs : List BlockTree) (on : LeadOn bs) (rs : List Reach) (table : AreRe
   pub chosen : (at : ℕ) → IsFunction order at ↔ BecomesFunction bs order at
   chosen at = (λ function. of_table (slice_get bs at) refl ((named at).0 function), of_shape)
     where
-      of_table : (o : Option BlockTree) → slice_get bs at ≡ o → is_function bs rs at ≡ true → BecomesFunction bs order at
+      of_table : (o : Option BlockTree) → slice_get bs at ≡ o → is_function bs rs at ≡ true →
+          BecomesFunction bs order at
       of_table None is so =
           absurd (true≢false
           (sym so ∙ ap (λ o. option_map_or (λ x. becomes_function x (reach_at rs at)) o false) is))

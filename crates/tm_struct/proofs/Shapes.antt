@@ -110,7 +110,8 @@ module _ (d : DesignTree) (bs : List BlockTree) (fit : FitBlocks d bs) (p : Prog
     nests_named around (in_place not written) reached stands = nests_written around written reached (stands not)
 
   -- the block of a function
-  block_of : (k : ℕ) (a : ActionTree) → slice_get p.functions k ≡ Some a → slice_get shape.order k ≡ Some (get_or shape.order k 0)
+  block_of : (k : ℕ) (a : ActionTree) → slice_get p.functions k ≡ Some a →
+      slice_get shape.order k ≡ Some (get_or shape.order k 0)
   block_of k a is =
       slice_get-get_or shape.order k 0
       (omega (arith, slice_get_within p.functions k a is, shape.many))
@@ -139,7 +140,8 @@ module _ (d : DesignTree) (bs : List BlockTree) (fit : FitBlocks d bs) (p : Prog
               let same : j ≡ k = omega (arith, high, below) in
               let block : get_or shape.order j 0 ≡ next =
               is_one (slice_get shape.order k) (get_or shape.order j 0) next
-              (subst (λ (x : ℕ). slice_get shape.order x ≡ Some (get_or shape.order j 0)) same (block_of j a is)) there in
+              (subst (λ (x : ℕ). slice_get shape.order x ≡ Some (get_or shape.order j 0)) same (block_of j a is))
+              there in
               absurd (omega (arith, later, block))
 
   fits_function : (k : ℕ) (a : ActionTree) → slice_get p.functions k ≡ Some a → FitsAction d k a

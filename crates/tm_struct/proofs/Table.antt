@@ -20,7 +20,8 @@ pub record IsTest (bs : List BlockTree) (from : ℕ) (branch : Bool) (at : ℕ) 
   pub is : slice_get bs from ≡ Some (test truth one other)
   pub to : at ≡ target branch one other
 
-pub tested : (bs : List BlockTree) (from : ℕ) (branch : Bool) (at : ℕ) → Leads bs from branch at → IsTest bs from branch at
+pub tested : (bs : List BlockTree) (from : ℕ) (branch : Bool) (at : ℕ) → Leads bs from branch at →
+    IsTest bs from branch at
 tested bs from _ at (first {t = t} {other = other} is) =
     record { truth = t; one = at; other = other; is = is; to = refl }
 tested bs from _ at (second {t = t} {other = other} is) =

@@ -204,7 +204,11 @@ pub too_deep : (o : ℕ) (tokens rest : List Token) → most_ifs ≤ o → token
 too_deep o tokens rest deep is =
     blocked_here (word return_word ∷ stop_mark ∷ []) (action_ends o)
     (λ a other after first s.
-    let low = in_test o a after s.in_range (ap first_of (sym s.are) ∙ first ∙ ap first_of is) in omega (arith, low, deep))
+    let low = in_test o a after s.in_range (ap first_of (sym s.are) ∙ first ∙ ap first_of is) in omega (
+      arith,
+      low,
+      deep,
+    ))
 
 -- a test behind its `if`
 abbrev pub second_branch : ℕ → TruthTree → ActionTree → ActionTree → List Token → List Token → Type 0

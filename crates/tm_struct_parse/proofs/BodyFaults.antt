@@ -135,7 +135,8 @@ pub named_fault : (d : DesignTree) (line : ℕ) (body : List ℕ) (spots found :
     IsFileFault d line body (Bad bad)
 named_fault d line body spots found last whole p bad same scan is written fault =
     fault_named d line body spots last whole p bad scan is written
-    (subst (λ (l : List Spot). IsFirstFault d ((place_after first_place (tokens_of l)).functions) first_place l bad) same
+    (subst (λ (l : List Spot). IsFirstFault d ((place_after first_place (tokens_of l)).functions) first_place l bad)
+    same
     fault)
 
 -- no include

@@ -37,54 +37,55 @@ pub record IsFileScan (d : DesignTree) (text : List ℕ) (p : ProgramTree) : Typ
   pub tokens : tokens_of spots ≡ program_tokens p
   pub known : AreAllKnown spots
 
-module _ (d : DesignTree) (text : List ℕ) (p : ProgramTree) (names : HasNames d) (file : IsStructuredFile d text p) where
-  -- the tokens of the driver are right
-  file_right : AreRight d first_place (program_tokens p)
-  file_right =
-      subst (AreRight d first_place) (written_program p)
-      (right_program d (written_of p) (fitting_right d p names file.is.fits))
+module _ (d : DesignTree) (text : List ℕ) (p : ProgramTree) (names : HasNames d) (file : IsStructuredFile d text p)
+  where
+    -- the tokens of the driver are right
+    file_right : AreRight d first_place (program_tokens p)
+    file_right =
+        subst (AreRight d first_place) (written_program p)
+        (right_program d (written_of p) (fitting_right d p names file.is.fits))
 
-  file_written : AreWritten (program_tokens p) (written_of p)
-  file_written =
-      subst (λ (l : List Token). AreWritten l (written_of p)) (written_program p) (fitting_written d p file.is.fits)
+    file_written : AreWritten (program_tokens p) (written_of p)
+    file_written =
+        subst (λ (l : List Token). AreWritten l (written_of p)) (written_program p) (fitting_written d p file.is.fits)
 
-  empty_stuck : (at : Standing) → IsStuck at []
-  empty_stuck at = record {
-    no_blank = tt;
-    no_token = λ t bytes rest begins may.
-        omega (arith, ap length begins.whole, length-append bytes rest, spelled_some t bytes begins.spelled);
-  }
+    empty_stuck : (at : Standing) → IsStuck at []
+    empty_stuck at = record {
+      no_blank = tt;
+      no_token = λ t bytes rest begins may.
+          omega (arith, ap length begins.whole, length-append bytes rest, spelled_some t bytes begins.spelled);
+    }
 
-  file_scan : IsFileScan d text p
-  file_scan =
-      let front = include_front text file.is.body file.is.include in
-      let few : (place_after first_place (program_tokens p)).functions ≤ 16777216 =
-      omega (
-        arith,
-        places_few first_place (program_tokens p),
-        tokens_short d file.is.functions,
-        file.short,
-        ap length front.1,
-        length-append front.0 file.is.body,
-      ) in
-      let low : AreLow (program_tokens p) =
-      right_low d first_place (program_tokens p) 16777216 file_right few (omega arith) in
-      let cut = cut_of d names (record { open_count = 0; line = line_after front.0 }) file.is.functions low
-      file.shallow in
-      record {
-        spots = cut.spots;
-        end = cut.end;
-        scanned = record {
-          front = front.0;
-          body = file.is.body;
-          whole = front.1;
-          include = file.is.include;
-          cut = cut.cut;
-          stuck = empty_stuck cut.end;
-        };
-        tokens = cut.tokens;
-        known = cut.known;
-      }
+    file_scan : IsFileScan d text p
+    file_scan =
+        let front = include_front text file.is.body file.is.include in
+        let few : (place_after first_place (program_tokens p)).functions ≤ 16777216 =
+        omega (
+          arith,
+          places_few first_place (program_tokens p),
+          tokens_short d file.is.functions,
+          file.short,
+          ap length front.1,
+          length-append front.0 file.is.body,
+        ) in
+        let low : AreLow (program_tokens p) =
+        right_low d first_place (program_tokens p) 16777216 file_right few (omega arith) in
+        let cut = cut_of d names (record { open_count = 0; line = line_after front.0 }) file.is.functions low
+        file.shallow in
+        record {
+          spots = cut.spots;
+          end = cut.end;
+          scanned = record {
+            front = front.0;
+            body = file.is.body;
+            whole = front.1;
+            include = file.is.include;
+            cut = cut.cut;
+            stuck = empty_stuck cut.end;
+          };
+          tokens = cut.tokens;
+          known = cut.known;
+        }
 
 -- what begins a driver
 begins_less : (xs ys : List Token) → Begins (xs ++ ys) → Begins xs

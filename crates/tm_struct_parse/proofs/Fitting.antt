@@ -139,7 +139,8 @@ in_range d below o idle fits nest = tt
 abbrev FitEach : DesignTree → ℕ → List ActionTree → Type 0
 FitEach d n actions = (k : ℕ) (a : ActionTree) → slice_get actions k ≡ Some a → FitsAction d (n + k) a
 
-first_fits : (d : DesignTree) (n : ℕ) (a : ActionTree) (actions : List ActionTree) → FitEach d n (a ∷ actions) → FitsAction d n a
+first_fits : (d : DesignTree) (n : ℕ) (a : ActionTree) (actions : List ActionTree) → FitEach d n (a ∷ actions) →
+    FitsAction d n a
 first_fits d n a actions each =
     let same : n + 0 ≡ n = omega arith in subst (λ (k : ℕ). FitsAction d k a) same (each 0 a refl)
 
@@ -157,7 +158,8 @@ functions_right d n (a ∷ actions) names each = (
   functions_right d (n + 1) actions names (others_fit d n a actions each),
 )
 
-functions_in_range : (d : DesignTree) (n : ℕ) (actions : List ActionTree) → FitEach d n actions → All (MayNest 0) actions →
+functions_in_range : (d : DesignTree) (n : ℕ) (actions : List ActionTree) → FitEach d n actions →
+    All (MayNest 0) actions →
     All FunctionInRange (numbered n actions)
 functions_in_range d n [] each nest = All-nil FunctionInRange
 functions_in_range d n (a ∷ actions) each nest =

@@ -83,12 +83,13 @@ then_refused {F = F} t more end spots (Unexpected here) missing =
 then_refused t more end spots Memory missing = tt
 
 -- a part stands in front, and no other part begins so
-pub record IsOnly {Y : Type 0} (P : Y → List Token → List Token → Type 0) (y : Y) (tokens rest : List Token) : Type 0 where
-  pub front : List Token
-  pub whole : tokens ≡ front ++ rest
-  pub is : (other : List Token) → P y (front ++ other) other
-  pub only : (z : Y) (other after : List Token) → first_of other ≡ first_of rest → P z (front ++ other) after →
-      (z ≡ y) × (after ≡ other)
+pub record IsOnly {Y : Type 0} (P : Y → List Token → List Token → Type 0) (y : Y) (tokens rest : List Token) : Type 0
+  where
+    pub front : List Token
+    pub whole : tokens ≡ front ++ rest
+    pub is : (other : List Token) → P y (front ++ other) other
+    pub only : (z : Y) (other after : List Token) → first_of other ≡ first_of rest → P z (front ++ other) after →
+        (z ≡ y) × (after ≡ other)
 
 -- a part was taken
 pub part_moves : {X Y : Type 0} {P : Y → List Token → List Token → Type 0}

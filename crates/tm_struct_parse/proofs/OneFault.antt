@@ -152,7 +152,8 @@ one_of d text (Text line) fault =
 one_of d text (UnknownName line) fault = inr (fault.0, inr fault.1)
 one_of d text (ForwardCall line) fault = inr (fault.0, inr fault.1)
 
-same_of : (d : DesignTree) (text : List ℕ) (bad other : BadStructured) → OneOf d text bad → OneOf d text other → bad ≡ other
+same_of : (d : DesignTree) (text : List ℕ) (bad other : BadStructured) → OneOf d text bad → OneOf d text other →
+    bad ≡ other
 same_of d text bad other (inl one) (inl two) =
     one.1 ∙ ap (λ (n : ℕ). Text n) (same_text_fault d text one.0 two.0 one.2 two.2) ∙ sym two.1
 same_of d text bad other (inl one) (inr two) = absurd (no_text_and_name d text one.0 other one.2 two)
@@ -174,7 +175,8 @@ one_fault d text bad other one two = of (one_of d text bad one) (one_of d text o
 
 -- what an answer that is right says of a text with blocks, and of one with a fault
 pub answers_program : (d : DesignTree) (text : List ℕ) (p : ProgramTree) (r : Result Structured ReadStructuredError) →
-    HasNames d → IsStructuredFile d text p → IfOk r (λ b. IsStructuredFile d text (program_tree b)) → IfErr r (IsFaultOf d text) →
+    HasNames d → IsStructuredFile d text p → IfOk r (λ b. IsStructuredFile d text (program_tree b)) →
+    IfErr r (IsFaultOf d text) →
     MatchResult r (λ b. program_tree b ≡ p) (λ e. e ≡ Memory)
 answers_program d text p (Ok b) names file read faulty = one_program d text (program_tree b) p read.is file.is
 answers_program d text p (Err Memory) names file read faulty = refl
@@ -182,7 +184,8 @@ answers_program d text p (Err (Bad bad)) names file read faulty =
     absurd (file_no_fault d text p bad names file faulty)
 
 pub answers_fault : (d : DesignTree) (text : List ℕ) (bad : BadStructured) (r : Result Structured ReadStructuredError) →
-    HasNames d → HasFault d text bad → IfOk r (λ b. IsStructuredFile d text (program_tree b)) → IfErr r (IsFaultOf d text) →
+    HasNames d → HasFault d text bad → IfOk r (λ b. IsStructuredFile d text (program_tree b)) →
+    IfErr r (IsFaultOf d text) →
     MatchResult r (λ b. ⊥) (IsMemoryOr bad)
 answers_fault d text bad (Ok b) names fault read faulty = file_no_fault d text (program_tree b) bad names read fault
 answers_fault d text bad (Err Memory) names fault read faulty = inl refl

@@ -328,7 +328,8 @@ numbered n (a ∷ actions) = record { number = n; action = a } ∷ numbered (n +
 abbrev pub written_of : ProgramTree → WrittenProgram
 written_of p = record { functions = numbered 0 p.functions; main = p.main }
 
-numbered_tokens : (n : ℕ) (actions : List ActionTree) → functions_tokens (numbered n actions) ≡ function_tokens n actions
+numbered_tokens : (n : ℕ) (actions : List ActionTree) → functions_tokens (numbered n actions) ≡ function_tokens n
+    actions
 numbered_tokens n [] = refl
 numbered_tokens n (a ∷ actions) =
     ap (λ (l : List Token). static_word ∷ word void ∷ function n ∷ body_tokens a ++ l) (numbered_tokens (n + 1) actions)

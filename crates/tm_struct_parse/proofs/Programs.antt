@@ -222,7 +222,8 @@ function_to f tokens rest is = record {
   };
 }
 
-function_from : (f : WrittenFunction) (tokens rest : List Token) → function_form f tokens rest → IsFunction f tokens rest
+function_from : (f : WrittenFunction) (tokens rest : List Token) → function_form f tokens rest →
+    IsFunction f tokens rest
 function_from f tokens rest g =
     let inner = g.form in
     let body = inner.form in

@@ -286,7 +286,8 @@ one_token t u text bytes others rest behind one other = of (sort_of t) (sort_of 
         text ≡ letter ∷ own → (letter ≡ 98) ⊎ (letter ≡ 115) → IsSameFront v w bytes others rest behind
     mixed {v} both begins own letter is which =
         absurd
-        (not_other text bytes rest own letter (begins_other v bytes (both.to bytes begins.spelled)) begins.whole is which)
+        (not_other text bytes rest own letter (begins_other v bytes (both.to bytes begins.spelled)) begins.whole is
+        which)
 
     turned : {v w : Token} → IsCommonToken w → BeginsToken text w others behind → (own : List ℕ) (letter : ℕ) →
         text ≡ letter ∷ own → (letter ≡ 98) ⊎ (letter ≡ 115) → IsSameFront v w bytes others rest behind

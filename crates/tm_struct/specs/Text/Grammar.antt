@@ -13,7 +13,8 @@ braced ts = sign open_brace ∷ ts ++ sign close_brace ∷ []
 -- what an action is written as
 abbrev pub action_tokens : ActionTree → List Token
 action_tokens (choose t a b) =
-    word if_word ∷ parenthesized (truth_tokens t) ++ braced (action_tokens a) ++ word else_word ∷ braced (action_tokens b)
+    word if_word ∷ parenthesized (truth_tokens t) ++ braced (action_tokens a)
+    ++ word else_word ∷ braced (action_tokens b)
 action_tokens (call k args) = task k ∷ parenthesized (argument_tokens args) ++ sign semicolon ∷ []
 action_tokens (leave p) = word termite_leave ∷ parenthesized (constant p ∷ []) ++ sign semicolon ∷ []
 action_tokens (go k) = function k ∷ parenthesized [] ++ sign semicolon ∷ []

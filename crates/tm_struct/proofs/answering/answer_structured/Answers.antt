@@ -19,7 +19,8 @@ fits : (c : After-end_of) → FitsAt c.args.state.now c.loop-task.at (action_tre
 fits c =
     c.end_of.ensures.fits c.loop-task.at
     (subst (FitsAt c.args.state.now c.loop-task.at) (sym c.function.ensures)
-    (fits_body (program_tree c.args.program.now) c.args.state.now c.requires c.loop-task.at c.loop-task.invariant.within))
+    (fits_body (program_tree c.args.program.now) c.args.state.now c.requires c.loop-task.at
+    c.loop-task.invariant.within))
 
 answers : (c : After-end_of) (a : ActionTree) (m : Move) → action_tree c.end_of.result.now ≡ a →
     LeadsTo (program_tree c.args.program.now).functions c.args.state.now c.args.goal a m →
@@ -34,7 +35,8 @@ pub end_of-requires : goal.end_of-requires
 end_of-requires c = (
   c.loop-task.at,
   subst (FitsAt c.args.state.now c.loop-task.at) (sym c.function.ensures)
-      (fits_body (program_tree c.args.program.now) c.args.state.now c.requires c.loop-task.at c.loop-task.invariant.within),
+      (fits_body (program_tree c.args.program.now) c.args.state.now c.requires c.loop-task.at
+      c.loop-task.invariant.within),
 )
 
 ends-Call : (c : In-Call) →
@@ -81,7 +83,8 @@ returns-in-Call-clause-follows c =
 pub returns-in-Call-clause-only : goal.returns-in-Call-clause-only
 returns-in-Call-clause-only c = λ other also.
     let here = goal.at.returns-in-Call-clause-only c in
-    same_move _ _ _ also (answer-Call here.After-arguments (answers here.After-end_of _ _ (ends-Call here.In-Call) calls))
+    same_move _ _ _ also (answer-Call here.After-arguments (answers here.After-end_of _ _ (ends-Call here.In-Call)
+    calls))
 
 pub returns-in-Leave-clause-follows : goal.returns-in-Leave-clause-follows
 returns-in-Leave-clause-follows c =

@@ -4,7 +4,8 @@ use Rattle.tm_struct.proofs.printer.push_functions.Goals as goal
 
 pub push_body-requires : goal.push_body-requires
 push_body-requires c =
-    nests_at c.args.functions.now c.loop-number.number c.index-functions-number.result c.requires c.loop-number-test.true
+    nests_at c.args.functions.now c.loop-number.number c.index-functions-number.result c.requires
+    c.loop-number-test.true
     c.index-functions-number.is
 
 pub loop-number-preserved : goal.loop-number-preserved

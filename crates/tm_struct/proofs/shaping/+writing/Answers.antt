@@ -17,7 +17,8 @@ branch-returns-in-None t c =
     IfOk-weaker c.tree.result _ _
     (λ tree written.
     λ order numbers.
-    in_place (no_function order c.args.numbers.now c.args.at numbers c.in-None.is) (written order numbers)) c.tree.ensures
+    in_place (no_function order c.args.numbers.now c.args.at numbers c.in-None.is) (written order numbers))
+    c.tree.ensures
 
 pub tree-branch-alloc-requires : goal.tree-branch-alloc-requires
 tree-branch-alloc-requires t c =

@@ -49,7 +49,8 @@ shape : (c : In_ok-main) → LeadOn (block_trees c.blocks-blocks.result.now) →
     (record { functions = action_trees c.in_ok-functions.functions.items; main = action_tree c.in_ok-main.main })
 shape c leads =
     shape_listed (trees_of c.args.blocks.now) c.blocks-blocks.result.now c.blocks-blocks.ensures leads _
-    (subst (AreReaches (block_trees c.blocks-blocks.result.now)) (sym c.deref.ensures.value) c.in_ok-reaches.ensures) _ _
+    (subst (AreReaches (block_trees c.blocks-blocks.result.now)) (sym c.deref.ensures.value) c.in_ok-reaches.ensures)
+    _ _
     c.in_ok-naming.ensures (action_trees c.in_ok-functions.functions.items)
     (action_tree c.in_ok-main.main) c.in_ok-functions.ensures
     (subst

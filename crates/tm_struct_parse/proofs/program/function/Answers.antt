@@ -25,4 +25,5 @@ returns-in_err-draft-clause-refused c =
 pub returns-clause-taken : goal.returns-clause-taken
 returns-clause-taken c =
     function_read _ (tokens_of c.args.spots.now) (tokens_of c.in_ok-rest.rest.now) (tokens_of c.in_ok-number.rest.now)
-    (tokens_of c.in_ok-draft.rest.now) c.in_ok-rest.ensures.taken c.in_ok-number.ensures.taken c.in_ok-draft.ensures.taken
+    (tokens_of c.in_ok-draft.rest.now) c.in_ok-rest.ensures.taken c.in_ok-number.ensures.taken
+    c.in_ok-draft.ensures.taken

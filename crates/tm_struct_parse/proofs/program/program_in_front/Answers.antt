@@ -14,5 +14,6 @@ returns-in_err-main-clause-refused c =
 
 pub returns-clause-taken : goal.returns-clause-taken
 returns-clause-taken c =
-    program_read (map named_tree c.in_ok-functions.functions.items) _ (tokens_of c.args.spots.now) (tokens_of c.in_ok-functions.rest.now)
+    program_read (map named_tree c.in_ok-functions.functions.items) _ (tokens_of c.args.spots.now) (tokens_of
+    c.in_ok-functions.rest.now)
     (tokens_of c.in_ok-main.rest.now) c.in_ok-functions.ensures.taken c.in_ok-main.ensures.taken refl
