@@ -62,3 +62,32 @@ module _ (d : DesignTree) (p : ProgramTree) (fits : FitsProgram d p) (before bs 
           let found = some_move d p fits s g in
           subst (AnswersSo p s g)
           (same_answer (turned_over first bs) s g (to found.0 found.1) answers) found.1
+
+-- the same of blocks that were made of what was laid
+module _ (d : DesignTree) (p : ProgramTree) (fits : FitsProgram d p) (before bs made : List BlockTree)
+    (starts named : List ℕ) (shown : List ActionTree) (first : ℕ) (laid : AreLaid before starts shown)
+    (shown_is : shown ≡ p.functions) (main : IsLaid before bs named first p.main) (named_is : named ≡ starts)
+    (made_is : made ≡ turned_over first bs) where
+  laid_there : AreLaid before starts p.functions
+  laid_there = subst (AreLaid before starts) shown_is laid
+
+  main_there : IsLaid before bs starts first p.main
+  main_there = subst (λ (l : List ℕ). IsLaid before bs l first p.main) named_is main
+
+  pub made_fit : FitBlocks d made
+  made_fit =
+      subst (FitBlocks d) (sym made_is) (blocks_fit d p fits before bs starts first laid_there main_there)
+
+  pub made_answer : (s : StateData) (g : ℕ) (m : Move) → Answers made s g m ↔ AnswersSo p s g m
+  made_answer s g m =
+      subst (λ (l : List BlockTree). Answers l s g m ↔ AnswersSo p s g m) (sym made_is)
+      (blocks_answer d p fits before bs starts first laid_there main_there s g m)
+
+-- what was laid for the functions has as many starts as they are
+pub main_names : (d : DesignTree) (p : ProgramTree) → FitsProgram d p → (before : List BlockTree)
+    (starts named : List ℕ) (shown : List ActionTree) → AreLaid before starts shown → shown ≡ p.functions →
+    named ≡ starts → NamesBelow (length named) p.main
+main_names d p fits before starts named shown laid shown_is named_is =
+    subst (λ (n : ℕ). NamesBelow n p.main)
+    (sym (ap length named_is ∙ laid.begins.many ∙ ap length shown_is))
+    (names_below d (length p.functions) p.main fits.main)

@@ -1,6 +1,7 @@
-use Rattle.std.proofs.Common.{refl, arith}
+use Rattle.std.proofs.Common.{sym, subst, arith}
 use Rattle.std.proofs.lemmas.Option.{slice_get-get_or}
 use Rattle.tm_cir.specs.View.{block_trees}
+use Rattle.tm_struct.specs.Inner.Naming.{AreNumbers}
 use Rattle.tm_struct.proofs.Filled.{one_filled}
 use Rattle.tm_struct.proofs.shaping.functions.Goals as goal
 
@@ -9,4 +10,5 @@ loop-at-preserved c =
     one_filled (block_trees c.args.blocks.now) c.args.naming.now.order.items c.loop-at.at-index _
     c.loop-at.functions.items c.push.new.self.items _ c.loop-at.invariant c.in_ok-push.ensures.items
     (slice_get-get_or c.args.naming.now.order.items c.loop-at.at-index 0 (omega arith))
-    (c.in_ok-tree.ensures c.args.naming.now.order.items c.requires.numbers)
+    (c.in_ok-tree.ensures c.args.naming.now.order.items
+    (subst (AreNumbers c.args.naming.now.order.items) (sym c.deref.ensures.value) c.requires.numbers))
