@@ -4,7 +4,7 @@ use Rattle.std.proofs.lemmas.List.Elements.{All-nil}
 use Rattle.tm_cir.specs.Tree.{NumTree, TruthTree, num, goal}
 use Rattle.tm_cir.specs.Text.Token.{Token, word, label, task, constant, sign, void, driver_turn, if_word, else_word, return_word, termite_leave, termite_goal, open_parenthesis, close_parenthesis, open_brace, close_brace, semicolon}
 use Rattle.tm_cir.specs.Text.Grammar.{truth_tokens, argument_tokens}
-use Rattle.tm_cir.proofs.Text.Expressions.{same_truth}
+use Rattle.tm_cir.proofs.Text.Expressions.{same_inside, same_truth}
 use Rattle.tm_cparse.specs.declared.part.Sort.TheVariants.{Truth}
 use Rattle.tm_cparse.specs.declared.spot.Spot.{Spot}
 use Rattle.tm_cparse.specs.declared.spot.Stop.{Stop}
@@ -177,7 +177,7 @@ no_action o tokens none =
 pub nothing_there : (o : ℕ) (tokens : List Token) → tokens ≡ [] → IsBlocked (IsAction o []) tokens tokens
 nothing_there o tokens none = no_action o tokens (ap (λ (l : List Token). is_action (first_of l)) none)
 
-none_begins_with : (t : Token) → beginning_of t ≡ None → is_action (Some t) ≡ false
+none_begins_with : (t : Token) → None ≡ beginning_of t → is_action (Some t) ≡ false
 none_begins_with (word if_word) none = absurd (cc)
 none_begins_with (word termite_leave) none = absurd (cc)
 none_begins_with (word return_word) none = absurd (cc)
@@ -185,10 +185,33 @@ none_begins_with (task k) none = absurd (cc)
 none_begins_with (label k) none = absurd (cc)
 none_begins_with _ none = refl
 
-pub none_begins : (o : ℕ) (t : Token) (tokens rest : List Token) → tokens ≡ t ∷ rest → beginning_of t ≡ None →
+pub none_begins : (o : ℕ) (t : Token) (tokens rest : List Token) → tokens ≡ t ∷ rest → None ≡ beginning_of t →
     IsBlocked (IsAction o []) tokens tokens
 none_begins o t tokens rest is none =
     no_action o tokens (ap (λ (l : List Token). is_action (first_of l)) is ∙ none_begins_with t none)
+
+-- a token that begins an action
+beginning_is : (t u : Token) → Some u ≡ beginning_of t → t ≡ u
+beginning_is (word if_word) u is = same_inside (sym is)
+beginning_is (word termite_leave) u is = same_inside (sym is)
+beginning_is (word return_word) u is = same_inside (sym is)
+beginning_is (task k) u is = same_inside (sym is)
+beginning_is (label k) u is = same_inside (sym is)
+beginning_is _ u is = absurd (cc)
+
+pub begins_with : (t u : Token) (tokens rest : List Token) → tokens ≡ t ∷ rest → Some u ≡ beginning_of t →
+    tokens ≡ u ∷ rest
+begins_with t u tokens rest is begins = is ∙ ap (λ (v : Token). v ∷ rest) (beginning_is t u begins)
+
+pub begun_read : (o : ℕ) (t u : Token) (a : ActionTree) (tokens rest after : List Token) → tokens ≡ t ∷ rest →
+    Some u ≡ beginning_of t → IsAction o (u ∷ []) a rest after → IsAction o [] a tokens after
+begun_read o t u a tokens rest after is begins s =
+    from_first o u a tokens rest after (begins_with t u tokens rest is begins) s
+
+pub begun_refused : (o : ℕ) (t u : Token) (tokens rest : List Token) (e : Stop) → tokens ≡ t ∷ rest →
+    Some u ≡ beginning_of t → IsRefused (IsAction o (u ∷ [])) rest e → IsRefused (IsAction o []) tokens e
+begun_refused o t u tokens rest e is begins h =
+    refused_behind (moved_first o u tokens rest (begins_with t u tokens rest is begins)) e h
 
 -- one `if` too many
 in_test : (o : ℕ) (a : ActionTree) (rest : List Token) → ActionInRange o a →

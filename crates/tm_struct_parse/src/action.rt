@@ -1,14 +1,17 @@
 //! Readers of what functions do.
 ghost use Rattle.std.specs.Prelude.{◌≡◌, ◌<◌, ℕ, [], ◌∷◌, length, IfOk, IfErr};
 ghost use Rattle.std.specs.Option.{option_map};
+ghost use Rattle.tm_cir.specs.View.{truth_tree};
 ghost use Rattle.tm_cir.specs.Text.Token.{word, label, task, if_word, termite_leave, return_word};
 ghost use Rattle.tm_cparse.specs.View.{token_tree, tokens_of};
 ghost use Rattle.tm_cparse.specs.Inner.Reading.{IsRefused};
+ghost use Rattle.tm_struct.specs.Tree.{choose};
 ghost use Rattle.tm_struct_parse.specs.View.{draft_tree};
 ghost use Rattle.tm_struct_parse.specs.Inner.Forms.{IsAction, IsBlock, first_token, beginning_of};
 
 use crate::draft::Draft;
-use std::alloc::Global;
+use std::alloc::{AllocError, Global};
+use tm_cir::Truth;
 use tm_cparse::call::arguments;
 use tm_cparse::expression::truth;
 use tm_cparse::spot::{Read, Spot, Stop, constant, need, need_sign, parted};
@@ -81,9 +84,18 @@ fn test(alloc: Global, open_ifs: u32, spots: &[Spot]) -> Read<'_, Draft>
     let (first, rest) = block(alloc, open_ifs + 1, rest)?;
     let rest = need(rest, Token::Word(Word::Else))?;
     let (second, rest) = block(alloc, open_ifs + 1, rest)?;
+    let draft = choice(alloc, truth, first, second)?;
+    Ok((draft, rest))
+}
+
+/// What a test does, by its branches.
+fn choice(alloc: Global, truth: Truth, first: Draft, second: Draft) -> Result<Draft, AllocError>
+    ensures { IfOk result (λ draft.
+        draft_tree draft ≡ choose (truth_tree truth) (draft_tree first) (draft_tree second)) }
+{
     let first = Box::new(alloc, first)?;
     let second = Box::new(alloc, second)?;
-    Ok((Draft::If(truth, first, second), rest))
+    Ok(Draft::If(truth, first, second))
 }
 
 /// An action between braces.

@@ -1,6 +1,8 @@
 //! A structured driver as it is written, whatever it names.
 
 ghost use Rattle.std.specs.Prelude.{◌≡◌, All, map, IfOk};
+ghost use Rattle.tm_cir.specs.View.{truth_tree};
+ghost use Rattle.tm_struct.specs.Tree.{choose};
 ghost use Rattle.tm_struct.specs.View.{action_tree, action_trees, program_tree};
 ghost use Rattle.tm_struct_parse.specs.View.{draft_tree, named_tree, draft_program};
 ghost use Rattle.tm_struct_parse.specs.Inner.Bodies.{IsSmall, IsSmallFunction, action_of};
@@ -67,11 +69,21 @@ fn tree(alloc: Global, draft: Draft) -> Result<Tree, AllocError>
         Draft::If(truth, first, second) => {
             let first = tree(alloc, Box::into_inner(first))?;
             let second = tree(alloc, Box::into_inner(second))?;
-            Ok(Tree::If(truth, Box::new(alloc, first)?, Box::new(alloc, second)?))
+            test(alloc, truth, first, second)
         }
         Draft::Call(task, args) => Ok(Tree::Call(task, args)),
         Draft::Leave(process) => Ok(Tree::Leave(process as u32)),
         Draft::Go(number) => Ok(Tree::Go(number)),
         Draft::Idle => Ok(Tree::Idle),
     }
+}
+
+/// A test, by its branches.
+fn test(alloc: Global, truth: Truth, first: Tree, second: Tree) -> Result<Tree, AllocError>
+    ensures { IfOk result (λ tree.
+        action_tree tree ≡ choose (truth_tree truth) (action_tree first) (action_tree second)) }
+{
+    let first = Box::new(alloc, first)?;
+    let second = Box::new(alloc, second)?;
+    Ok(Tree::If(truth, first, second))
 }
