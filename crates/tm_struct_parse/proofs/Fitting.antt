@@ -1,10 +1,11 @@
 -- Drivers whose names the design has are well made over it, and the other way round.
-use Rattle.std.proofs.Common.{◌≡◌, ℕ, zero, suc, ◌+◌, ◌^◌, ◌<◌, ◌≤◌, Some, List, [], ◌∷◌, ◌++◌, map, length, All, slice_get, refl, sym, subst, arith}
+use Rattle.std.proofs.Common.{◌≡◌, ℕ, zero, suc, ◌+◌, Some, List, [], ◌∷◌, ◌++◌, map, length, All, slice_get, refl, sym, subst, arith}
 use Rattle.std.proofs.lemmas.List.{length-map}
 use Rattle.std.proofs.lemmas.List.Elements.{All-nil, All-cons, All-head, All-tail}
 use Rattle.tm_syntax.specs.Design.{DesignTree}
 use Rattle.tm_cir.specs.Text.Token.{Token, word, sign, void, driver_turn, close_brace}
 use Rattle.tm_cir.specs.Text.Grammar.{truth_tokens, argument_tokens}
+use Rattle.tm_cir.proofs.Text.Expressions.{same_inside}
 use Rattle.tm_cparse.specs.Faults.{HasNames}
 use Rattle.tm_cparse.proofs.Files.{truth_in_range, all_in_range}
 use Rattle.tm_cparse.proofs.Fitting.{AreGood, good_front, good_behind, truth_fits, arguments_fit}
@@ -64,14 +65,16 @@ functions_fit : (d : DesignTree) (n : ℕ) (fs : List WrittenFunction) (rest : L
 functions_fit d n [] rest range right good k a is = absurd (cc)
 functions_fit d n (f ∷ fs) rest range right good zero a is =
     let whole = subst (AreGood d) (functions_text f fs rest) good in
-    let same : f.action ≡ a = cc in
+    let same : f.action ≡ a = same_inside is in
+    let first : n ≡ n + 0 = omega arith in
     subst (FitsAction d (n + 0)) same
-    (subst (λ (k : ℕ). FitsAction d k f.action) (omega arith)
+    (subst (λ (k : ℕ). FitsAction d k f.action) first
     (body_fits d n f.action (functions_tokens fs ++ rest) (All-head FunctionInRange f fs range) right.0.1
     whole.1.1.1))
 functions_fit d n (f ∷ fs) rest range right good (suc k) a is =
     let whole = subst (AreGood d) (functions_text f fs rest) good in
-    subst (λ (m : ℕ). FitsAction d m a) (omega arith)
+    let next : n + 1 + k ≡ n + suc k = omega arith in
+    subst (λ (m : ℕ). FitsAction d m a) next
     (functions_fit d (n + 1) fs rest (All-tail FunctionInRange f fs range) right.1
     (good_behind d (body_tokens f.action) (functions_tokens fs ++ rest) whole.1.1.1) k a is)
 
@@ -88,7 +91,8 @@ program_fits d p tokens written right good = record {
   main = subst (λ (k : ℕ). FitsAction d k p.main) (sym (length-map p.functions action_of))
       (main good_main);
   functions = λ k a is.
-      subst (λ (m : ℕ). FitsAction d m a) (omega arith)
+      let same : 0 + k ≡ k = omega arith in
+      subst (λ (m : ℕ). FitsAction d m a) same
       (functions_fit d 0 p.functions (word void ∷ word driver_turn ∷ body_tokens p.main) written.functions_in_range
       right.functions good k a is);
   main_nests = nests 0 p.main written.main_in_range;

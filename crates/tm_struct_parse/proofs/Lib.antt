@@ -16,5 +16,6 @@ pub mod Programs
 pub mod SameCut
 pub mod Scans
 pub mod Spelled
+pub mod Stuck
 pub mod TextCut
 pub mod Walks

@@ -1,4 +1,4 @@
-use Rattle.std.proofs.Common.{sym, ap, ◌∙◌, refl, arith, rules}
+use Rattle.std.proofs.Common.{arith, rules}
 use Rattle.tm_cir.specs.View.{truth_tree}
 use Rattle.tm_cir.specs.Text.Token.{word, label, task, if_word, termite_leave, return_word}
 use Rattle.tm_cparse.specs.View.{token_tree, tokens_of}
@@ -29,24 +29,30 @@ pub action-returns-then-open_ifs-lt-MOST_IFS-clause-taken : goal.action-returns-
 action-returns-then-open_ifs-lt-MOST_IFS-clause-taken t c =
     ok_map
     (λ r h.
-    begun_read c.args.open_ifs (token_tree c.in-Some.token) (word if_word) (draft_tree r.0) (tokens_of c.args.spots.now)
-    (tokens_of c.in-Some.rest.now) (tokens_of r.1.now) c.in-Some.ensures.whole (rw c.in-Some-Test.field-0-is at c.in-Some-Test.ensures) (h))
+    begun_read c.args.open_ifs (token_tree c.in-Some.token) (word if_word) (draft_tree r.0)
+    (tokens_of c.args.spots.now)
+    (tokens_of c.in-Some.rest.now) (tokens_of r.1.now) c.in-Some.ensures.whole
+    (rw c.in-Some-Test.field-0-is at c.in-Some-Test.ensures) h)
     c.test.result c.test.ensures.taken
 
-pub action-returns-then-open_ifs-lt-MOST_IFS-clause-refused : goal.action-returns-then-open_ifs-lt-MOST_IFS-clause-refused
+pub action-returns-then-open_ifs-lt-MOST_IFS-clause-refused :
+    goal.action-returns-then-open_ifs-lt-MOST_IFS-clause-refused
 action-returns-then-open_ifs-lt-MOST_IFS-clause-refused t c =
     err_map
     (λ e h.
     begun_refused c.args.open_ifs (token_tree c.in-Some.token) (word if_word) (tokens_of c.args.spots.now)
-    (tokens_of c.in-Some.rest.now) e c.in-Some.ensures.whole (rw c.in-Some-Test.field-0-is at c.in-Some-Test.ensures) (h))
+    (tokens_of c.in-Some.rest.now) e c.in-Some.ensures.whole (rw c.in-Some-Test.field-0-is at c.in-Some-Test.ensures)
+    h)
     c.test.result c.test.ensures.refused
 
 pub action-returns-in-Some-Call-clause-taken : goal.action-returns-in-Some-Call-clause-taken
 action-returns-in-Some-Call-clause-taken t c =
     ok_map
     (λ r h.
-    begun_read c.args.open_ifs (token_tree c.in-Some.token) (task c.in-Some-Call.task) (draft_tree r.0) (tokens_of c.args.spots.now)
-    (tokens_of c.in-Some.rest.now) (tokens_of r.1.now) c.in-Some.ensures.whole (rw c.in-Some-Call.field-0-is at c.in-Some-Call.ensures) (h c.args.open_ifs))
+    begun_read c.args.open_ifs (token_tree c.in-Some.token) (task c.in-Some-Call.task) (draft_tree r.0)
+    (tokens_of c.args.spots.now)
+    (tokens_of c.in-Some.rest.now) (tokens_of r.1.now) c.in-Some.ensures.whole
+    (rw c.in-Some-Call.field-0-is at c.in-Some-Call.ensures) (h c.args.open_ifs))
     c.call.result c.call.ensures.taken
 
 pub action-returns-in-Some-Call-clause-refused : goal.action-returns-in-Some-Call-clause-refused
@@ -54,15 +60,18 @@ action-returns-in-Some-Call-clause-refused t c =
     err_map
     (λ e h.
     begun_refused c.args.open_ifs (token_tree c.in-Some.token) (task c.in-Some-Call.task) (tokens_of c.args.spots.now)
-    (tokens_of c.in-Some.rest.now) e c.in-Some.ensures.whole (rw c.in-Some-Call.field-0-is at c.in-Some-Call.ensures) (h c.args.open_ifs))
+    (tokens_of c.in-Some.rest.now) e c.in-Some.ensures.whole (rw c.in-Some-Call.field-0-is at c.in-Some-Call.ensures)
+    (h c.args.open_ifs))
     c.call.result c.call.ensures.refused
 
 pub action-returns-in-Some-Leave-clause-taken : goal.action-returns-in-Some-Leave-clause-taken
 action-returns-in-Some-Leave-clause-taken t c =
     ok_map
     (λ r h.
-    begun_read c.args.open_ifs (token_tree c.in-Some.token) (word termite_leave) (draft_tree r.0) (tokens_of c.args.spots.now)
-    (tokens_of c.in-Some.rest.now) (tokens_of r.1.now) c.in-Some.ensures.whole (rw c.in-Some-Leave.field-0-is at c.in-Some-Leave.ensures) (h c.args.open_ifs))
+    begun_read c.args.open_ifs (token_tree c.in-Some.token) (word termite_leave) (draft_tree r.0)
+    (tokens_of c.args.spots.now)
+    (tokens_of c.in-Some.rest.now) (tokens_of r.1.now) c.in-Some.ensures.whole
+    (rw c.in-Some-Leave.field-0-is at c.in-Some-Leave.ensures) (h c.args.open_ifs))
     c.leave.result c.leave.ensures.taken
 
 pub action-returns-in-Some-Leave-clause-refused : goal.action-returns-in-Some-Leave-clause-refused
@@ -70,31 +79,38 @@ action-returns-in-Some-Leave-clause-refused t c =
     err_map
     (λ e h.
     begun_refused c.args.open_ifs (token_tree c.in-Some.token) (word termite_leave) (tokens_of c.args.spots.now)
-    (tokens_of c.in-Some.rest.now) e c.in-Some.ensures.whole (rw c.in-Some-Leave.field-0-is at c.in-Some-Leave.ensures) (h c.args.open_ifs))
+    (tokens_of c.in-Some.rest.now) e c.in-Some.ensures.whole
+    (rw c.in-Some-Leave.field-0-is at c.in-Some-Leave.ensures) (h c.args.open_ifs))
     c.leave.result c.leave.ensures.refused
 
 pub action-returns-in-Some-Go-clause-taken : goal.action-returns-in-Some-Go-clause-taken
 action-returns-in-Some-Go-clause-taken t c =
     ok_map
     (λ r h.
-    begun_read c.args.open_ifs (token_tree c.in-Some.token) (label c.in-Some-Go.number) (draft_tree r.0) (tokens_of c.args.spots.now)
-    (tokens_of c.in-Some.rest.now) (tokens_of r.1.now) c.in-Some.ensures.whole (rw c.in-Some-Go.field-0-is at c.in-Some-Go.ensures) (h c.args.open_ifs))
+    begun_read c.args.open_ifs (token_tree c.in-Some.token) (label c.in-Some-Go.number) (draft_tree r.0)
+    (tokens_of c.args.spots.now)
+    (tokens_of c.in-Some.rest.now) (tokens_of r.1.now) c.in-Some.ensures.whole
+    (rw c.in-Some-Go.field-0-is at c.in-Some-Go.ensures) (h c.args.open_ifs))
     c.go.result c.go.ensures.taken
 
 pub action-returns-in-Some-Go-clause-refused : goal.action-returns-in-Some-Go-clause-refused
 action-returns-in-Some-Go-clause-refused t c =
     err_map
     (λ e h.
-    begun_refused c.args.open_ifs (token_tree c.in-Some.token) (label c.in-Some-Go.number) (tokens_of c.args.spots.now)
-    (tokens_of c.in-Some.rest.now) e c.in-Some.ensures.whole (rw c.in-Some-Go.field-0-is at c.in-Some-Go.ensures) (h c.args.open_ifs))
+    begun_refused c.args.open_ifs (token_tree c.in-Some.token) (label c.in-Some-Go.number)
+    (tokens_of c.args.spots.now)
+    (tokens_of c.in-Some.rest.now) e c.in-Some.ensures.whole (rw c.in-Some-Go.field-0-is at c.in-Some-Go.ensures)
+    (h c.args.open_ifs))
     c.go.result c.go.ensures.refused
 
 pub action-returns-in-Some-Idle-clause-taken : goal.action-returns-in-Some-Idle-clause-taken
 action-returns-in-Some-Idle-clause-taken t c =
     ok_map
     (λ r h.
-    begun_read c.args.open_ifs (token_tree c.in-Some.token) (word return_word) (draft_tree r.0) (tokens_of c.args.spots.now)
-    (tokens_of c.in-Some.rest.now) (tokens_of r.1.now) c.in-Some.ensures.whole (rw c.in-Some-Idle.field-0-is at c.in-Some-Idle.ensures) (h c.args.open_ifs))
+    begun_read c.args.open_ifs (token_tree c.in-Some.token) (word return_word) (draft_tree r.0)
+    (tokens_of c.args.spots.now)
+    (tokens_of c.in-Some.rest.now) (tokens_of r.1.now) c.in-Some.ensures.whole
+    (rw c.in-Some-Idle.field-0-is at c.in-Some-Idle.ensures) (h c.args.open_ifs))
     c.idle.result c.idle.ensures.taken
 
 pub action-returns-in-Some-Idle-clause-refused : goal.action-returns-in-Some-Idle-clause-refused
@@ -102,7 +118,8 @@ action-returns-in-Some-Idle-clause-refused t c =
     err_map
     (λ e h.
     begun_refused c.args.open_ifs (token_tree c.in-Some.token) (word return_word) (tokens_of c.args.spots.now)
-    (tokens_of c.in-Some.rest.now) e c.in-Some.ensures.whole (rw c.in-Some-Idle.field-0-is at c.in-Some-Idle.ensures) (h c.args.open_ifs))
+    (tokens_of c.in-Some.rest.now) e c.in-Some.ensures.whole (rw c.in-Some-Idle.field-0-is at c.in-Some-Idle.ensures)
+    (h c.args.open_ifs))
     c.idle.result c.idle.ensures.refused
 
 -- ---- a test
@@ -113,20 +130,24 @@ test-returns-in_err-rest-clause-refused t c =
 
 pub test-returns-in_err-truth-clause-refused : goal.test-returns-in_err-truth-clause-refused
 test-returns-in_err-truth-clause-refused t c =
-    let h = test_no_truth c.args.open_ifs c.requires (tokens_of c.args.spots.now) (tokens_of c.in_ok-rest.rest.now) _ c.in_ok-rest.ensures.taken
+    let h = test_no_truth c.args.open_ifs c.requires (tokens_of c.args.spots.now)
+    (tokens_of c.in_ok-rest.rest.now) _ c.in_ok-rest.ensures.taken
     c.in_err-truth.ensures.refused in
     search rules
 
 pub test-returns-in_err-rest-2-clause-refused : goal.test-returns-in_err-rest-2-clause-refused
 test-returns-in_err-rest-2-clause-refused t c =
-    let h = test_no_close c.args.open_ifs c.requires (truth_tree c.in_ok-truth.truth) (tokens_of c.args.spots.now) (tokens_of c.in_ok-rest.rest.now)
+    let h = test_no_close c.args.open_ifs c.requires (truth_tree c.in_ok-truth.truth) (tokens_of c.args.spots.now)
+    (tokens_of c.in_ok-rest.rest.now)
     c.in_ok-truth.rest.now _ c.in_ok-rest.ensures.taken c.in_ok-truth.ensures.taken c.in_err-rest-2.ensures.refused in
     search rules
 
 pub test-returns-in_err-first-clause-refused : goal.test-returns-in_err-first-clause-refused
 test-returns-in_err-first-clause-refused t c =
-    let h = test_no_first c.args.open_ifs c.requires (truth_tree c.in_ok-truth.truth) (tokens_of c.args.spots.now) (tokens_of c.in_ok-rest.rest.now)
-    (tokens_of c.in_ok-truth.rest.now) (tokens_of c.in_ok-rest-2.rest.now) _ c.in_ok-rest.ensures.taken c.in_ok-truth.ensures.taken
+    let h = test_no_first c.args.open_ifs c.requires (truth_tree c.in_ok-truth.truth) (tokens_of c.args.spots.now)
+    (tokens_of c.in_ok-rest.rest.now)
+    (tokens_of c.in_ok-truth.rest.now)
+    (tokens_of c.in_ok-rest-2.rest.now) _ c.in_ok-rest.ensures.taken c.in_ok-truth.ensures.taken
     c.in_ok-rest-2.ensures.taken c.in_err-first.ensures.refused in
     search rules
 
@@ -134,22 +155,26 @@ pub test-returns-in_err-rest-3-clause-refused : goal.test-returns-in_err-rest-3-
 test-returns-in_err-rest-3-clause-refused t c =
     let h = test_no_else c.args.open_ifs c.requires (truth_tree c.in_ok-truth.truth) (draft_tree c.in_ok-first.first)
     (tokens_of c.args.spots.now) (tokens_of c.in_ok-rest.rest.now) (tokens_of c.in_ok-truth.rest.now)
-    (tokens_of c.in_ok-rest-2.rest.now) c.in_ok-first.rest.now _ c.in_ok-rest.ensures.taken c.in_ok-truth.ensures.taken
+    (tokens_of c.in_ok-rest-2.rest.now) c.in_ok-first.rest.now _ c.in_ok-rest.ensures.taken
+    c.in_ok-truth.ensures.taken
     c.in_ok-rest-2.ensures.taken c.in_ok-first.ensures.taken c.in_err-rest-3.ensures.refused in
     search rules
 
 pub test-returns-in_err-second-clause-refused : goal.test-returns-in_err-second-clause-refused
 test-returns-in_err-second-clause-refused t c =
-    let h = test_no_second c.args.open_ifs c.requires (truth_tree c.in_ok-truth.truth) (draft_tree c.in_ok-first.first)
+    let h = test_no_second c.args.open_ifs c.requires (truth_tree c.in_ok-truth.truth)
+    (draft_tree c.in_ok-first.first)
     (tokens_of c.args.spots.now) (tokens_of c.in_ok-rest.rest.now) (tokens_of c.in_ok-truth.rest.now)
-    (tokens_of c.in_ok-rest-2.rest.now) (tokens_of c.in_ok-first.rest.now) (tokens_of c.in_ok-rest-3.rest.now) _ c.in_ok-rest.ensures.taken
+    (tokens_of c.in_ok-rest-2.rest.now) (tokens_of c.in_ok-first.rest.now)
+    (tokens_of c.in_ok-rest-3.rest.now) _ c.in_ok-rest.ensures.taken
     c.in_ok-truth.ensures.taken c.in_ok-rest-2.ensures.taken c.in_ok-first.ensures.taken c.in_ok-rest-3.ensures.taken
     c.in_err-second.ensures.refused in
     search rules
 
 pub test-returns-clause-taken : goal.test-returns-clause-taken
 test-returns-clause-taken t c =
-    test_read c.args.open_ifs c.requires (truth_tree c.in_ok-truth.truth) (draft_tree c.in_ok-first.first) (draft_tree c.in_ok-second.second) _
+    test_read c.args.open_ifs c.requires (truth_tree c.in_ok-truth.truth) (draft_tree c.in_ok-first.first)
+    (draft_tree c.in_ok-second.second) _
     (tokens_of c.args.spots.now) (tokens_of c.in_ok-rest.rest.now) (tokens_of c.in_ok-truth.rest.now)
     (tokens_of c.in_ok-rest-2.rest.now) (tokens_of c.in_ok-first.rest.now) (tokens_of c.in_ok-rest-3.rest.now)
     (tokens_of c.in_ok-second.rest.now) c.in_ok-rest.ensures.taken c.in_ok-truth.ensures.taken
@@ -177,6 +202,7 @@ block-returns-in_err-rest-2-clause-refused t c =
 
 pub block-returns-clause-taken : goal.block-returns-clause-taken
 block-returns-clause-taken t c =
-    block_read c.args.open_ifs (draft_tree c.in_ok-draft.draft) (tokens_of c.args.spots.now) (tokens_of c.in_ok-rest.rest.now)
+    block_read c.args.open_ifs (draft_tree c.in_ok-draft.draft) (tokens_of c.args.spots.now)
+    (tokens_of c.in_ok-rest.rest.now)
     (tokens_of c.in_ok-draft.rest.now) (tokens_of c.in_ok-rest-2.rest.now) c.in_ok-rest.ensures.taken
     c.in_ok-draft.ensures.taken c.in_ok-rest-2.ensures.taken

@@ -9,3 +9,8 @@ pub tree-requires : goal.tree-requires
 tree-requires c =
     part_small (drafted c.args.drafts.items) c.loop-named.drafts.items _ c.loop-named.trees.items
     c.in-Some.named c.loop-named.invariant c.in-Some.ensures.items
+
+pub loop-named-preserved : goal.loop-named-preserved
+loop-named-preserved c =
+    part_goes_on (drafted c.args.drafts.items) c.loop-named.drafts.items _ c.loop-named.trees.items _
+    c.in-Some.named c.in_ok-tree.tree c.loop-named.invariant (search rules) (search rules) c.in_ok-tree.ensures
