@@ -1,8 +1,8 @@
 -- What functions do, as forms: token by token and part by part.
-use Rattle.std.proofs.Common.{◌≡◌, ◌≢◌, ℕ, ◌+◌, ◌<◌, Bool, true, false, Option, None, Some, List, [], ◌∷◌, ◌++◌, All, refl, sym, ap, ◌∙◌, subst, true≢false, append_assoc, lit<, arith}
+use Rattle.std.proofs.Common.{◌≡◌, ◌≢◌, ℕ, ◌+◌, ◌<◌, ◌≤◌, Bool, true, false, Option, None, Some, List, [], ◌∷◌, ◌++◌, refl, sym, ap, ◌∙◌, subst, true≢false, append_assoc, arith}
 use Rattle.std.proofs.lemmas.List.Elements.{All-nil}
 use Rattle.tm_cir.specs.Tree.{NumTree, TruthTree, num, goal}
-use Rattle.tm_cir.specs.Text.Token.{Token, word, label, task, constant, sign, void, driver_turn, if_word, else_word, return_word, termite_leave, termite_goal, open_parenthesis, close_parenthesis, open_brace, close_brace, semicolon}
+use Rattle.tm_cir.specs.Text.Token.{Token, word, label, task, constant, sign, if_word, else_word, return_word, termite_leave, termite_goal, open_parenthesis, close_parenthesis, open_brace, close_brace, semicolon}
 use Rattle.tm_cir.specs.Text.Grammar.{truth_tokens, argument_tokens}
 use Rattle.tm_cir.proofs.Text.Expressions.{same_inside, same_truth}
 use Rattle.tm_cparse.specs.declared.part.Sort.TheVariants.{Truth}
@@ -18,7 +18,7 @@ use Rattle.tm_cparse.proofs.Moves.{moves_one, moves_then, blocked_here}
 use Rattle.tm_struct.specs.Tree.{ActionTree, choose, call, leave, go, idle}
 use Rattle.tm_struct.specs.Fit.{most_ifs}
 use Rattle.tm_struct.specs.Text.Grammar.{braced, action_tokens}
-use Rattle.tm_struct.proofs.Grammar.{same_action, same_arguments, call_is, regroup}
+use Rattle.tm_struct.proofs.Grammar.{same_action, same_arguments, regroup}
 use Rattle.tm_struct_parse.specs.Written.{ActionInRange}
 use Rattle.tm_struct_parse.specs.Inner.Forms.{IsAction, IsBlock, beginning_of}
 use Rattle.tm_struct_parse.proofs.Forms.{Then, Part, Done, Ends, done_ends, then_ends, part_ends, then_moves, then_refused, IsOnly, part_moves, part_refused, refused_behind, refused_as}
@@ -49,16 +49,16 @@ abbrev pub some_block : List Token
 some_block = begin_mark ∷ word return_word ∷ stop_mark ∷ end_mark ∷ []
 
 truth_ends : Ends (word termite_goal ∷ []) (IsExpression Truth)
-truth_ends behind = (num goal, record { fits = (tt, tt); are = refl })
+truth_ends = record { at = λ behind. (num goal, record { fits = (tt, tt); are = refl }) }
 
 pub block_ends : (o : ℕ) → Ends (begin_mark ∷ word return_word ∷ stop_mark ∷ end_mark ∷ []) (IsBlock o)
-block_ends o behind = (idle, record { in_range = tt; are = refl })
+block_ends o = record { at = λ behind. (idle, record { in_range = tt; are = refl }) }
 
 pub action_ends : (o : ℕ) → Ends (word return_word ∷ stop_mark ∷ []) (IsAction o [])
-action_ends o behind = (idle, record { in_range = tt; are = refl })
+action_ends o = record { at = λ behind. (idle, record { in_range = tt; are = refl }) }
 
 pub arguments_end : Ends (close_mark ∷ []) AreArguments
-arguments_end behind = ([], record { in_range = All-nil NumInRange; are = refl })
+arguments_end = record { at = λ behind. ([], record { in_range = All-nil NumInRange; are = refl }) }
 
 -- a truth value, a block and arguments are told by their tokens
 pub truth_only : (t : TruthTree) (tokens rest : List Token) → IsExpression Truth t tokens rest →
@@ -118,7 +118,7 @@ pub record IsConstant (n : ℕ) (tokens rest : List Token) : Type 0 where
   pub are : tokens ≡ constant n ∷ rest
 
 pub constant_ends : Ends (constant 0 ∷ []) IsConstant
-constant_ends behind = (0, record { are = refl })
+constant_ends = record { at = λ behind. (0, record { are = refl }) }
 
 pub constant_only : (n : ℕ) (tokens rest : List Token) → tokens ≡ constant n ∷ rest → IsOnly IsConstant n tokens rest
 constant_only n tokens rest is = record {
@@ -134,7 +134,7 @@ constant_only n tokens rest is = record {
 pub constant_refused : (spots : List Spot) (e : Stop) → IsNoConstant spots e → IsRefused IsConstant (tokens_of spots) e
 constant_refused spots (Unexpected here) missing =
     subst (λ (l : List Spot). IsBlocked IsConstant (tokens_of spots) (tokens_of l)) (sym missing.0)
-    (blocked_here (constant 0 ∷ []) constant_ends
+    (blocked_here (constant 0 ∷ []) constant_ends.at
     (λ n other rest first is. missing.1 n (sym first ∙ ap first_of is.are)))
 constant_refused spots Memory missing = tt
 
@@ -169,7 +169,7 @@ starts idle rest = refl
 pub no_action : (o : ℕ) (tokens : List Token) → is_action (first_of tokens) ≡ false →
     IsBlocked (IsAction o []) tokens tokens
 no_action o tokens none =
-    blocked_here (word return_word ∷ stop_mark ∷ []) (action_ends o)
+    blocked_here (word return_word ∷ stop_mark ∷ []) (action_ends o).at
     (λ a other rest first is.
     true≢false
     (sym (starts a rest) ∙ ap (λ (l : List Token). is_action (first_of l)) (sym is.are) ∙ ap is_action first ∙ none))
@@ -225,7 +225,7 @@ in_test o idle rest range is = absurd (cc)
 pub too_deep : (o : ℕ) (tokens rest : List Token) → most_ifs ≤ o → tokens ≡ word if_word ∷ rest →
     IsBlocked (IsAction o []) tokens tokens
 too_deep o tokens rest deep is =
-    blocked_here (word return_word ∷ stop_mark ∷ []) (action_ends o)
+    blocked_here (word return_word ∷ stop_mark ∷ []) (action_ends o).at
     (λ a other after first s.
     let low = in_test o a after s.in_range (ap first_of (sym s.are) ∙ first ∙ ap first_of is) in omega (
       arith,
@@ -366,7 +366,7 @@ test_from o low x tokens rest f =
 module _ (o : ℕ) (low : o < most_ifs) where
   to_test : (tokens : List Token) (e : Stop) → IsRefused (test_form o) tokens e →
       IsRefused (IsAction o (word if_word ∷ [])) tokens e
-  to_test tokens e h = refused_as (λ x b c f. test_from o low x b c f) (λ x b c is. test_to o x b c is) e h
+  to_test tokens e h = refused_as tokens (λ x b c f. test_from o low x b c f) (λ x b c is. test_to o x b c is) e h
 
   pub test_no_open : (spots : List Spot) (e : Stop) → IsMissing open_mark spots e →
       IsRefused (IsAction o (word if_word ∷ [])) (tokens_of spots) e
@@ -377,7 +377,7 @@ module _ (o : ℕ) (low : o < most_ifs) where
       IsRefused (IsAction o (word if_word ∷ [])) a e
   test_no_truth a b e opens h =
       to_test a e
-      (refused_behind (then_moves open_mark a b opens) e (part_refused _ (behind_truth_ends o) b e h))
+      (refused_behind (then_moves open_mark a b opens) e (part_refused (IsExpression Truth) _ (behind_truth_ends o) b e h))
 
   to_truth : (t : TruthTree) (a b c : List Token) → a ≡ open_mark ∷ b → IsExpression Truth t b c →
       Moves (test_form o) (behind_truth o t) a c
@@ -402,7 +402,7 @@ module _ (o : ℕ) (low : o < most_ifs) where
       IsRefused (IsAction o (word if_word ∷ [])) a e
   test_no_first t a b c f e opens truth closes h =
       to_test a e
-      (refused_behind (to_first t a b c f opens truth closes) e (part_refused _ (behind_first_ends o t) f e h))
+      (refused_behind (to_first t a b c f opens truth closes) e (part_refused (IsBlock (o + 1)) _ (behind_first_ends o t) f e h))
 
   to_else : (t : TruthTree) (x : ActionTree) (a b c f g : List Token) → a ≡ open_mark ∷ b →
       IsExpression Truth t b c → c ≡ close_mark ∷ f → IsBlock (o + 1) x f g →
@@ -425,7 +425,7 @@ module _ (o : ℕ) (low : o < most_ifs) where
       to_test a e
       (refused_behind
       (moves_then (to_else t x a b c f g opens truth closes first) (then_moves (word else_word) g h word_is)) e
-      (part_refused _ (λ y. done_ends (choose t x y)) h e refused))
+      (part_refused (IsBlock (o + 1)) _ (λ y. done_ends (choose t x y)) h e refused))
 
   pub test_read : (t : TruthTree) (x y z : ActionTree) (a b c f g h rest : List Token) → a ≡ open_mark ∷ b →
       IsExpression Truth t b c → c ≡ close_mark ∷ f → IsBlock (o + 1) x f g → g ≡ word else_word ∷ h →

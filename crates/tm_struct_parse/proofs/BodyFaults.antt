@@ -9,7 +9,7 @@ use Rattle.tm_cparse.specs.declared.spot.Spot.{Spot}
 use Rattle.tm_cparse.specs.View.{token_tree, tokens_of}
 use Rattle.tm_cparse.specs.Inner.Fronts.{IsBehindInclude, IsNoInclude}
 use Rattle.tm_cparse.specs.Inner.Reading.{first_of}
-use Rattle.tm_cparse.proofs.BodyFaults.{IsAround, around}
+use Rattle.tm_cparse.proofs.BodyFaults.{around}
 use Rattle.tm_cparse.proofs.NameSteps.{not_low}
 use Rattle.tm_struct_parse.specs.declared.bad.BadStructured.{BadStructured}
 use Rattle.tm_struct_parse.specs.declared.bad.BadStructured.TheVariants.{TooLong, Text, UnknownName, ForwardCall}

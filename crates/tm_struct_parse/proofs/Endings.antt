@@ -1,5 +1,5 @@
 -- Actions between braces, calls, leaves and the end of a turn, as forms.
-use Rattle.std.proofs.Common.{◌≡◌, ℕ, ◌+◌, List, [], ◌∷◌, ◌++◌, refl, sym, ap, ◌∙◌, subst}
+use Rattle.std.proofs.Common.{◌≡◌, ℕ, List, [], ◌∷◌, ◌++◌, refl, sym, ap, ◌∙◌, subst}
 use Rattle.tm_cir.specs.Tree.{NumTree}
 use Rattle.tm_cir.specs.Text.Token.{Token, word, label, task, constant, return_word, termite_leave}
 use Rattle.tm_cir.specs.Text.Grammar.{argument_tokens}
@@ -48,7 +48,7 @@ block_from o a tokens rest f =
 
 module _ (o : ℕ) where
   to_block : (tokens : List Token) (e : Stop) → IsRefused (block_form o) tokens e → IsRefused (IsBlock o) tokens e
-  to_block tokens e h = refused_as (λ x b c f. block_from o x b c f) (λ x b c is. block_to o x b c is) e h
+  to_block tokens e h = refused_as tokens (λ x b c f. block_from o x b c f) (λ x b c is. block_to o x b c is) e h
 
   end_ends : (a : ActionTree) → Ends (end_mark ∷ []) (Then end_mark (Done a))
   end_ends a = then_ends end_mark [] (done_ends a)
@@ -62,7 +62,7 @@ module _ (o : ℕ) where
   pub block_no_action : (a b : List Token) (e : Stop) → a ≡ begin_mark ∷ b → IsRefused (IsAction o []) b e →
       IsRefused (IsBlock o) a e
   block_no_action a b e begins h =
-      to_block a e (refused_behind (then_moves begin_mark a b begins) e (part_refused _ end_ends b e h))
+      to_block a e (refused_behind (then_moves begin_mark a b begins) e (part_refused (IsAction o []) _ end_ends b e h))
 
   pub block_no_end : (x : ActionTree) (a b : List Token) (spots : List Spot) (e : Stop) → a ≡ begin_mark ∷ b →
       IsAction o [] x b (tokens_of spots) → IsMissing end_mark spots e → IsRefused (IsBlock o) a e
@@ -136,7 +136,7 @@ call_from o k x tokens rest f =
 module _ (o k : ℕ) where
   to_call : (tokens : List Token) (e : Stop) → IsRefused (call_form k) tokens e →
       IsRefused (IsAction o (task k ∷ [])) tokens e
-  to_call tokens e h = refused_as (λ x b c f. call_from o k x b c f) (λ x b c is. call_to o k x b c is) e h
+  to_call tokens e h = refused_as tokens (λ x b c f. call_from o k x b c f) (λ x b c is. call_to o k x b c is) e h
 
   stop_ends : (args : List NumTree) → Ends (stop_mark ∷ []) (Then stop_mark (Done (call k args)))
   stop_ends args = then_ends stop_mark [] (done_ends (call k args))
@@ -150,7 +150,7 @@ module _ (o k : ℕ) where
   pub call_no_arguments : (a b : List Token) (e : Stop) → a ≡ open_mark ∷ b → IsRefused AreArguments b e →
       IsRefused (IsAction o (task k ∷ [])) a e
   call_no_arguments a b e opens h =
-      to_call a e (refused_behind (then_moves open_mark a b opens) e (part_refused _ stop_ends b e h))
+      to_call a e (refused_behind (then_moves open_mark a b opens) e (part_refused AreArguments _ stop_ends b e h))
 
   pub call_no_stop : (args : List NumTree) (a b : List Token) (spots : List Spot) (e : Stop) → a ≡ open_mark ∷ b →
       AreArguments args b (tokens_of spots) → IsMissing stop_mark spots e → IsRefused (IsAction o (task k ∷ [])) a e
@@ -222,7 +222,7 @@ leave_from o x tokens rest f =
 module _ (o : ℕ) where
   to_leave : (tokens : List Token) (e : Stop) → IsRefused leave_form tokens e →
       IsRefused (IsAction o (word termite_leave ∷ [])) tokens e
-  to_leave tokens e h = refused_as (λ x b c f. leave_from o x b c f) (λ x b c is. leave_to o x b c is) e h
+  to_leave tokens e h = refused_as tokens (λ x b c f. leave_from o x b c f) (λ x b c is. leave_to o x b c is) e h
 
   stop_leave : (p : ℕ) → Ends (stop_mark ∷ []) (Then stop_mark (Done (leave p)))
   stop_leave p = then_ends stop_mark [] (done_ends (leave p))
@@ -241,7 +241,7 @@ module _ (o : ℕ) where
   leave_no_process a spots e opens missing =
       to_leave a e
       (refused_behind (then_moves open_mark a (tokens_of spots) opens) e
-      (part_refused _ close_leave (tokens_of spots) e (constant_refused spots e missing)))
+      (part_refused IsConstant _ close_leave (tokens_of spots) e (constant_refused spots e missing)))
 
   to_process : (p : ℕ) (a b c : List Token) → a ≡ open_mark ∷ b → b ≡ constant p ∷ c →
       Moves leave_form (Then close_mark (Then stop_mark (Done (leave p)))) a c
@@ -323,7 +323,7 @@ go_from o k x tokens rest f =
 module _ (o k : ℕ) where
   to_go : (tokens : List Token) (e : Stop) → IsRefused (go_form k) tokens e →
       IsRefused (IsAction o (label k ∷ [])) tokens e
-  to_go tokens e h = refused_as (λ x b c f. go_from o k x b c f) (λ x b c is. go_to o k x b c is) e h
+  to_go tokens e h = refused_as tokens (λ x b c f. go_from o k x b c f) (λ x b c is. go_to o k x b c is) e h
 
   stop_go : Ends (stop_mark ∷ []) (Then stop_mark (Done (go k)))
   stop_go = then_ends stop_mark [] (done_ends (go k))
@@ -387,7 +387,7 @@ idle_from o x tokens rest f =
 pub idle_no_stop : (o : ℕ) (spots : List Spot) (e : Stop) → IsMissing stop_mark spots e →
     IsRefused (IsAction o (word return_word ∷ [])) (tokens_of spots) e
 idle_no_stop o spots e missing =
-    refused_as (λ x b c f. idle_from o x b c f) (λ x b c is. idle_to o x b c is) e
+    refused_as (tokens_of spots) (λ x b c f. idle_from o x b c f) (λ x b c is. idle_to o x b c is) e
     (then_refused stop_mark _ (done_ends idle) spots e missing)
 
 pub idle_read : (o : ℕ) (x : ActionTree) (a rest : List Token) → a ≡ stop_mark ∷ rest → x ≡ idle →

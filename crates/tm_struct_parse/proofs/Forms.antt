@@ -1,13 +1,13 @@
 -- Forms that are put together of tokens and of parts: what is left of them behind a token or a part, and where they are
 -- refused.
-use Rattle.std.proofs.Common.{◌≡◌, ◌≢◌, ℕ, Some, List, [], ◌∷◌, ◌++◌, refl, sym, ap, ◌∙◌, subst, append_assoc}
+use Rattle.std.proofs.Common.{◌≡◌, List, [], ◌∷◌, ◌++◌, refl, sym, ap, ◌∙◌, subst, append_assoc}
 use Rattle.tm_cir.specs.Text.Token.{Token}
 use Rattle.tm_cparse.specs.declared.spot.Spot.{Spot}
 use Rattle.tm_cparse.specs.declared.spot.Stop.{Stop}
 use Rattle.tm_cparse.specs.declared.spot.Stop.TheVariants.{Unexpected, Memory}
 use Rattle.tm_cparse.specs.View.{tokens_of}
 use Rattle.tm_cparse.specs.Inner.Reading.{first_of, IsBlocked, IsRefused, Moves, IsMissing}
-use Rattle.tm_cparse.proofs.Moves.{moves_one, moves_then, moves_blocked, blocked_here, blocked_as}
+use Rattle.tm_cparse.proofs.Moves.{moves_one, moves_blocked, blocked_here, blocked_as}
 
 -- a token, and then a form
 pub record Then {X : Type 0} (t : Token) (F : X → List Token → List Token → Type 0) (x : X) (tokens rest : List Token) :
@@ -30,31 +30,35 @@ pub record Done {X : Type 0} (y : X) (x : X) (tokens rest : List Token) : Type 0
   pub are : tokens ≡ rest
 
 -- these tokens complete a form
-abbrev pub Ends : {X : Type 0} → List Token → (X → List Token → List Token → Type 0) → Type 0
-Ends {X} more F = (behind : List Token) → (x : X) × F x (more ++ behind) behind
+pub record Ends {X : Type 0} (more : List Token) (F : X → List Token → List Token → Type 0) : Type 0 where
+  pub at : (behind : List Token) → (x : X) × F x (more ++ behind) behind
 
 pub done_ends : {X : Type 0} (y : X) → Ends [] (Done y)
-done_ends y behind = (y, record { same = refl; are = refl })
+done_ends y = record { at = λ behind. (y, record { same = refl; are = refl }) }
 
 pub then_ends : {X : Type 0} {F : X → List Token → List Token → Type 0} (t : Token) (more : List Token) →
     Ends more F → Ends (t ∷ more) (Then t F)
-then_ends t more end behind =
-    let one = end behind in (one.0, record { behind = more ++ behind; are = refl; form = one.1 })
+then_ends t more end = record {
+  at = λ behind.
+      let one = end.at behind in (one.0, record { behind = more ++ behind; are = refl; form = one.1 });
+}
 
 pub part_ends : {X Y : Type 0} {P : Y → List Token → List Token → Type 0}
     {F : Y → X → List Token → List Token → Type 0} (some more : List Token) → Ends some P →
     ((y : Y) → Ends more (F y)) → Ends (some ++ more) (Part P F)
-part_ends {P = P} {F = F} some more first others behind =
-    let one = first (more ++ behind) in
-    let two = others one.0 behind in (
-      two.0,
-      record {
-        part = one.0;
-        behind = more ++ behind;
-        is = subst (λ (l : List Token). P one.0 l (more ++ behind)) (sym (append_assoc some more behind)) one.1;
-        form = two.1;
-      },
-    )
+part_ends {P = P} {F = F} some more first others = record {
+  at = λ behind.
+      let one = first.at (more ++ behind) in
+      let two = (others one.0).at behind in (
+        two.0,
+        record {
+          part = one.0;
+          behind = more ++ behind;
+          is = subst (λ (l : List Token). P one.0 l (more ++ behind)) (sym (append_assoc some more behind)) one.1;
+          form = two.1;
+        },
+      );
+}
 
 same_tail : {t u : Token} {a b : List Token} → t ∷ a ≡ u ∷ b → a ≡ b
 same_tail e = cc
@@ -62,7 +66,7 @@ same_tail e = cc
 -- a token was taken
 pub then_moves : {X : Type 0} {F : X → List Token → List Token → Type 0} (t : Token) (tokens rest : List Token) →
     tokens ≡ t ∷ rest → Moves (Then t F) F tokens rest
-then_moves {F = F} t tokens rest is =
+then_moves {X = X} {F = F} t tokens rest is =
     subst (λ (l : List Token). Moves (Then t F) F l rest) (sym is)
     (moves_one t rest
     (λ x other after first form. tail x other after form)
@@ -78,7 +82,7 @@ pub then_refused : {X : Type 0} {F : X → List Token → List Token → Type 0}
     Ends more F → (spots : List Spot) (e : Stop) → IsMissing t spots e → IsRefused (Then t F) (tokens_of spots) e
 then_refused {F = F} t more end spots (Unexpected here) missing =
     subst (λ (l : List Spot). IsBlocked (Then t F) (tokens_of spots) (tokens_of l)) (sym missing.0)
-    (blocked_here (t ∷ more) (then_ends t more end)
+    (blocked_here (t ∷ more) (then_ends {F = F} t more end).at
     (λ x other rest first form. missing.1 (sym first ∙ ap first_of form.are)))
 then_refused t more end spots Memory missing = tt
 
@@ -110,23 +114,23 @@ part_moves {X} {Y} {P} {F} y tokens rest one = record {
         (subst (λ (l : List Token). F form.part x l after) same.1 form.form)
 
 -- the part is refused
-pub part_refused : {X Y : Type 0} {P : Y → List Token → List Token → Type 0}
+pub part_refused : {X Y : Type 0} (P : Y → List Token → List Token → Type 0)
     {F : Y → X → List Token → List Token → Type 0} (more : List Token) → ((y : Y) → Ends more (F y)) →
     (tokens : List Token) (e : Stop) → IsRefused P tokens e → IsRefused (Part P F) tokens e
-part_refused {P = P} {F = F} more end tokens (Unexpected here) h = record {
+part_refused P {F = F} more end tokens (Unexpected here) h = record {
   front = h.front;
   whole = h.whole;
   more = h.more ++ more;
   completes = λ behind.
       let one = h.completes (more ++ behind) in
-      let two = end one.0 behind in (
+      let two = (end one.0).at behind in (
         two.0,
         subst (λ (l : List Token). Part P F two.0 (h.front ++ l) behind) (sym (append_assoc h.more more behind))
             (record { part = one.0; behind = more ++ behind; is = one.1; form = two.1 }),
       );
   stuck = λ x other rest first form. h.stuck form.part other form.behind first form.is;
 }
-part_refused more end tokens Memory h = tt
+part_refused P more end tokens Memory h = tt
 
 -- what is left is refused, and so is the whole
 pub refused_behind : {X : Type 0} {Is Or : X → List Token → List Token → Type 0} {a b : List Token} → Moves Is Or a b →
@@ -135,8 +139,8 @@ refused_behind m (Unexpected here) h = moves_blocked m h
 refused_behind m Memory h = tt
 
 -- forms that are the same are refused alike
-pub refused_as : {X : Type 0} {Is Or : X → List Token → List Token → Type 0} {a : List Token} →
+pub refused_as : {X : Type 0} {Is Or : X → List Token → List Token → Type 0} (a : List Token) →
     ((x : X) (b c : List Token) → Is x b c → Or x b c) → ((x : X) (b c : List Token) → Or x b c → Is x b c) →
     (e : Stop) → IsRefused Is a e → IsRefused Or a e
-refused_as to from (Unexpected here) h = blocked_as to from h
-refused_as to from Memory h = tt
+refused_as a to from (Unexpected here) h = blocked_as to from h
+refused_as a to from Memory h = tt

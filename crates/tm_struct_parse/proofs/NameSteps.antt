@@ -1,5 +1,5 @@
 -- The walk over a driver's tokens that looks at what they name.
-use Rattle.std.proofs.Common.{◌≡◌, ◌⊎◌, ℕ, ◌+◌, ◌-◌, ◌^◌, ◌<◌, ◌≤◌, Bool, true, false, if◌then◌else◌, List, [], ◌∷◌, ◌++◌, length, refl, sym, ap, ◌∙◌, subst, arith}
+use Rattle.std.proofs.Common.{◌≡◌, ℕ, ◌+◌, ◌-◌, ◌^◌, ◌≤◌, Bool, true, false, if◌then◌else◌, List, [], ◌∷◌, ◌++◌, length, refl, sym, ap, subst, arith}
 use Rattle.tm_syntax.specs.Design.{DesignTree}
 use Rattle.tm_cir.specs.Tree.{NumTree}
 use Rattle.tm_cir.specs.Text.Token.{Token, word, label, variable, location, task, constant, sign, semicolon}

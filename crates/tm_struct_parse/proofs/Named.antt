@@ -1,9 +1,8 @@
 -- A text whose tokens are a driver with names that the design has is this driver.
-use Rattle.std.proofs.Common.{◌≡◌, ℕ, ◌<◌, ◌≤◌, Bool, List, [], map, length, All, IsTrue, refl, sym, ap, ◌∙◌, subst, arith}
+use Rattle.std.proofs.Common.{◌≡◌, ℕ, ◌≤◌, Bool, List, [], length, All, IsTrue, refl, sym, ap, ◌∙◌, subst, arith}
 use Rattle.std.proofs.lemmas.List.{length-map}
 use Rattle.tm_syntax.specs.Limits.{file_limit}
 use Rattle.tm_syntax.specs.Design.{DesignTree}
-use Rattle.tm_cir.specs.Text.Token.{Token}
 use Rattle.tm_cparse.specs.declared.spot.Spot.{Spot}
 use Rattle.tm_cparse.specs.View.{token_tree, tokens_of}
 use Rattle.tm_cparse.specs.Cut.{MayAllStand, Standing}
@@ -11,13 +10,12 @@ use Rattle.tm_cparse.specs.Inner.Names.{AreKnown}
 use Rattle.tm_cparse.proofs.DriverCut.{AreLow}
 use Rattle.tm_cparse.proofs.Fitting.{AreGood}
 use Rattle.tm_struct.specs.Tree.{ProgramTree}
-use Rattle.tm_struct.specs.Fit.{FitsProgram}
 use Rattle.tm_struct.specs.Text.Grammar.{program_tokens}
 use Rattle.tm_struct.specs.Text.Spelling.{AreTokens}
 use Rattle.tm_struct_parse.specs.Written.{WrittenProgram, written_tokens, AreWritten}
 use Rattle.tm_struct_parse.specs.Cut.{IsCut}
 use Rattle.tm_struct_parse.specs.Inner.Bodies.{IsFileBody, IsSmall, IsSmallFunction}
-use Rattle.tm_struct_parse.specs.Inner.Names.{place_after, first_place, AreRight}
+use Rattle.tm_struct_parse.specs.Inner.Names.{first_place, AreRight}
 use Rattle.tm_struct_parse.specs.Inner.Scanning.{IsScan}
 use Rattle.tm_struct_parse.proofs.Fitting.{program_fits, functions_small, main_small}
 use Rattle.tm_struct_parse.proofs.NameSteps.{places_few}

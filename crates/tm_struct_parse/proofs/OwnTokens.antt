@@ -1,5 +1,6 @@
 -- The token in front of a structured text: one of both sorts of texts, or one that this text alone has.
-use Rattle.std.proofs.Common.{◌≡◌, ◌↔◌, ℕ, ◌+◌, ◌<◌, ◌≤◌, Bool, true, false, IsTrue, None, Some, List, [], ◌∷◌, ◌++◌, length, take, drop, codes, refl, sym, ap, ◌∙◌, subst, true≢false, arith}
+use Rattle.std.proofs.Common.{◌≡◌, ◌↔◌, ℕ, Bool, true, false, IsTrue, Option, None, Some, List, [], ◌∷◌, length, take, drop, codes, refl, sym, ap, ◌∙◌, subst, true≢false, arith}
+use Rattle.std.specs.Prelude.{MatchOption}
 use Rattle.std.specs.Fmt.{decimal}
 use Rattle.std.specs.List.{prefix_len}
 use Rattle.std.proofs.lemmas.List.{take_at, take-append-drop, length-take}
@@ -14,7 +15,6 @@ use Rattle.tm_cparse.specs.View.{token_tree}
 use Rattle.tm_cparse.specs.Cut.{IsNumber, item_number, MayStand, BeginsNoBlank}
 use Rattle.tm_cparse.specs.Inner.Scanning as c
 use Rattle.tm_cparse.proofs.Cuts.{no_word_behind, ends_word, one_token}
-use Rattle.tm_struct.specs.Text.Spelling.{spelling}
 use Rattle.tm_struct_parse.specs.Cut.{IsFunctionName, IsSpelled, BeginsToken}
 use Rattle.tm_struct_parse.specs.Inner.Scanning.{is_common, IsOwnToken, IsNoOwnToken, BeginsNoOwnToken, IsNextSpot, IsNoSpot}
 use Rattle.tm_struct_parse.proofs.Spelled.{Sort, a_static, a_function, common, sort_of, is_common_token, spelled_some, from_common, to_common, own_apart, own_cut}
@@ -123,6 +123,15 @@ none_next open_count line text none no_own_token = record {
     stuck t bytes rest begins may true is =
         none.no_token t bytes rest (to_common (is_common_token t is) begins) may
     stuck t bytes rest begins may false own = no_own_token t bytes rest own begins
+
+-- the answer of a search for a token that structured text alone has
+pub own_answer : (d : DesignTree) (open_count line : ℕ) (text : List ℕ) (r : Option (Spot × ℕ)) →
+    c.IsNoSpot open_count line text →
+    MatchOption r (BeginsNoOwnToken text)
+    (λ found. (e : DesignTree) (n : ℕ) → IsNextSpot e n line text found.0 found.1) →
+    MatchOption r (IsNoSpot open_count line text) (λ found. IsNextSpot d open_count line text found.0 found.1)
+own_answer d open_count line text None none found = none_next open_count line text none found
+own_answer d open_count line text (Some spot) none found = found d open_count
 
 -- `static`
 pub static_is : (run : List ℕ) → run ≡ codes "static" → IsOwnToken run (word goto) true

@@ -1,9 +1,9 @@
 -- Functions whose tokens are right: their names are in order, and calls name earlier ones.
-use Rattle.std.proofs.Common.{◌≡◌, ℕ, ◌+◌, ◌-◌, ◌<◌, Bool, true, false, List, [], ◌∷◌, ◌++◌, map, length, refl, sym, ap, ap₂, ◌∙◌, subst, append_assoc, arith}
+use Rattle.std.proofs.Common.{◌≡◌, ℕ, ◌+◌, ◌<◌, Bool, true, false, List, [], ◌∷◌, ◌++◌, map, length, refl, sym, ap, ap₂, ◌∙◌, subst, append_assoc, arith}
 use Rattle.std.proofs.lemmas.List.{append-nil}
 use Rattle.tm_syntax.specs.Design.{DesignTree}
-use Rattle.tm_cir.specs.Tree.{NumTree, TruthTree}
-use Rattle.tm_cir.specs.Text.Token.{Token, word, label, task, constant, sign, void, driver_turn, if_word, else_word, return_word, termite_leave, open_parenthesis, close_parenthesis, open_brace, close_brace, semicolon}
+use Rattle.tm_cir.specs.Tree.{NumTree}
+use Rattle.tm_cir.specs.Text.Token.{Token, word, sign, void, driver_turn, else_word, open_parenthesis, close_parenthesis, open_brace, close_brace, semicolon}
 use Rattle.tm_cir.specs.Text.Grammar.{parenthesized, truth_tokens, argument_tokens}
 use Rattle.tm_cparse.specs.Faults.{TakesArguments}
 use Rattle.tm_cparse.specs.Inner.Names.{HaveArguments}

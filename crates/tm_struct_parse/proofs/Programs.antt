@@ -1,6 +1,6 @@
 -- Functions, `driver_turn` and drivers, as forms.
-use Rattle.std.proofs.Common.{◌≡◌, ◌≢◌, ℕ, ◌<◌, None, Some, List, [], ◌∷◌, ◌++◌, All, map, refl, sym, ap, ◌∙◌, subst, append_assoc}
-use Rattle.std.proofs.lemmas.List.{append-nil, map-append}
+use Rattle.std.proofs.Common.{◌≡◌, ◌≢◌, ℕ, Some, List, [], ◌∷◌, ◌++◌, All, refl, sym, ap, ◌∙◌, subst, append_assoc}
+use Rattle.std.proofs.lemmas.List.{append-nil}
 use Rattle.std.proofs.lemmas.List.Elements.{All-nil, All-cons, All-head, All-tail}
 use Rattle.tm_cir.specs.Text.Token.{Token, word, label, sign, void, driver_turn, open_parenthesis, close_parenthesis}
 use Rattle.tm_cparse.specs.declared.spot.Spot.{Spot}
@@ -8,12 +8,12 @@ use Rattle.tm_cparse.specs.declared.spot.Stop.{Stop}
 use Rattle.tm_cparse.specs.declared.spot.Stop.TheVariants.{Unexpected, Memory}
 use Rattle.tm_cparse.specs.View.{tokens_of}
 use Rattle.tm_cparse.specs.Inner.Reading.{first_of, IsBlocked, IsRefused, Moves, IsMissing, IsNoLabel}
-use Rattle.tm_cparse.proofs.Moves.{stays, moves_then, same_behind, blocked_here}
-use Rattle.tm_struct.specs.Tree.{ActionTree, idle}
+use Rattle.tm_cparse.proofs.Moves.{moves_then, same_behind, blocked_here}
+use Rattle.tm_struct.specs.Tree.{ActionTree}
 use Rattle.tm_struct.specs.Text.Spelling.{static_word, function}
 use Rattle.tm_struct.specs.Text.Grammar.{braced, action_tokens, body_tokens}
 use Rattle.tm_struct.proofs.Grammar.{same_body}
-use Rattle.tm_struct_parse.specs.Written.{WrittenFunction, functions_tokens, WrittenProgram, written_tokens, ActionInRange, FunctionInRange}
+use Rattle.tm_struct_parse.specs.Written.{WrittenFunction, functions_tokens, WrittenProgram, FunctionInRange}
 use Rattle.tm_struct_parse.specs.Inner.Forms.{IsBlock, IsBody, IsFunction, IsTurn, IsProgram, AreFunctions}
 use Rattle.tm_struct_parse.proofs.Forms.{Then, Part, Done, Ends, done_ends, then_ends, part_ends, then_moves, then_refused, IsOnly, part_moves, part_refused, refused_behind, refused_as}
 use Rattle.tm_struct_parse.proofs.Actions.{some_block, block_ends}
@@ -62,7 +62,7 @@ body_from a tokens rest f = record {
 }
 
 to_body : (tokens : List Token) (e : Stop) → IsRefused body_form tokens e → IsRefused IsBody tokens e
-to_body tokens e h = refused_as (λ x b c f. body_from x b c f) (λ x b c is. body_to x b c is) e h
+to_body tokens e h = refused_as tokens (λ x b c f. body_from x b c f) (λ x b c is. body_to x b c is) e h
 
 close_ends : Ends (close_mark ∷ some_block) (Then close_mark (IsBlock 0))
 close_ends = then_ends close_mark some_block (block_ends 0)
@@ -71,8 +71,9 @@ void_ends : Ends (word void ∷ close_mark ∷ some_block) (Then (word void) (Th
 void_ends = then_ends (word void) _ close_ends
 
 body_ends : Ends (open_mark ∷ word void ∷ close_mark ∷ some_block) IsBody
-body_ends behind =
-    let all = then_ends open_mark _ void_ends behind in (all.0, body_from all.0 _ _ all.1)
+body_ends = record {
+  at = λ behind. let all = (then_ends open_mark _ void_ends).at behind in (all.0, body_from all.0 _ _ all.1);
+}
 
 pub body_no_open : (spots : List Spot) (e : Stop) → IsMissing open_mark spots e → IsRefused IsBody (tokens_of spots) e
 body_no_open spots e missing = to_body (tokens_of spots) e (then_refused open_mark _ void_ends spots e missing)
@@ -138,15 +139,17 @@ turn_from a tokens rest f = record {
 }
 
 to_turn : (tokens : List Token) (e : Stop) → IsRefused turn_form tokens e → IsRefused IsTurn tokens e
-to_turn tokens e h = refused_as (λ x b c f. turn_from x b c f) (λ x b c is. turn_to x b c is) e h
+to_turn tokens e h = refused_as tokens (λ x b c f. turn_from x b c f) (λ x b c is. turn_to x b c is) e h
 
 turn_body_ends : Ends (word driver_turn ∷ open_mark ∷ word void ∷ close_mark ∷ some_block)
     (Then (word driver_turn) IsBody)
 turn_body_ends = then_ends (word driver_turn) _ body_ends
 
 turn_ends : Ends (word void ∷ word driver_turn ∷ open_mark ∷ word void ∷ close_mark ∷ some_block) IsTurn
-turn_ends behind =
-    let all = then_ends (word void) _ turn_body_ends behind in (all.0, turn_from all.0 _ _ all.1)
+turn_ends = record {
+  at = λ behind.
+      let all = (then_ends (word void) _ turn_body_ends).at behind in (all.0, turn_from all.0 _ _ all.1);
+}
 
 pub turn_no_void : (spots : List Spot) (e : Stop) → IsMissing (word void) spots e →
     IsRefused IsTurn (tokens_of spots) e
@@ -175,7 +178,7 @@ record IsName (k : ℕ) (tokens rest : List Token) : Type 0 where
   are : tokens ≡ label k ∷ rest
 
 name_ends : Ends (label 0 ∷ []) IsName
-name_ends behind = (0, record { are = refl })
+name_ends = record { at = λ behind. (0, record { are = refl }) }
 
 name_only : (k : ℕ) (tokens rest : List Token) → tokens ≡ label k ∷ rest → IsOnly IsName k tokens rest
 name_only k tokens rest is = record {
@@ -191,7 +194,7 @@ name_only k tokens rest is = record {
 name_refused : (spots : List Spot) (e : Stop) → IsNoLabel spots e → IsRefused IsName (tokens_of spots) e
 name_refused spots (Unexpected here) missing =
     subst (λ (l : List Spot). IsBlocked IsName (tokens_of spots) (tokens_of l)) (sym missing.0)
-    (blocked_here (label 0 ∷ []) name_ends
+    (blocked_here (label 0 ∷ []) name_ends.at
     (λ n other rest first is. missing.1 n (sym first ∙ ap first_of is.are)))
 name_refused spots Memory missing = tt
 
@@ -238,7 +241,7 @@ function_from f tokens rest g =
     })
 
 to_function : (tokens : List Token) (e : Stop) → IsRefused function_form tokens e → IsRefused IsFunction tokens e
-to_function tokens e h = refused_as (λ x b c f. function_from x b c f) (λ x b c is. function_to x b c is) e h
+to_function tokens e h = refused_as tokens (λ x b c f. function_from x b c f) (λ x b c is. function_to x b c is) e h
 
 named_ends : (k : ℕ) → Ends ((open_mark ∷ word void ∷ close_mark ∷ some_block) ++ []) (named_body k)
 named_ends k = part_ends _ [] body_ends (λ a. done_ends (written k a))
@@ -254,14 +257,14 @@ pub function_no_name : (a : List Token) (spots : List Spot) (e : Stop) → a ≡
 function_no_name a spots e is missing =
     to_function a e
     (refused_behind (then_moves (word void) a (tokens_of spots) is) e
-    (part_refused _ named_ends (tokens_of spots) e (name_refused spots e missing)))
+    (part_refused IsName _ named_ends (tokens_of spots) e (name_refused spots e missing)))
 
 pub function_no_body : (k : ℕ) (a b c : List Token) (e : Stop) → a ≡ word void ∷ b → b ≡ label k ∷ c →
     IsRefused IsBody c e → IsRefused IsFunction a e
 function_no_body k a b c e is name h =
     to_function a e
     (refused_behind (moves_then (then_moves (word void) a b is) (part_moves k b c (name_only k b c name))) e
-    (part_refused _ (λ x. done_ends (written k x)) c e h))
+    (part_refused IsBody _ (λ x. done_ends (written k x)) c e h))
 
 pub function_read : (f : WrittenFunction) (a b c rest : List Token) → a ≡ word void ∷ b → b ≡ label f.number ∷ c →
     IsBody f.action c rest → IsFunction f a rest
@@ -365,22 +368,24 @@ function_moved fs f a b c is function_is =
 -- a driver of which functions were read can end
 program_ends : (fs : List WrittenFunction) →
     Ends (word void ∷ word driver_turn ∷ open_mark ∷ word void ∷ close_mark ∷ some_block) (IsProgram fs)
-program_ends fs behind =
-    let turn = turn_ends behind in (
-      record { functions = fs; main = turn.0 },
-      record {
-        others = [];
-        whole = sym (append-nil fs);
-        functions_in_range = All-nil FunctionInRange;
-        main_in_range = turn.1.in_range;
-        are = turn.1.are;
-      },
-    )
+program_ends fs = record {
+  at = λ behind.
+      let turn = turn_ends.at behind in (
+        record { functions = fs; main = turn.0 },
+        record {
+          others = [];
+          whole = sym (append-nil fs);
+          functions_in_range = All-nil FunctionInRange;
+          main_in_range = turn.1.in_range;
+          are = turn.1.are;
+        },
+      );
+}
 
 pub function_refused : (fs : List WrittenFunction) (a b : List Token) (e : Stop) → a ≡ static_word ∷ b →
     IsRefused IsFunction b e → IsRefused (IsProgram fs) a e
 function_refused fs a b e is h =
-    refused_behind (static_moved fs a b is) e (part_refused _ (λ f. program_ends (fs ++ f ∷ [])) b e h)
+    refused_behind (static_moved fs a b is) e (part_refused IsFunction _ (λ f. program_ends (fs ++ f ∷ [])) b e h)
 
 -- where no function follows, `driver_turn` does
 turn_of : (fs : List WrittenFunction) (p : WrittenProgram) (ts rest : List Token) → first_of ts ≢ Some static_word →

@@ -1,6 +1,6 @@
 -- What the tokens of structured text are spelled as: those of both sorts of texts as there, and `static` and the names
 -- of functions, which this text alone has.
-use Rattle.std.proofs.Common.{◌≡◌, ◌⊎◌, inl, inr, ℕ, ◌^◌, ◌<◌, ◌≤◌, Bool, true, false, Some, ◌==◌, List, [], ◌∷◌, ◌++◌, length, take, drop, codes, refl, sym, ap, ◌∙◌, subst, true≢false, arith}
+use Rattle.std.proofs.Common.{◌≡◌, ◌⊎◌, inl, inr, ℕ, ◌^◌, ◌<◌, ◌≤◌, true, false, Some, ◌==◌, List, [], ◌∷◌, ◌++◌, length, take, drop, codes, refl, sym, ap, ◌∙◌, subst, true≢false, arith}
 use Rattle.std.specs.Fmt.{decimal}
 use Rattle.std.specs.List.{list_all, prefix_len}
 use Rattle.std.specs.Str.Parse.{digits_value}
@@ -14,7 +14,7 @@ use Rattle.tm_cir.specs.declared.block.NumOperator.TheVariants as numbers
 use Rattle.tm_base.specs.declared.shift_operator.ShiftOperator.TheVariants.{Left, Right}
 use Rattle.tm_cir.specs.declared.block.Comparison.TheVariants.{Equal, NotEqual, Less, LessEqual, Greater, GreaterEqual}
 use Rattle.tm_cir.specs.declared.block.Junction.TheVariants as truths
-use Rattle.tm_cir.specs.Text.Token.{Word, void, driver_turn, if_word, else_word, goto, return_word, termite_leave, termite_goal, termite_last, Sign, open_parenthesis, close_parenthesis, open_brace, close_brace, colon, semicolon, comma, question, tilde, bang, arithmetic, shifting, comparing, joining, Token, word, label, variable, location, task, constant, sign}
+use Rattle.tm_cir.specs.Text.Token.{void, driver_turn, if_word, else_word, goto, return_word, termite_leave, termite_goal, termite_last, Sign, open_parenthesis, close_parenthesis, open_brace, close_brace, colon, semicolon, comma, question, tilde, bang, arithmetic, shifting, comparing, joining, Token, word, label, variable, location, task, constant, sign}
 use Rattle.tm_cir.specs.Text.Spelling.{sign_text, token_text, token_number}
 use Rattle.tm_cir.proofs.Text.Expressions.{same_inside}
 use Rattle.tm_cparse.specs.Cut.{IsNumber, item_number}
@@ -26,7 +26,7 @@ use Rattle.tm_cparse.proofs.Numbers.{spelled_decimal}
 use Rattle.tm_cparse.proofs.Spelled.{IsLow, HasFirst, decimal_number, item_value}
 use Rattle.tm_cparse.proofs.Spelled as c_spelled
 use Rattle.tm_struct.specs.Text.Spelling.{spelling}
-use Rattle.tm_struct_parse.specs.Cut.{IsFunctionName, IsSpelled, BeginsToken}
+use Rattle.tm_struct_parse.specs.Cut.{IsSpelled, BeginsToken}
 use Rattle.tm_struct_parse.specs.Inner.Scanning.{is_common}
 
 -- a token of both sorts of texts
@@ -277,6 +277,9 @@ both_functions {text} {bytes} {others} {rest} {behind} {k} {m} one other =
     tail : {a b : ℕ} {xs ys : List ℕ} → a ∷ xs ≡ b ∷ ys → xs ≡ ys
     tail e = cc
 
+first_letter : {a b : ℕ} {xs ys : List ℕ} → a ∷ xs ≡ b ∷ ys → a ≡ b
+first_letter e = cc
+
 -- a text begins with one token
 pub one_token : (t u : Token) (text bytes others rest behind : List ℕ) → BeginsToken text t bytes rest →
     BeginsToken text u others behind → (t ≡ u) × (bytes ≡ others) × (rest ≡ behind)
@@ -302,13 +305,13 @@ one_token t u text bytes others rest behind one other = of (sort_of t) (sort_of 
     of a_static (a_function k) one other =
         let wrong : 115 ∷ (codes "tatic" ++ rest) ≡ 98 ∷ (other.spelled.digits ++ behind) =
         sym (static_front one) ∙ function_front other in
-        absurd (cc)
+        absurd (omega (arith, first_letter wrong))
     of a_static (common both) one other =
         turned both other (codes "tatic" ++ rest) 115 (static_front one) (inr refl)
     of (a_function k) a_static one other =
         let wrong : 98 ∷ (one.spelled.digits ++ rest) ≡ 115 ∷ (codes "tatic" ++ behind) =
         sym (function_front one) ∙ static_front other in
-        absurd (cc)
+        absurd (omega (arith, first_letter wrong))
     of (a_function k) (a_function m) one other = both_functions one other
     of (a_function k) (common both) one other =
         turned both other (one.spelled.digits ++ rest) 98 (function_front one) (inl refl)

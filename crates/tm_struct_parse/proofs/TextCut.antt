@@ -1,5 +1,5 @@
 -- The tokens of a structured text are its cut, with known names.
-use Rattle.std.proofs.Common.{◌≡◌, ℕ, ◌+◌, ◌<◌, ◌≤◌, true, List, [], ◌∷◌, length, refl, sym, ap, ap₂, ◌∙◌, subst, length-append, arith}
+use Rattle.std.proofs.Common.{◌≡◌, ℕ, ◌<◌, ◌≤◌, true, List, [], ◌∷◌, length, refl, sym, ap, ap₂, ◌∙◌, subst, length-append, arith}
 use Rattle.tm_syntax.specs.Design.{DesignTree}
 use Rattle.tm_cir.specs.Text.Token.{Token, word, label, variable, location, task, constant, sign}
 use Rattle.tm_cparse.specs.declared.spot.Spot.{Spot}
@@ -18,7 +18,7 @@ use Rattle.tm_struct_parse.specs.declared.names.Before.TheVariants.{Void, Leave,
 use Rattle.tm_struct_parse.specs.declared.names.TokenPlace.{TokenPlace}
 use Rattle.tm_struct_parse.specs.Cut.{BeginsToken, IsCut}
 use Rattle.tm_struct_parse.specs.Cut as cuts
-use Rattle.tm_struct_parse.specs.Inner.Names.{begun_behind, functions_behind, callable_at, place_behind, place_after, IsRightName, IsRight, AreRight}
+use Rattle.tm_struct_parse.specs.Inner.Names.{place_behind, place_after, IsRightName, IsRight, AreRight}
 use Rattle.tm_struct_parse.proofs.NameSteps.{places_grow, callable_few}
 use Rattle.tm_struct_parse.proofs.Spelled.{spelled, named, number_small, good, text_some}
 

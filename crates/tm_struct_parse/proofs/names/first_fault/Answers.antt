@@ -1,7 +1,4 @@
 use Rattle.tm_struct_parse.proofs.Placed.{written_have}
-use Rattle.tm_struct_parse.proofs.BodyFaults.{text_fault}
-use Rattle.tm_struct_parse.proofs.OneFault.{answers_program}
-use Rattle.tm_struct_parse.proofs.Named.{named_body}
 use Rattle.tm_struct_parse.proofs.names.first_fault.Goals as goal
 
 pub fault_within-requires : goal.fault_within-requires

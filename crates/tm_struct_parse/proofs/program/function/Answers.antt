@@ -1,6 +1,5 @@
-use Rattle.std.proofs.Common.{refl, rules}
+use Rattle.std.proofs.Common.{rules}
 use Rattle.tm_cparse.specs.View.{tokens_of}
-use Rattle.tm_struct_parse.specs.View.{draft_tree}
 use Rattle.tm_struct_parse.proofs.Programs.{function_no_void, function_no_name, function_no_body, function_read}
 use Rattle.tm_struct_parse.proofs.program.function.Goals as goal
 

@@ -1,6 +1,5 @@
 use Rattle.std.proofs.Common.{rules}
 use Rattle.tm_syntax.specs.Design.View.{design_tree}
-use Rattle.tm_struct.specs.View.{program_tree}
 use Rattle.tm_struct_parse.specs.View.{draft_program}
 use Rattle.tm_struct_parse.proofs.BodyFaults.{text_fault, named_fault}
 use Rattle.tm_struct_parse.proofs.Named.{named_is, named_functions_small, named_main_small, named_body, made_body}
