@@ -1,5 +1,5 @@
 use Rattle.std.proofs.Common.{rules}
-use Rattle.tm_struct_parse.proofs.Popped.{drafted, part_begins, part_small, part_goes_on, part_ends}
+use Rattle.tm_struct_parse.proofs.Popped.{drafted, part_begins, part_small, part_goes_on}
 use Rattle.tm_struct_parse.proofs.draft.trees.Goals as goal
 
 pub loop-named-init : goal.loop-named-init
@@ -13,4 +13,4 @@ tree-requires c =
 pub loop-named-preserved : goal.loop-named-preserved
 loop-named-preserved c =
     part_goes_on (drafted c.args.drafts.items) c.loop-named.drafts.items _ c.loop-named.trees.items _
-    c.in-Some.named c.in_ok-tree.tree c.loop-named.invariant (search rules) (search rules) c.in_ok-tree.ensures
+    c.in-Some.named c.in_ok-tree.field-0 c.loop-named.invariant (search rules) (search rules) c.in_ok-tree.ensures
