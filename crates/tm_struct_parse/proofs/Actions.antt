@@ -1,5 +1,5 @@
 -- What functions do, as forms: token by token and part by part.
-use Rattle.std.proofs.Common.{◌≡◌, ◌≢◌, ℕ, ◌+◌, ◌<◌, ◌≤◌, Bool, true, false, Option, None, Some, List, [], ◌∷◌, ◌++◌, refl, sym, ap, ◌∙◌, subst, true≢false, append_assoc, arith}
+use Rattle.std.proofs.Common.{◌≡◌, ◌≢◌, ℕ, ◌<◌, ◌≤◌, Bool, true, false, Option, None, Some, List, [], ◌∷◌, ◌++◌, refl, sym, ap, ◌∙◌, subst, true≢false, append_assoc, arith}
 use Rattle.std.proofs.lemmas.List.Elements.{All-nil}
 use Rattle.tm_cir.specs.Tree.{NumTree, TruthTree, num, goal}
 use Rattle.tm_cir.specs.Text.Token.{Token, word, label, task, constant, sign, if_word, else_word, return_word, termite_leave, termite_goal, open_parenthesis, close_parenthesis, open_brace, close_brace, semicolon}
@@ -11,17 +11,17 @@ use Rattle.tm_cparse.specs.declared.spot.Stop.{Stop}
 use Rattle.tm_cparse.specs.declared.spot.Stop.TheVariants.{Unexpected, Memory}
 use Rattle.tm_cparse.specs.View.{tokens_of}
 use Rattle.tm_cparse.specs.Written.{NumInRange}
-use Rattle.tm_cparse.specs.Inner.Reading.{first_of, IsBlocked, IsRefused, Moves, IsMissing, IsNoConstant}
+use Rattle.tm_cparse.specs.Inner.Reading.{first_of, IsBlocked, IsRefused, Moves, IsNoConstant}
 use Rattle.tm_cparse.specs.Inner.Parts.{IsExpression}
 use Rattle.tm_cparse.specs.Inner.Statements.{AreArguments}
-use Rattle.tm_cparse.proofs.Moves.{moves_one, moves_then, blocked_here}
+use Rattle.tm_cparse.proofs.Moves.{moves_one, blocked_here}
 use Rattle.tm_struct.specs.Tree.{ActionTree, choose, call, leave, go, idle}
 use Rattle.tm_struct.specs.Fit.{most_ifs}
 use Rattle.tm_struct.specs.Text.Grammar.{braced, action_tokens}
 use Rattle.tm_struct.proofs.Grammar.{same_action, same_arguments, regroup}
 use Rattle.tm_struct_parse.specs.Written.{ActionInRange}
 use Rattle.tm_struct_parse.specs.Inner.Forms.{IsAction, IsBlock, beginning_of}
-use Rattle.tm_struct_parse.proofs.Forms.{Then, Part, Done, Ends, done_ends, then_ends, part_ends, then_moves, then_refused, IsOnly, part_moves, part_refused, refused_behind, refused_as}
+use Rattle.tm_struct_parse.proofs.Forms.{Ends, IsOnly, refused_behind}
 
 abbrev pub open_mark : Token
 open_mark = sign open_parenthesis
@@ -42,13 +42,10 @@ pub same_tail : {t u : Token} {a b : List Token} → t ∷ a ≡ u ∷ b → a �
 same_tail e = cc
 
 -- the shortest truth value, action and block
-abbrev some_truth : List Token
-some_truth = word termite_goal ∷ []
-
 abbrev pub some_block : List Token
 some_block = begin_mark ∷ word return_word ∷ stop_mark ∷ end_mark ∷ []
 
-truth_ends : Ends (word termite_goal ∷ []) (IsExpression Truth)
+pub truth_ends : Ends (word termite_goal ∷ []) (IsExpression Truth)
 truth_ends = record { at = λ behind. (num goal, record { fits = (tt, tt); are = refl }) }
 
 pub block_ends : (o : ℕ) → Ends (begin_mark ∷ word return_word ∷ stop_mark ∷ end_mark ∷ []) (IsBlock o)
@@ -233,60 +230,7 @@ too_deep o tokens rest deep is =
       deep,
     ))
 
--- a test behind its `if`
-abbrev pub second_branch : ℕ → TruthTree → ActionTree → ActionTree → List Token → List Token → Type 0
-second_branch o t a = Part (IsBlock (o + 1)) (λ b. Done (choose t a b))
-
-abbrev pub behind_first : ℕ → TruthTree → ActionTree → ActionTree → List Token → List Token → Type 0
-behind_first o t a = Then (word else_word) (second_branch o t a)
-
-abbrev pub first_branch : ℕ → TruthTree → ActionTree → List Token → List Token → Type 0
-first_branch o t = Part (IsBlock (o + 1)) (behind_first o t)
-
-abbrev pub behind_truth : ℕ → TruthTree → ActionTree → List Token → List Token → Type 0
-behind_truth o t = Then close_mark (first_branch o t)
-
-abbrev pub condition : ℕ → ActionTree → List Token → List Token → Type 0
-condition o = Part (IsExpression Truth) (behind_truth o)
-
-abbrev pub test_form : ℕ → ActionTree → List Token → List Token → Type 0
-test_form o = Then open_mark (condition o)
-
--- what completes a test
-abbrev end_1 : List Token
-end_1 = some_block
-
-abbrev end_2 : List Token
-end_2 = word else_word ∷ some_block
-
-abbrev end_3 : List Token
-end_3 = some_block ++ end_2
-
-abbrev end_4 : List Token
-end_4 = close_mark ∷ end_3
-
-abbrev end_5 : List Token
-end_5 = some_truth ++ end_4
-
-second_ends : (o : ℕ) (t : TruthTree) (a : ActionTree) → Ends (some_block ++ []) (second_branch o t a)
-second_ends o t a = part_ends some_block [] (block_ends (o + 1)) (λ b. done_ends (choose t a b))
-
-behind_first_ends : (o : ℕ) (t : TruthTree) (a : ActionTree) →
-    Ends (word else_word ∷ (some_block ++ [])) (behind_first o t a)
-behind_first_ends o t a = then_ends (word else_word) (some_block ++ []) (second_ends o t a)
-
-first_ends : (o : ℕ) (t : TruthTree) → Ends (some_block ++ word else_word ∷ (some_block ++ [])) (first_branch o t)
-first_ends o t =
-    part_ends some_block (word else_word ∷ (some_block ++ [])) (block_ends (o + 1)) (behind_first_ends o t)
-
-behind_truth_ends : (o : ℕ) (t : TruthTree) →
-    Ends (close_mark ∷ (some_block ++ word else_word ∷ (some_block ++ []))) (behind_truth o t)
-behind_truth_ends o t = then_ends close_mark _ (first_ends o t)
-
-condition_ends : (o : ℕ) →
-    Ends (some_truth ++ (close_mark ∷ (some_block ++ word else_word ∷ (some_block ++ [])))) (condition o)
-condition_ends o = part_ends some_truth _ truth_ends (behind_truth_ends o)
-
+-- a test as tokens
 test_lists : (t x y rest : List Token) →
     (word if_word ∷ (sign open_parenthesis ∷ t ++ sign close_parenthesis ∷ []) ++ x ++ word else_word ∷ y) ++ rest
     ≡ word if_word ∷ sign open_parenthesis ∷ (t ++ (sign close_parenthesis ∷ (x ++ (word else_word ∷ (y ++ rest)))))
@@ -300,158 +244,3 @@ pub choose_text : (t : TruthTree) (a b : ActionTree) (rest : List Token) →
     ∷ (truth_tokens t
     ++ (close_mark ∷ (braced (action_tokens a) ++ (word else_word ∷ (braced (action_tokens b) ++ rest)))))
 choose_text t a b rest = test_lists (truth_tokens t) (braced (action_tokens a)) (braced (action_tokens b)) rest
-
-test_to : (o : ℕ) (x : ActionTree) (tokens rest : List Token) → IsAction o (word if_word ∷ []) x tokens rest →
-    test_form o x tokens rest
-test_to o (choose t a b) tokens rest is = record {
-  behind = truth_tokens t
-      ++ (close_mark ∷ (braced (action_tokens a) ++ (word else_word ∷ (braced (action_tokens b) ++ rest))));
-  are = same_tail (is.are ∙ choose_text t a b rest);
-  form = record {
-    part = t;
-    behind = close_mark ∷ (braced (action_tokens a) ++ (word else_word ∷ (braced (action_tokens b) ++ rest)));
-    is = record { fits = (tt, is.in_range.1); are = refl };
-    form = record {
-      behind = braced (action_tokens a) ++ (word else_word ∷ (braced (action_tokens b) ++ rest));
-      are = refl;
-      form = record {
-        part = a;
-        behind = word else_word ∷ (braced (action_tokens b) ++ rest);
-        is = record { in_range = is.in_range.2; are = refl };
-        form = record {
-          behind = braced (action_tokens b) ++ rest;
-          are = refl;
-          form = record {
-            part = b;
-            behind = rest;
-            is = record { in_range = is.in_range.3; are = refl };
-            form = record { same = refl; are = refl };
-          };
-        };
-      };
-    };
-  };
-}
-test_to o (call k args) tokens rest is = absurd (cc (is.are))
-test_to o (leave p) tokens rest is = absurd (cc (is.are))
-test_to o (go k) tokens rest is = absurd (cc (is.are))
-test_to o idle tokens rest is = absurd (cc (is.are))
-
-test_from : (o : ℕ) → o < most_ifs → (x : ActionTree) (tokens rest : List Token) → test_form o x tokens rest →
-    IsAction o (word if_word ∷ []) x tokens rest
-test_from o low x tokens rest f =
-    let t = f.form.part in
-    let one = f.form.form.form in
-    let a = one.part in
-    let two = one.form.form in
-    let b = two.part in
-    subst (λ (y : ActionTree). IsAction o (word if_word ∷ []) y tokens rest) (sym two.form.same)
-    (record {
-      in_range = (low, f.form.is.fits.1, one.is.in_range, two.is.in_range);
-      are = ap (λ (l : List Token). word if_word ∷ l)
-          (f.are
-          ∙ ap (λ (l : List Token). open_mark ∷ l)
-          (f.form.is.are
-          ∙ ap (λ (l : List Token). truth_tokens t ++ l)
-          (f.form.form.are
-          ∙ ap (λ (l : List Token). close_mark ∷ l)
-          (one.is.are
-          ∙ ap (λ (l : List Token). braced (action_tokens a) ++ l)
-          (one.form.are
-          ∙ ap (λ (l : List Token). word else_word ∷ l)
-          (two.is.are ∙ ap (λ (l : List Token). braced (action_tokens b) ++ l) two.form.are))))))
-          ∙ sym (choose_text t a b rest);
-    })
-
-module _ (o : ℕ) (low : o < most_ifs) where
-  to_test : (tokens : List Token) (e : Stop) → IsRefused (test_form o) tokens e →
-      IsRefused (IsAction o (word if_word ∷ [])) tokens e
-  to_test tokens e h = refused_as tokens (λ x b c f. test_from o low x b c f) (λ x b c is. test_to o x b c is) e h
-
-  pub test_no_open : (spots : List Spot) (e : Stop) → IsMissing open_mark spots e →
-      IsRefused (IsAction o (word if_word ∷ [])) (tokens_of spots) e
-  test_no_open spots e missing =
-      to_test (tokens_of spots) e (then_refused open_mark _ (condition_ends o) spots e missing)
-
-  pub test_no_truth : (a b : List Token) (e : Stop) → a ≡ open_mark ∷ b → IsRefused (IsExpression Truth) b e →
-      IsRefused (IsAction o (word if_word ∷ [])) a e
-  test_no_truth a b e opens h =
-      to_test a e
-      (refused_behind (then_moves open_mark a b opens) e (part_refused (IsExpression Truth) _ (behind_truth_ends o) b e h))
-
-  to_truth : (t : TruthTree) (a b c : List Token) → a ≡ open_mark ∷ b → IsExpression Truth t b c →
-      Moves (test_form o) (behind_truth o t) a c
-  to_truth t a b c opens truth =
-      moves_then (then_moves open_mark a b opens) (part_moves t b c (truth_only t b c truth))
-
-  pub test_no_close : (t : TruthTree) (a b : List Token) (spots : List Spot) (e : Stop) → a ≡ open_mark ∷ b →
-      IsExpression Truth t b (tokens_of spots) → IsMissing close_mark spots e →
-      IsRefused (IsAction o (word if_word ∷ [])) a e
-  test_no_close t a b spots e opens truth missing =
-      to_test a e
-      (refused_behind (to_truth t a b (tokens_of spots) opens truth) e
-      (then_refused close_mark _ (first_ends o t) spots e missing))
-
-  to_first : (t : TruthTree) (a b c f : List Token) → a ≡ open_mark ∷ b → IsExpression Truth t b c →
-      c ≡ close_mark ∷ f → Moves (test_form o) (first_branch o t) a f
-  to_first t a b c f opens truth closes =
-      moves_then (to_truth t a b c opens truth) (then_moves close_mark c f closes)
-
-  pub test_no_first : (t : TruthTree) (a b c f : List Token) (e : Stop) → a ≡ open_mark ∷ b →
-      IsExpression Truth t b c → c ≡ close_mark ∷ f → IsRefused (IsBlock (o + 1)) f e →
-      IsRefused (IsAction o (word if_word ∷ [])) a e
-  test_no_first t a b c f e opens truth closes h =
-      to_test a e
-      (refused_behind (to_first t a b c f opens truth closes) e (part_refused (IsBlock (o + 1)) _ (behind_first_ends o t) f e h))
-
-  to_else : (t : TruthTree) (x : ActionTree) (a b c f g : List Token) → a ≡ open_mark ∷ b →
-      IsExpression Truth t b c → c ≡ close_mark ∷ f → IsBlock (o + 1) x f g →
-      Moves (test_form o) (behind_first o t x) a g
-  to_else t x a b c f g opens truth closes first =
-      moves_then (to_first t a b c f opens truth closes) (part_moves x f g (block_only (o + 1) x f g first))
-
-  pub test_no_else : (t : TruthTree) (x : ActionTree) (a b c f : List Token) (spots : List Spot) (e : Stop) →
-      a ≡ open_mark ∷ b → IsExpression Truth t b c → c ≡ close_mark ∷ f → IsBlock (o + 1) x f (tokens_of spots) →
-      IsMissing (word else_word) spots e → IsRefused (IsAction o (word if_word ∷ [])) a e
-  test_no_else t x a b c f spots e opens truth closes first missing =
-      to_test a e
-      (refused_behind (to_else t x a b c f (tokens_of spots) opens truth closes first) e
-      (then_refused (word else_word) _ (second_ends o t x) spots e missing))
-
-  pub test_no_second : (t : TruthTree) (x : ActionTree) (a b c f g h : List Token) (e : Stop) → a ≡ open_mark ∷ b →
-      IsExpression Truth t b c → c ≡ close_mark ∷ f → IsBlock (o + 1) x f g → g ≡ word else_word ∷ h →
-      IsRefused (IsBlock (o + 1)) h e → IsRefused (IsAction o (word if_word ∷ [])) a e
-  test_no_second t x a b c f g h e opens truth closes first word_is refused =
-      to_test a e
-      (refused_behind
-      (moves_then (to_else t x a b c f g opens truth closes first) (then_moves (word else_word) g h word_is)) e
-      (part_refused (IsBlock (o + 1)) _ (λ y. done_ends (choose t x y)) h e refused))
-
-  pub test_read : (t : TruthTree) (x y z : ActionTree) (a b c f g h rest : List Token) → a ≡ open_mark ∷ b →
-      IsExpression Truth t b c → c ≡ close_mark ∷ f → IsBlock (o + 1) x f g → g ≡ word else_word ∷ h →
-      IsBlock (o + 1) y h rest → z ≡ choose t x y → IsAction o (word if_word ∷ []) z a rest
-  test_read t x y z a b c f g h rest opens truth closes first word_is second same =
-      test_from o low z a rest
-      (record {
-        behind = b;
-        are = opens;
-        form = record {
-          part = t;
-          behind = c;
-          is = truth;
-          form = record {
-            behind = f;
-            are = closes;
-            form = record {
-              part = x;
-              behind = g;
-              is = first;
-              form = record {
-                behind = h;
-                are = word_is;
-                form = record { part = y; behind = rest; is = second; form = record { same = same; are = refl } };
-              };
-            };
-          };
-        };
-      })

@@ -17,5 +17,6 @@ pub mod SameCut
 pub mod Scans
 pub mod Spelled
 pub mod Stuck
+pub mod Tests
 pub mod TextCut
 pub mod Walks

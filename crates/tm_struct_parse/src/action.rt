@@ -7,7 +7,7 @@ ghost use Rattle.tm_cparse.specs.View.{token_tree, tokens_of};
 ghost use Rattle.tm_cparse.specs.Inner.Reading.{IsRefused};
 ghost use Rattle.tm_struct.specs.Tree.{choose};
 ghost use Rattle.tm_struct_parse.specs.View.{draft_tree};
-ghost use Rattle.tm_struct_parse.specs.Inner.Forms.{IsAction, IsBlock, first_token, beginning_of};
+ghost use Rattle.tm_struct_parse.specs.Inner.Forms.{IsAction, IsCondition, AreBranches, IsBlock, first_token, beginning_of};
 
 use crate::draft::Draft;
 use std::alloc::{AllocError, Global};
@@ -78,14 +78,38 @@ fn test(alloc: Global, open_ifs: u32, spots: &[Spot]) -> Read<'_, Draft>
     ensures shorter { IfOk result (λ r. length r.1.now < length spots.now) }
     ensures refused { IfErr result (IsRefused (IsAction open_ifs (word if_word ∷ [])) (tokens_of spots.now)) }
 {
+    let (truth, rest) = condition(alloc, spots)?;
+    let (pair, rest) = branches(alloc, open_ifs + 1, rest)?;
+    let (first, second) = pair;
+    let draft = choice(alloc, truth, first, second)?;
+    Ok((draft, rest))
+}
+
+/// A truth value between parentheses.
+fn condition(alloc: Global, spots: &[Spot]) -> Read<'_, Truth>
+    ensures taken { IfOk result (λ r.
+        IsCondition (truth_tree r.0) (tokens_of spots.now) (tokens_of r.1.now)) }
+    ensures shorter { IfOk result (λ r. length r.1.now < length spots.now) }
+    ensures refused { IfErr result (IsRefused IsCondition (tokens_of spots.now)) }
+{
     let rest = need_sign(spots, Sign::OpenParenthesis)?;
     let (truth, rest) = truth(alloc, rest)?;
     let rest = need_sign(rest, Sign::CloseParenthesis)?;
-    let (first, rest) = block(alloc, open_ifs + 1, rest)?;
+    Ok((truth, rest))
+}
+
+/// Both branches of a test, inside so many open `if` with its own.
+#[cycle(reading)]
+fn branches(alloc: Global, open_ifs: u32, spots: &[Spot]) -> Read<'_, (Draft, Draft)>
+    ensures taken { IfOk result (λ r.
+        AreBranches open_ifs (draft_tree r.0.0, draft_tree r.0.1) (tokens_of spots.now) (tokens_of r.1.now)) }
+    ensures shorter { IfOk result (λ r. length r.1.now < length spots.now) }
+    ensures refused { IfErr result (IsRefused (AreBranches open_ifs) (tokens_of spots.now)) }
+{
+    let (first, rest) = block(alloc, open_ifs, spots)?;
     let rest = need(rest, Token::Word(Word::Else))?;
-    let (second, rest) = block(alloc, open_ifs + 1, rest)?;
-    let draft = choice(alloc, truth, first, second)?;
-    Ok((draft, rest))
+    let (second, rest) = block(alloc, open_ifs, rest)?;
+    Ok(((first, second), rest))
 }
 
 /// What a test does, by its branches.

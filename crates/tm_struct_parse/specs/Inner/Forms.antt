@@ -1,7 +1,10 @@
 -- Actions, functions and drivers as their readers take them. A form is a relation between a tree, the tokens that
 -- begin with it, and those left behind it.
 use Rattle.std.specs.Prelude.{◌≡◌, ◌≢◌, ℕ, ◌≤◌, Option, None, Some, All, List, [], ◌∷◌, ◌++◌, length, take, drop}
-use Rattle.tm_cir.specs.Text.Token.{Token, word, label, task, void, driver_turn, if_word, termite_leave, return_word}
+use Rattle.tm_cir.specs.Text.Token.{Token, word, label, task, sign, void, driver_turn, if_word, else_word, termite_leave, return_word, open_parenthesis, close_parenthesis}
+use Rattle.tm_cir.specs.Tree.{TruthTree}
+use Rattle.tm_cir.specs.Text.Grammar.{truth_tokens}
+use Rattle.tm_cparse.specs.Written.{TruthInRange}
 use Rattle.tm_cparse.specs.Inner.Reading.{first_of, Moves}
 use Rattle.tm_struct.specs.Tree.{ActionTree}
 use Rattle.tm_struct.specs.Text.Spelling.{static_word, function}
@@ -16,6 +19,18 @@ use Rattle.tm_struct_parse.specs.Written.{WrittenFunction, functions_tokens, Wri
 pub record IsAction (open_ifs : ℕ) (front : List Token) (a : ActionTree) (tokens rest : List Token) : Type 0 where
   pub in_range : ActionInRange open_ifs a
   pub are : front ++ tokens ≡ action_tokens a ++ rest
+
+-- a truth value between parentheses, and what follows it
+pub record IsCondition (t : TruthTree) (tokens rest : List Token) : Type 0 where
+  pub in_range : TruthInRange t
+  pub are : tokens ≡ sign open_parenthesis ∷ (truth_tokens t ++ (sign close_parenthesis ∷ rest))
+
+-- both branches of a test inside so many open `if`, and what follows them
+pub record AreBranches (open_ifs : ℕ) (pair : ActionTree × ActionTree) (tokens rest : List Token) : Type 0 where
+  pub first_in_range : ActionInRange open_ifs pair.0
+  pub second_in_range : ActionInRange open_ifs pair.1
+  pub are : tokens
+      ≡ braced (action_tokens pair.0) ++ (word else_word ∷ (braced (action_tokens pair.1) ++ rest))
 
 -- an action between braces, and what follows it
 pub record IsBlock (open_ifs : ℕ) (a : ActionTree) (tokens rest : List Token) : Type 0 where

@@ -4,8 +4,9 @@ use Rattle.tm_cir.specs.Text.Token.{word, label, task, if_word, termite_leave, r
 use Rattle.tm_cparse.specs.View.{token_tree, tokens_of}
 use Rattle.tm_cparse.proofs.Readings.{ok_map, err_map}
 use Rattle.tm_struct_parse.specs.View.{draft_tree}
-use Rattle.tm_struct_parse.proofs.Actions.{nothing_there, none_begins, begins_with, begun_read, begun_refused, too_deep, test_no_open, test_no_truth, test_no_close, test_no_first, test_no_else, test_no_second, test_read}
+use Rattle.tm_struct_parse.proofs.Actions.{nothing_there, none_begins, begins_with, begun_read, begun_refused, too_deep}
 use Rattle.tm_struct_parse.proofs.Endings.{block_no_begin, block_no_action, block_no_end, block_read}
+use Rattle.tm_struct_parse.proofs.Tests.{test_no_condition, test_no_branches, test_read, branches_no_first, branches_no_else, branches_no_second, branches_read}
 use Rattle.tm_struct_parse.proofs.action.+reading.Goals as goal
 
 -- ---- an action
@@ -123,63 +124,49 @@ action-returns-in-Some-Idle-clause-refused t c =
     c.idle.result c.idle.ensures.refused
 
 -- ---- a test
-pub test-returns-in_err-rest-clause-refused : goal.test-returns-in_err-rest-clause-refused
-test-returns-in_err-rest-clause-refused t c =
-    let h = test_no_open c.args.open_ifs c.requires c.args.spots.now _ c.in_err-rest.ensures.refused in
-    search rules
-
 pub test-returns-in_err-truth-clause-refused : goal.test-returns-in_err-truth-clause-refused
 test-returns-in_err-truth-clause-refused t c =
-    let h = test_no_truth c.args.open_ifs c.requires (tokens_of c.args.spots.now)
-    (tokens_of c.in_ok-rest.rest.now) _ c.in_ok-rest.ensures.taken
+    let h = test_no_condition c.args.open_ifs c.requires (tokens_of c.args.spots.now) _
     c.in_err-truth.ensures.refused in
     search rules
 
-pub test-returns-in_err-rest-2-clause-refused : goal.test-returns-in_err-rest-2-clause-refused
-test-returns-in_err-rest-2-clause-refused t c =
-    let h = test_no_close c.args.open_ifs c.requires (truth_tree c.in_ok-truth.truth) (tokens_of c.args.spots.now)
-    (tokens_of c.in_ok-rest.rest.now)
-    c.in_ok-truth.rest.now _ c.in_ok-rest.ensures.taken c.in_ok-truth.ensures.taken c.in_err-rest-2.ensures.refused in
-    search rules
-
-pub test-returns-in_err-first-clause-refused : goal.test-returns-in_err-first-clause-refused
-test-returns-in_err-first-clause-refused t c =
-    let h = test_no_first c.args.open_ifs c.requires (truth_tree c.in_ok-truth.truth) (tokens_of c.args.spots.now)
-    (tokens_of c.in_ok-rest.rest.now)
-    (tokens_of c.in_ok-truth.rest.now)
-    (tokens_of c.in_ok-rest-2.rest.now) _ c.in_ok-rest.ensures.taken c.in_ok-truth.ensures.taken
-    c.in_ok-rest-2.ensures.taken c.in_err-first.ensures.refused in
-    search rules
-
-pub test-returns-in_err-rest-3-clause-refused : goal.test-returns-in_err-rest-3-clause-refused
-test-returns-in_err-rest-3-clause-refused t c =
-    let h = test_no_else c.args.open_ifs c.requires (truth_tree c.in_ok-truth.truth) (draft_tree c.in_ok-first.first)
-    (tokens_of c.args.spots.now) (tokens_of c.in_ok-rest.rest.now) (tokens_of c.in_ok-truth.rest.now)
-    (tokens_of c.in_ok-rest-2.rest.now) c.in_ok-first.rest.now _ c.in_ok-rest.ensures.taken
-    c.in_ok-truth.ensures.taken
-    c.in_ok-rest-2.ensures.taken c.in_ok-first.ensures.taken c.in_err-rest-3.ensures.refused in
-    search rules
-
-pub test-returns-in_err-second-clause-refused : goal.test-returns-in_err-second-clause-refused
-test-returns-in_err-second-clause-refused t c =
-    let h = test_no_second c.args.open_ifs c.requires (truth_tree c.in_ok-truth.truth)
-    (draft_tree c.in_ok-first.first)
-    (tokens_of c.args.spots.now) (tokens_of c.in_ok-rest.rest.now) (tokens_of c.in_ok-truth.rest.now)
-    (tokens_of c.in_ok-rest-2.rest.now) (tokens_of c.in_ok-first.rest.now)
-    (tokens_of c.in_ok-rest-3.rest.now) _ c.in_ok-rest.ensures.taken
-    c.in_ok-truth.ensures.taken c.in_ok-rest-2.ensures.taken c.in_ok-first.ensures.taken c.in_ok-rest-3.ensures.taken
-    c.in_err-second.ensures.refused in
+pub test-returns-in_err-pair-clause-refused : goal.test-returns-in_err-pair-clause-refused
+test-returns-in_err-pair-clause-refused t c =
+    let h = test_no_branches c.args.open_ifs c.requires (truth_tree c.in_ok-truth.truth) (tokens_of c.args.spots.now)
+    (tokens_of c.in_ok-truth.rest.now) _ c.in_ok-truth.ensures.taken c.in_err-pair.ensures.refused in
     search rules
 
 pub test-returns-clause-taken : goal.test-returns-clause-taken
 test-returns-clause-taken t c =
-    test_read c.args.open_ifs c.requires (truth_tree c.in_ok-truth.truth) (draft_tree c.in_ok-first.first)
-    (draft_tree c.in_ok-second.second) _
-    (tokens_of c.args.spots.now) (tokens_of c.in_ok-rest.rest.now) (tokens_of c.in_ok-truth.rest.now)
-    (tokens_of c.in_ok-rest-2.rest.now) (tokens_of c.in_ok-first.rest.now) (tokens_of c.in_ok-rest-3.rest.now)
-    (tokens_of c.in_ok-second.rest.now) c.in_ok-rest.ensures.taken c.in_ok-truth.ensures.taken
-    c.in_ok-rest-2.ensures.taken c.in_ok-first.ensures.taken c.in_ok-rest-3.ensures.taken
-    c.in_ok-second.ensures.taken c.in_ok-draft.ensures
+    test_read c.args.open_ifs c.requires (truth_tree c.in_ok-truth.truth) _ _ _ (tokens_of c.args.spots.now)
+    (tokens_of c.in_ok-truth.rest.now) (tokens_of c.in_ok-pair.rest.now) c.in_ok-truth.ensures.taken
+    c.in_ok-pair.ensures.taken c.in_ok-draft.ensures
+
+-- ---- both branches
+pub branches-returns-in_err-first-clause-refused : goal.branches-returns-in_err-first-clause-refused
+branches-returns-in_err-first-clause-refused t c =
+    let h = branches_no_first c.args.open_ifs (tokens_of c.args.spots.now) _ c.in_err-first.ensures.refused in
+    search rules
+
+pub branches-returns-in_err-rest-clause-refused : goal.branches-returns-in_err-rest-clause-refused
+branches-returns-in_err-rest-clause-refused t c =
+    let h = branches_no_else c.args.open_ifs (draft_tree c.in_ok-first.first) (tokens_of c.args.spots.now)
+    c.in_ok-first.rest.now _ c.in_ok-first.ensures.taken c.in_err-rest.ensures.refused in
+    search rules
+
+pub branches-returns-in_err-second-clause-refused : goal.branches-returns-in_err-second-clause-refused
+branches-returns-in_err-second-clause-refused t c =
+    let h = branches_no_second c.args.open_ifs (draft_tree c.in_ok-first.first) (tokens_of c.args.spots.now)
+    (tokens_of c.in_ok-first.rest.now) (tokens_of c.in_ok-rest.rest.now) _ c.in_ok-first.ensures.taken
+    c.in_ok-rest.ensures.taken c.in_err-second.ensures.refused in
+    search rules
+
+pub branches-returns-clause-taken : goal.branches-returns-clause-taken
+branches-returns-clause-taken t c =
+    branches_read c.args.open_ifs (draft_tree c.in_ok-first.first) (draft_tree c.in_ok-second.second)
+    (tokens_of c.args.spots.now) (tokens_of c.in_ok-first.rest.now) (tokens_of c.in_ok-rest.rest.now)
+    (tokens_of c.in_ok-second.rest.now) c.in_ok-first.ensures.taken c.in_ok-rest.ensures.taken
+    c.in_ok-second.ensures.taken
 
 -- ---- a block
 pub block-returns-in_err-rest-clause-refused : goal.block-returns-in_err-rest-clause-refused

@@ -7,5 +7,8 @@ decreases-action l = length l.spots.now
 abbrev pub decreases-test : goal.decreases-test
 decreases-test l = length l.spots.now
 
+abbrev pub decreases-branches : goal.decreases-branches
+decreases-branches l = length l.spots.now
+
 abbrev pub decreases-block : goal.decreases-block
 decreases-block l = length l.spots.now
