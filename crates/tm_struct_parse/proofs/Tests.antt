@@ -106,13 +106,16 @@ condition_only t tokens rest is = record {
 }
 
 -- both branches
-abbrev behind_first : ℕ → ActionTree → ActionTree × ActionTree → List Token → List Token → Type 0
+abbrev Pair : Type 0
+Pair = ActionTree × ActionTree
+
+abbrev behind_first : ℕ → ActionTree → Pair → List Token → List Token → Type 0
 behind_first o a = Then (word else_word) (Part (IsBlock o) (λ b. Done (a, b)))
 
-abbrev branches_form : ℕ → ActionTree × ActionTree → List Token → List Token → Type 0
+abbrev branches_form : ℕ → Pair → List Token → List Token → Type 0
 branches_form o = Part (IsBlock o) (behind_first o)
 
-branches_to : (o : ℕ) (x : ActionTree × ActionTree) (tokens rest : List Token) → AreBranches o x tokens rest →
+branches_to : (o : ℕ) (x : Pair) (tokens rest : List Token) → AreBranches o x tokens rest →
     branches_form o x tokens rest
 branches_to o x tokens rest is = record {
   part = x.0;
@@ -130,11 +133,11 @@ branches_to o x tokens rest is = record {
   };
 }
 
-branches_from : (o : ℕ) (x : ActionTree × ActionTree) (tokens rest : List Token) → branches_form o x tokens rest →
+branches_from : (o : ℕ) (x : Pair) (tokens rest : List Token) → branches_form o x tokens rest →
     AreBranches o x tokens rest
 branches_from o x tokens rest f =
     let two = f.form.form in
-    subst (λ (y : ActionTree × ActionTree). AreBranches o y tokens rest) (sym two.form.same)
+    subst (λ (y : Pair). AreBranches o y tokens rest) (sym two.form.same)
     (record {
       first_in_range = f.is.in_range;
       second_in_range = two.is.in_range;
@@ -145,8 +148,8 @@ branches_from o x tokens rest f =
           (two.is.are ∙ ap (λ (l : List Token). braced (action_tokens two.part) ++ l) two.form.are));
     })
 
-second_ends : (o : ℕ) (a : ActionTree) → Ends (some_block ++ []) (Part (IsBlock o) (λ b. Done (a, b)))
-second_ends o a = part_ends some_block [] (block_ends o) (λ b. done_ends (a, b))
+second_ends : (o : ℕ) (a : ActionTree) → Ends {X = Pair} (some_block ++ []) (Part (IsBlock o) (λ b. Done (a, b)))
+second_ends o a = part_ends some_block [] (block_ends o) (λ b. done_ends {X = Pair} (a, b))
 
 else_ends : (o : ℕ) (a : ActionTree) → Ends (word else_word ∷ (some_block ++ [])) (behind_first o a)
 else_ends o a = then_ends (word else_word) (some_block ++ []) (second_ends o a)
@@ -180,7 +183,7 @@ module _ (o : ℕ) where
       to_branches a e
       (refused_behind
       (moves_then (part_moves x a b (block_only o x a b first)) (then_moves (word else_word) b c word_is)) e
-      (part_refused (IsBlock o) _ (λ y. done_ends (x, y)) c e h))
+      (part_refused (IsBlock o) _ (λ y. done_ends {X = Pair} (x, y)) c e h))
 
   pub branches_read : (x y : ActionTree) (a b c rest : List Token) → IsBlock o x a b → b ≡ word else_word ∷ c →
       IsBlock o y c rest → AreBranches o (x, y) a rest
@@ -199,7 +202,7 @@ module _ (o : ℕ) where
 
 -- a test behind its `if`
 abbrev chosen : ℕ → TruthTree → ActionTree → List Token → List Token → Type 0
-chosen o t = Part (AreBranches (o + 1)) (λ p. Done (choose t p.0 p.1))
+chosen o t = Part (AreBranches (o + 1)) (λ (p : Pair). Done (choose t p.0 p.1))
 
 abbrev test_form : ℕ → ActionTree → List Token → List Token → Type 0
 test_form o = Part IsCondition (chosen o)
@@ -243,7 +246,7 @@ test_from o low x tokens rest f =
 chosen_ends : (o : ℕ) (t : TruthTree) → Ends ((some_block ++ word else_word ∷ (some_block ++ [])) ++ []) (chosen o t)
 chosen_ends o t =
     part_ends (some_block ++ word else_word ∷ (some_block ++ [])) [] (branches_end (o + 1))
-    (λ p. done_ends (choose t p.0 p.1))
+    (λ (p : Pair). done_ends (choose t p.0 p.1))
 
 module _ (o : ℕ) (low : o < most_ifs) where
   to_test : (tokens : List Token) (e : Stop) → IsRefused (test_form o) tokens e →
@@ -259,7 +262,7 @@ module _ (o : ℕ) (low : o < most_ifs) where
   test_no_branches t a b e condition h =
       to_test a e
       (refused_behind (part_moves t a b (condition_only t a b condition)) e
-      (part_refused (AreBranches (o + 1)) _ (λ p. done_ends (choose t p.0 p.1)) b e h))
+      (part_refused (AreBranches (o + 1)) _ (λ (p : Pair). done_ends (choose t p.0 p.1)) b e h))
 
   pub test_read : (t : TruthTree) (x y z : ActionTree) (a b rest : List Token) → IsCondition t a b →
       AreBranches (o + 1) (x, y) b rest → z ≡ choose t x y → IsAction o (word if_word ∷ []) z a rest

@@ -78,9 +78,8 @@ fn test(alloc: Global, open_ifs: u32, spots: &[Spot]) -> Read<'_, Draft>
     ensures shorter { IfOk result (λ r. length r.1.now < length spots.now) }
     ensures refused { IfErr result (IsRefused (IsAction open_ifs (word if_word ∷ [])) (tokens_of spots.now)) }
 {
-    let (truth, rest) = condition(alloc, spots)?;
-    let (pair, rest) = branches(alloc, open_ifs + 1, rest)?;
-    let (first, second) = pair;
+    let (truth, rest) = read!(condition(alloc, spots));
+    let ((first, second), rest) = read!(branches(alloc, open_ifs + 1, rest), truth);
     let draft = choice(alloc, truth, first, second)?;
     Ok((draft, rest))
 }
@@ -92,9 +91,9 @@ fn condition(alloc: Global, spots: &[Spot]) -> Read<'_, Truth>
     ensures shorter { IfOk result (λ r. length r.1.now < length spots.now) }
     ensures refused { IfErr result (IsRefused IsCondition (tokens_of spots.now)) }
 {
-    let rest = need_sign(spots, Sign::OpenParenthesis)?;
-    let (truth, rest) = truth(alloc, rest)?;
-    let rest = need_sign(rest, Sign::CloseParenthesis)?;
+    let rest = read!(need_sign(spots, Sign::OpenParenthesis));
+    let (truth, rest) = read!(truth(alloc, rest));
+    let rest = read!(need_sign(rest, Sign::CloseParenthesis), truth);
     Ok((truth, rest))
 }
 
@@ -106,9 +105,9 @@ fn branches(alloc: Global, open_ifs: u32, spots: &[Spot]) -> Read<'_, (Draft, Dr
     ensures shorter { IfOk result (λ r. length r.1.now < length spots.now) }
     ensures refused { IfErr result (IsRefused (AreBranches open_ifs) (tokens_of spots.now)) }
 {
-    let (first, rest) = block(alloc, open_ifs, spots)?;
-    let rest = need(rest, Token::Word(Word::Else))?;
-    let (second, rest) = block(alloc, open_ifs, rest)?;
+    let (first, rest) = read!(block(alloc, open_ifs, spots));
+    let rest = read!(need(rest, Token::Word(Word::Else)), first);
+    let (second, rest) = read!(block(alloc, open_ifs, rest), first);
     Ok(((first, second), rest))
 }
 
@@ -130,9 +129,9 @@ pub fn block(alloc: Global, open_ifs: u32, spots: &[Spot]) -> Read<'_, Draft>
     ensures shorter { IfOk result (λ r. length r.1.now < length spots.now) }
     ensures refused { IfErr result (IsRefused (IsBlock open_ifs) (tokens_of spots.now)) }
 {
-    let rest = need_sign(spots, Sign::OpenBrace)?;
-    let (draft, rest) = action(alloc, open_ifs, rest)?;
-    let rest = need_sign(rest, Sign::CloseBrace)?;
+    let rest = read!(need_sign(spots, Sign::OpenBrace));
+    let (draft, rest) = read!(action(alloc, open_ifs, rest));
+    let rest = read!(need_sign(rest, Sign::CloseBrace), draft);
     Ok((draft, rest))
 }
 
@@ -144,9 +143,9 @@ fn call(alloc: Global, number: u32, spots: &[Spot]) -> Read<'_, Draft>
     ensures refused { IfErr result (λ e. (open_ifs : ℕ) →
         IsRefused (IsAction open_ifs (task number ∷ [])) (tokens_of spots.now) e) }
 {
-    let rest = need_sign(spots, Sign::OpenParenthesis)?;
-    let (args, rest) = arguments(alloc, rest)?;
-    let rest = need_sign(rest, Sign::Semicolon)?;
+    let rest = read!(need_sign(spots, Sign::OpenParenthesis));
+    let (args, rest) = read!(arguments(alloc, rest));
+    let rest = read!(need_sign(rest, Sign::Semicolon), args);
     Ok((Draft::Call(number, args), rest))
 }
 
@@ -158,10 +157,10 @@ fn leave(spots: &[Spot]) -> Read<'_, Draft>
     ensures refused { IfErr result (λ e. (open_ifs : ℕ) →
         IsRefused (IsAction open_ifs (word termite_leave ∷ [])) (tokens_of spots.now) e) }
 {
-    let rest = need_sign(spots, Sign::OpenParenthesis)?;
-    let (process, rest) = constant(rest)?;
-    let rest = need_sign(rest, Sign::CloseParenthesis)?;
-    let rest = need_sign(rest, Sign::Semicolon)?;
+    let rest = read!(need_sign(spots, Sign::OpenParenthesis));
+    let (process, rest) = read!(constant(rest));
+    let rest = read!(need_sign(rest, Sign::CloseParenthesis));
+    let rest = read!(need_sign(rest, Sign::Semicolon));
     Ok((Draft::Leave(process), rest))
 }
 
@@ -173,9 +172,9 @@ fn go(number: u32, spots: &[Spot]) -> Read<'_, Draft>
     ensures refused { IfErr result (λ e. (open_ifs : ℕ) →
         IsRefused (IsAction open_ifs (label number ∷ [])) (tokens_of spots.now) e) }
 {
-    let rest = need_sign(spots, Sign::OpenParenthesis)?;
-    let rest = need_sign(rest, Sign::CloseParenthesis)?;
-    let rest = need_sign(rest, Sign::Semicolon)?;
+    let rest = read!(need_sign(spots, Sign::OpenParenthesis));
+    let rest = read!(need_sign(rest, Sign::CloseParenthesis));
+    let rest = read!(need_sign(rest, Sign::Semicolon));
     Ok((Draft::Go(number), rest))
 }
 
@@ -187,6 +186,6 @@ fn idle(spots: &[Spot]) -> Read<'_, Draft>
     ensures refused { IfErr result (λ e. (open_ifs : ℕ) →
         IsRefused (IsAction open_ifs (word return_word ∷ [])) (tokens_of spots.now) e) }
 {
-    let rest = need_sign(spots, Sign::Semicolon)?;
+    let rest = read!(need_sign(spots, Sign::Semicolon));
     Ok((Draft::Idle, rest))
 }

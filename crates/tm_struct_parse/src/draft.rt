@@ -55,7 +55,8 @@ fn trees(alloc: Global, drafts: Vec<NamedDraft>) -> Result<Vec<Tree>, AllocError
     let mut drafts = drafts;
     let mut trees = Vec::new(alloc);
     while let Some(named) = drafts.pop() {
-        trees.push(tree(alloc, named.draft)?)?;
+        let tree = tree(alloc, named.draft)?;
+        trees.push(tree)?;
     }
     trees.reverse();
     Ok(trees)

@@ -20,7 +20,7 @@ use tm_syntax::design::Design;
 
 /// What stands before a token, as far as it tells what the token names: `void`, `termite_leave`, that word and a
 /// parenthesis, or anything else.
-#[derive(Clone, Copy, Debug, PartialEq, Eq)]
+#[derive(Clone, Copy, PartialEq, Eq)]
 enum Before {
     Void,
     Leave,
@@ -29,7 +29,7 @@ enum Before {
 }
 
 /// Where a token of a driver stands: behind the names of so many functions, whether in `driver_turn`, and behind what.
-#[derive(Clone, Copy, Debug)]
+#[derive(Clone, Copy)]
 struct TokenPlace {
     functions: usize,
     in_turn: bool,

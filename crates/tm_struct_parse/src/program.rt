@@ -40,8 +40,8 @@ fn program_in_front(alloc: Global, spots: &[Spot]) -> Read<'_, ProgramDraft>
     ensures shorter { IfOk result (λ r. length r.1.now ≤ length spots.now) }
     ensures refused { IfErr result (IsRefused (IsProgram []) (tokens_of spots.now)) }
 {
-    let (functions, rest) = functions(alloc, spots)?;
-    let (main, rest) = driver_turn(alloc, rest)?;
+    let (functions, rest) = read!(functions(alloc, spots));
+    let (main, rest) = read!(driver_turn(alloc, rest), functions);
     Ok((ProgramDraft { functions, main }, rest))
 }
 
@@ -55,7 +55,7 @@ fn functions(alloc: Global, spots: &[Spot]) -> Read<'_, Vec<NamedDraft>>
     let mut functions = Vec::new(alloc);
     let mut rest = spots;
     while let Some(behind) = taken(rest, STATIC) {
-        let (named, behind) = function(alloc, behind)?;
+        let (named, behind) = read!(function(alloc, behind), functions);
         functions.push(named)?;
         rest = behind;
     }
@@ -68,9 +68,9 @@ fn function(alloc: Global, spots: &[Spot]) -> Read<'_, NamedDraft>
     ensures shorter { IfOk result (λ r. length r.1.now < length spots.now) }
     ensures refused { IfErr result (IsRefused IsFunction (tokens_of spots.now)) }
 {
-    let rest = need(spots, Token::Word(Word::Void))?;
-    let (number, rest) = label(rest)?;
-    let (draft, rest) = body(alloc, rest)?;
+    let rest = read!(need(spots, Token::Word(Word::Void)));
+    let (number, rest) = read!(label(rest));
+    let (draft, rest) = read!(body(alloc, rest));
     Ok((NamedDraft { number, draft }, rest))
 }
 
@@ -80,8 +80,8 @@ fn driver_turn(alloc: Global, spots: &[Spot]) -> Read<'_, Draft>
     ensures shorter { IfOk result (λ r. length r.1.now < length spots.now) }
     ensures refused { IfErr result (IsRefused IsTurn (tokens_of spots.now)) }
 {
-    let rest = need(spots, Token::Word(Word::Void))?;
-    let rest = need(rest, Token::Word(Word::DriverTurn))?;
+    let rest = read!(need(spots, Token::Word(Word::Void)));
+    let rest = read!(need(rest, Token::Word(Word::DriverTurn)));
     body(alloc, rest)
 }
 
@@ -91,8 +91,8 @@ fn body(alloc: Global, spots: &[Spot]) -> Read<'_, Draft>
     ensures shorter { IfOk result (λ r. length r.1.now < length spots.now) }
     ensures refused { IfErr result (IsRefused IsBody (tokens_of spots.now)) }
 {
-    let rest = need_sign(spots, Sign::OpenParenthesis)?;
-    let rest = need(rest, Token::Word(Word::Void))?;
-    let rest = need_sign(rest, Sign::CloseParenthesis)?;
+    let rest = read!(need_sign(spots, Sign::OpenParenthesis));
+    let rest = read!(need(rest, Token::Word(Word::Void)));
+    let rest = read!(need_sign(rest, Sign::CloseParenthesis));
     block(alloc, 0, rest)
 }

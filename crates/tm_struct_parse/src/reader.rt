@@ -85,7 +85,7 @@ fn program_behind(
     ensures faulty { IfErr result (IsFileFault (design_tree design.now) line body.now) }
 {
     let scan = tokens_of(alloc, design, body, line)?;
-    let draft = drafted(alloc, &scan)?;
+    let draft = read!(drafted(alloc, &scan), scan);
     match first_fault(design, scan.spots.as_slice()) {
         Some(fault) => bad(fault),
         None => Ok(structured(alloc, draft)?),

@@ -1,4 +1,4 @@
-use Rattle.std.proofs.Common.{arith, rules}
+use Rattle.std.proofs.Common.{arith}
 use Rattle.tm_cir.specs.View.{truth_tree}
 use Rattle.tm_cir.specs.Text.Token.{word, label, task, if_word, termite_leave, return_word}
 use Rattle.tm_cparse.specs.View.{token_tree, tokens_of}
@@ -124,72 +124,64 @@ action-returns-in-Some-Idle-clause-refused t c =
     c.idle.result c.idle.ensures.refused
 
 -- ---- a test
-pub test-returns-in_err-truth-clause-refused : goal.test-returns-in_err-truth-clause-refused
-test-returns-in_err-truth-clause-refused t c =
-    let h = test_no_condition c.args.open_ifs c.requires (tokens_of c.args.spots.now) _
-    c.in_err-truth.ensures.refused in
-    search rules
+pub test-returns-in-Err-clause-refused : goal.test-returns-in-Err-clause-refused
+test-returns-in-Err-clause-refused t c =
+    test_no_condition c.args.open_ifs c.requires (tokens_of c.args.spots.now) _
+    c.in-Err.ensures.refused
 
-pub test-returns-in_err-pair-clause-refused : goal.test-returns-in_err-pair-clause-refused
-test-returns-in_err-pair-clause-refused t c =
-    let h = test_no_branches c.args.open_ifs c.requires (truth_tree c.in_ok-truth.truth) (tokens_of c.args.spots.now)
-    (tokens_of c.in_ok-truth.rest.now) _ c.in_ok-truth.ensures.taken c.in_err-pair.ensures.refused in
-    search rules
+pub test-returns-in-Err-branches-clause-refused : goal.test-returns-in-Err-branches-clause-refused
+test-returns-in-Err-branches-clause-refused t c =
+    test_no_branches c.args.open_ifs c.requires (truth_tree c.in-Ok.read.0) (tokens_of c.args.spots.now)
+    (tokens_of c.in-Ok.read.1.now) _ c.in-Ok.ensures.taken c.in-Err-branches.ensures.refused
 
 pub test-returns-clause-taken : goal.test-returns-clause-taken
 test-returns-clause-taken t c =
-    test_read c.args.open_ifs c.requires (truth_tree c.in_ok-truth.truth) _ _ _ (tokens_of c.args.spots.now)
-    (tokens_of c.in_ok-truth.rest.now) (tokens_of c.in_ok-pair.rest.now) c.in_ok-truth.ensures.taken
-    c.in_ok-pair.ensures.taken c.in_ok-draft.ensures
+    test_read c.args.open_ifs c.requires (truth_tree c.in-Ok.read.0) _ _ _ (tokens_of c.args.spots.now)
+    (tokens_of c.in-Ok.read.1.now) (tokens_of c.in-Ok-branches.read.1.now) c.in-Ok.ensures.taken
+    c.in-Ok-branches.ensures.taken c.in_ok-draft.ensures
 
 -- ---- both branches
-pub branches-returns-in_err-first-clause-refused : goal.branches-returns-in_err-first-clause-refused
-branches-returns-in_err-first-clause-refused t c =
-    let h = branches_no_first c.args.open_ifs (tokens_of c.args.spots.now) _ c.in_err-first.ensures.refused in
-    search rules
+pub branches-returns-in-Err-clause-refused : goal.branches-returns-in-Err-clause-refused
+branches-returns-in-Err-clause-refused t c =
+    branches_no_first c.args.open_ifs (tokens_of c.args.spots.now) _ c.in-Err.ensures.refused
 
-pub branches-returns-in_err-rest-clause-refused : goal.branches-returns-in_err-rest-clause-refused
-branches-returns-in_err-rest-clause-refused t c =
-    let h = branches_no_else c.args.open_ifs (draft_tree c.in_ok-first.first) (tokens_of c.args.spots.now)
-    c.in_ok-first.rest.now _ c.in_ok-first.ensures.taken c.in_err-rest.ensures.refused in
-    search rules
+pub branches-returns-in-Err-need-clause-refused : goal.branches-returns-in-Err-need-clause-refused
+branches-returns-in-Err-need-clause-refused t c =
+    branches_no_else c.args.open_ifs (draft_tree c.in-Ok.read.0) (tokens_of c.args.spots.now)
+    c.in-Ok.read.1.now _ c.in-Ok.ensures.taken c.in-Err-need.ensures.refused
 
-pub branches-returns-in_err-second-clause-refused : goal.branches-returns-in_err-second-clause-refused
-branches-returns-in_err-second-clause-refused t c =
-    let h = branches_no_second c.args.open_ifs (draft_tree c.in_ok-first.first) (tokens_of c.args.spots.now)
-    (tokens_of c.in_ok-first.rest.now) (tokens_of c.in_ok-rest.rest.now) _ c.in_ok-first.ensures.taken
-    c.in_ok-rest.ensures.taken c.in_err-second.ensures.refused in
-    search rules
+pub branches-returns-in-Err-block-clause-refused : goal.branches-returns-in-Err-block-clause-refused
+branches-returns-in-Err-block-clause-refused t c =
+    branches_no_second c.args.open_ifs (draft_tree c.in-Ok.read.0) (tokens_of c.args.spots.now)
+    (tokens_of c.in-Ok.read.1.now) (tokens_of c.in-Ok-need.read.now) _ c.in-Ok.ensures.taken
+    c.in-Ok-need.ensures.taken c.in-Err-block.ensures.refused
 
 pub branches-returns-clause-taken : goal.branches-returns-clause-taken
 branches-returns-clause-taken t c =
-    branches_read c.args.open_ifs (draft_tree c.in_ok-first.first) (draft_tree c.in_ok-second.second)
-    (tokens_of c.args.spots.now) (tokens_of c.in_ok-first.rest.now) (tokens_of c.in_ok-rest.rest.now)
-    (tokens_of c.in_ok-second.rest.now) c.in_ok-first.ensures.taken c.in_ok-rest.ensures.taken
-    c.in_ok-second.ensures.taken
+    branches_read c.args.open_ifs (draft_tree c.in-Ok.read.0) (draft_tree c.in-Ok-block.read.0)
+    (tokens_of c.args.spots.now) (tokens_of c.in-Ok.read.1.now) (tokens_of c.in-Ok-need.read.now)
+    (tokens_of c.in-Ok-block.read.1.now) c.in-Ok.ensures.taken c.in-Ok-need.ensures.taken
+    c.in-Ok-block.ensures.taken
 
 -- ---- a block
-pub block-returns-in_err-rest-clause-refused : goal.block-returns-in_err-rest-clause-refused
-block-returns-in_err-rest-clause-refused t c =
-    let h = block_no_begin c.args.open_ifs c.args.spots.now _ c.in_err-rest.ensures.refused in
-    search rules
+pub block-returns-in-Err-clause-refused : goal.block-returns-in-Err-clause-refused
+block-returns-in-Err-clause-refused t c =
+    block_no_begin c.args.open_ifs c.args.spots.now _ c.in-Err.ensures.refused
 
-pub block-returns-in_err-draft-clause-refused : goal.block-returns-in_err-draft-clause-refused
-block-returns-in_err-draft-clause-refused t c =
-    let h = block_no_action c.args.open_ifs (tokens_of c.args.spots.now) (tokens_of c.in_ok-rest.rest.now) _
-    c.in_ok-rest.ensures.taken c.in_err-draft.ensures.refused in
-    search rules
+pub block-returns-in-Err-action-clause-refused : goal.block-returns-in-Err-action-clause-refused
+block-returns-in-Err-action-clause-refused t c =
+    block_no_action c.args.open_ifs (tokens_of c.args.spots.now) (tokens_of c.in-Ok.read.now) _
+    c.in-Ok.ensures.taken c.in-Err-action.ensures.refused
 
-pub block-returns-in_err-rest-2-clause-refused : goal.block-returns-in_err-rest-2-clause-refused
-block-returns-in_err-rest-2-clause-refused t c =
-    let h = block_no_end c.args.open_ifs (draft_tree c.in_ok-draft.draft) (tokens_of c.args.spots.now)
-    (tokens_of c.in_ok-rest.rest.now) c.in_ok-draft.rest.now _ c.in_ok-rest.ensures.taken
-    c.in_ok-draft.ensures.taken c.in_err-rest-2.ensures.refused in
-    search rules
+pub block-returns-in-Err-need_sign-clause-refused : goal.block-returns-in-Err-need_sign-clause-refused
+block-returns-in-Err-need_sign-clause-refused t c =
+    block_no_end c.args.open_ifs (draft_tree c.in-Ok-action.read.0) (tokens_of c.args.spots.now)
+    (tokens_of c.in-Ok.read.now) c.in-Ok-action.read.1.now _ c.in-Ok.ensures.taken
+    c.in-Ok-action.ensures.taken c.in-Err-need_sign.ensures.refused
 
 pub block-returns-clause-taken : goal.block-returns-clause-taken
 block-returns-clause-taken t c =
-    block_read c.args.open_ifs (draft_tree c.in_ok-draft.draft) (tokens_of c.args.spots.now)
-    (tokens_of c.in_ok-rest.rest.now)
-    (tokens_of c.in_ok-draft.rest.now) (tokens_of c.in_ok-rest-2.rest.now) c.in_ok-rest.ensures.taken
-    c.in_ok-draft.ensures.taken c.in_ok-rest-2.ensures.taken
+    block_read c.args.open_ifs (draft_tree c.in-Ok-action.read.0) (tokens_of c.args.spots.now)
+    (tokens_of c.in-Ok.read.now)
+    (tokens_of c.in-Ok-action.read.1.now) (tokens_of c.in-Ok-need_sign.read.now) c.in-Ok.ensures.taken
+    c.in-Ok-action.ensures.taken c.in-Ok-need_sign.ensures.taken

@@ -13,4 +13,5 @@ tree-requires c =
 pub loop-named-preserved : goal.loop-named-preserved
 loop-named-preserved c =
     part_goes_on (drafted c.args.drafts.items) c.loop-named.drafts.items _ c.loop-named.trees.items _
-    c.in-Some.named c.in_ok-tree.field-0 c.loop-named.invariant (search rules) (search rules) c.in_ok-tree.ensures
+    c.in-Some.named c.in_ok-tree.tree c.loop-named.invariant c.in-Some.ensures.items c.in_ok-push.ensures.items
+    c.in_ok-tree.ensures

@@ -1,4 +1,4 @@
-use Rattle.std.proofs.Common.{List, [], ◌∷◌, map, sym, ap, ◌∙◌, subst, rules, arith}
+use Rattle.std.proofs.Common.{List, [], ◌∷◌, map, sym, ap, ◌∙◌, subst, arith}
 use Rattle.std.proofs.lemmas.List.{map-append}
 use Rattle.tm_cparse.specs.View.{tokens_of}
 use Rattle.tm_cparse.specs.Inner.Reading.{Moves}
@@ -19,12 +19,11 @@ loop-behind-init c = (
   omega arith,
 )
 
-pub returns-in_err-named-clause-refused : goal.returns-in_err-named-clause-refused
-returns-in_err-named-clause-refused c =
-    let h = refused_behind c.loop-behind.invariant.0 _
+pub returns-in-Err-clause-refused : goal.returns-in-Err-clause-refused
+returns-in-Err-clause-refused c =
+    refused_behind c.loop-behind.invariant.0 _
     (function_refused (map named_tree c.loop-behind.functions.items) (tokens_of c.loop-behind.rest.now)
-    (tokens_of c.in-Some.behind.now) _ c.in-Some.ensures.whole c.in_err-named.ensures.refused) in
-    search rules
+    (tokens_of c.in-Some.behind.now) _ c.in-Some.ensures.whole c.in-Err.ensures.refused)
 
 pub loop-behind-preserved : goal.loop-behind-preserved
 loop-behind-preserved c = (
@@ -32,14 +31,14 @@ loop-behind-preserved c = (
       (subst
       (λ (l : List _).
       Moves (IsProgram (map named_tree c.loop-behind.functions.items)) (IsProgram l)
-      (tokens_of c.loop-behind.rest.now) (tokens_of c.in_ok-named.behind.now))
+      (tokens_of c.loop-behind.rest.now) (tokens_of c.in-Ok.read.1.now))
       (sym
       (ap (map named_tree) c.in_ok-push.ensures.items
-      ∙ map-append named_tree c.loop-behind.functions.items (c.in_ok-named.named ∷ [])))
-      (function_moved (map named_tree c.loop-behind.functions.items) (named_tree c.in_ok-named.named)
-      (tokens_of c.loop-behind.rest.now) (tokens_of c.in-Some.behind.now) (tokens_of c.in_ok-named.behind.now)
-      c.in-Some.ensures.whole c.in_ok-named.ensures.taken)),
-  omega (arith, c.in-Some.ensures.shorter, c.in_ok-named.ensures.shorter, c.loop-behind.invariant.1),
+      ∙ map-append named_tree c.loop-behind.functions.items (c.in-Ok.read.0 ∷ [])))
+      (function_moved (map named_tree c.loop-behind.functions.items) (named_tree c.in-Ok.read.0)
+      (tokens_of c.loop-behind.rest.now) (tokens_of c.in-Some.behind.now) (tokens_of c.in-Ok.read.1.now)
+      c.in-Some.ensures.whole c.in-Ok.ensures.taken)),
+  omega (arith, c.in-Some.ensures.shorter, c.in-Ok.ensures.shorter, c.loop-behind.invariant.1),
 )
 
 pub returns-clause-taken : goal.returns-clause-taken
