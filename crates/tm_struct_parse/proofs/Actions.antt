@@ -1,8 +1,11 @@
 -- What functions do, as forms: token by token and part by part.
-use Rattle.std.proofs.Common.{◌≡◌, ◌≢◌, ℕ, ◌<◌, ◌≤◌, Bool, true, false, Option, None, Some, List, [], ◌∷◌, ◌++◌, refl, sym, ap, ◌∙◌, subst, true≢false, append_assoc, arith}
+use Rattle.std.proofs.Common.{◌≡◌, ◌≢◌, ℕ, ◌<◌, ◌≤◌, Bool, true, false, Option, None, Some, List, [], ◌∷◌, ◌++◌, refl}
+use Rattle.std.proofs.Common.{sym, ap, ◌∙◌, subst, true≢false, append_assoc, arith}
 use Rattle.std.proofs.lemmas.List.Elements.{All-nil}
 use Rattle.tm_cir.specs.Tree.{NumTree, TruthTree, num, goal}
-use Rattle.tm_cir.specs.Text.Token.{Token, word, label, task, constant, sign, if_word, else_word, return_word, termite_leave, termite_goal, open_parenthesis, close_parenthesis, open_brace, close_brace, semicolon}
+use Rattle.tm_cir.specs.Text.Token.{Token, word, label, task, constant, sign, if_word, else_word, return_word}
+use Rattle.tm_cir.specs.Text.Token.{termite_leave, termite_goal, open_parenthesis, close_parenthesis, open_brace}
+use Rattle.tm_cir.specs.Text.Token.{close_brace, semicolon}
 use Rattle.tm_cir.specs.Text.Grammar.{truth_tokens, argument_tokens}
 use Rattle.tm_cir.proofs.Text.Expressions.{same_inside, same_truth}
 use Rattle.tm_cparse.specs.declared.part.Sort.TheVariants.{Truth}

@@ -1,5 +1,6 @@
 -- The faults of a structured text by those of what stands behind its include.
-use Rattle.std.proofs.Common.{◌≡◌, inl, inr, ℕ, ◌≤◌, Bool, true, false, ltb, ltb-true, get_or, IsTrue, Some, List, [], ◌∷◌, ◌++◌, length, take, slice_get, refl, sym, ap, ◌∙◌, subst, append_assoc, arith}
+use Rattle.std.proofs.Common.{◌≡◌, inl, inr, ℕ, ◌≤◌, Bool, true, false, ltb, ltb-true, get_or, IsTrue, Some, List, []}
+use Rattle.std.proofs.Common.{◌∷◌, ◌++◌, length, take, slice_get, refl, sym, ap, ◌∙◌, subst, append_assoc, arith}
 use Rattle.std.proofs.lemmas.List.{length-map, append-nil, take_all, drop_all}
 use Rattle.std.proofs.lemmas.Option.{slice_get_read}
 use Rattle.tm_syntax.specs.Limits.{file_limit}
@@ -18,10 +19,12 @@ use Rattle.tm_struct_parse.specs.declared.bad.ReadStructuredError.TheVariants.{B
 use Rattle.tm_struct_parse.specs.declared.names.TokenPlace.{TokenPlace}
 use Rattle.tm_struct_parse.specs.Written.{WrittenProgram, AreWritten, Begins}
 use Rattle.tm_struct_parse.specs.Cut.{IsCut}
-use Rattle.tm_struct_parse.specs.Faults.{IsScanned, HasTextFault, no_include, unexpected, stopped, function_count, IsNameFault, HasNameFault, HasFault}
+use Rattle.tm_struct_parse.specs.Faults.{IsScanned, HasTextFault, no_include, unexpected, stopped, function_count}
+use Rattle.tm_struct_parse.specs.Faults.{IsNameFault, HasNameFault, HasFault}
 use Rattle.tm_struct_parse.specs.Inner.Bodies.{IsFileFault, IsTextLine, at_token, at_end, IsTextFault}
 use Rattle.tm_struct_parse.specs.Inner.Forms.{IsStuckAt}
-use Rattle.tm_struct_parse.specs.Inner.Names.{place_after, first_place, IsFaultAt, unknown, no_process, out_of_order, beyond, forward, wrong_count, IsFirstFault}
+use Rattle.tm_struct_parse.specs.Inner.Names.{place_after, first_place, IsFaultAt, unknown, no_process, out_of_order}
+use Rattle.tm_struct_parse.specs.Inner.Names.{beyond, forward, wrong_count, IsFirstFault}
 use Rattle.tm_struct_parse.specs.Inner.Scanning.{IsScan}
 use Rattle.tm_struct_parse.proofs.Files.{begins_all}
 use Rattle.tm_struct_parse.proofs.NameFaults.{IsSplit, split, fault_before, fault_at}

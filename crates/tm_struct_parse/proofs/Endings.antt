@@ -13,8 +13,11 @@ use Rattle.tm_struct.specs.Tree.{ActionTree, choose, call, leave, go, idle}
 use Rattle.tm_struct.specs.Text.Grammar.{action_tokens}
 use Rattle.tm_struct.proofs.Grammar.{call_is}
 use Rattle.tm_struct_parse.specs.Inner.Forms.{IsAction, IsBlock}
-use Rattle.tm_struct_parse.proofs.Forms.{Then, Part, Done, Ends, done_ends, then_ends, part_ends, then_moves, then_refused, part_moves, part_refused, refused_behind, refused_as}
-use Rattle.tm_struct_parse.proofs.Actions.{open_mark, close_mark, begin_mark, end_mark, stop_mark, same_tail, action_ends, arguments_end, block_text, action_only, arguments_only, constant_ends, constant_only, constant_refused, IsConstant}
+use Rattle.tm_struct_parse.proofs.Forms.{Then, Part, Done, Ends, done_ends, then_ends, part_ends, then_moves}
+use Rattle.tm_struct_parse.proofs.Forms.{then_refused, part_moves, part_refused, refused_behind, refused_as}
+use Rattle.tm_struct_parse.proofs.Actions.{open_mark, close_mark, begin_mark, end_mark, stop_mark, same_tail}
+use Rattle.tm_struct_parse.proofs.Actions.{action_ends, arguments_end, block_text, action_only, arguments_only}
+use Rattle.tm_struct_parse.proofs.Actions.{constant_ends, constant_only, constant_refused, IsConstant}
 
 -- an action between braces
 abbrev block_form : ℕ → ActionTree → List Token → List Token → Type 0

@@ -1,5 +1,6 @@
 -- The text of a structured driver has no fault.
-use Rattle.std.proofs.Common.{◌≡◌, ⊎_elim, ℕ, ◌≤◌, List, [], ◌∷◌, ◌++◌, length, sym, ap, ◌∙◌, subst, append_assoc, length-append, arith}
+use Rattle.std.proofs.Common.{◌≡◌, ⊎_elim, ℕ, ◌≤◌, List, [], ◌∷◌, ◌++◌, length, sym, ap, ◌∙◌, subst, append_assoc}
+use Rattle.std.proofs.Common.{length-append, arith}
 use Rattle.std.proofs.lemmas.List.{append-nil}
 use Rattle.tm_syntax.specs.Design.{DesignTree}
 use Rattle.tm_cir.specs.Text.Token.{Token}
@@ -18,7 +19,8 @@ use Rattle.tm_struct_parse.specs.declared.bad.BadStructured.{BadStructured}
 use Rattle.tm_struct_parse.specs.declared.bad.BadStructured.TheVariants.{TooLong, Text, UnknownName, ForwardCall}
 use Rattle.tm_struct_parse.specs.Written.{WrittenProgram, AreWritten, Begins}
 use Rattle.tm_struct_parse.specs.Cut.{IsStuck}
-use Rattle.tm_struct_parse.specs.Faults.{IsStructuredFile, IsScanned, HasTextFault, no_include, unexpected, stopped, function_count, HasNameFault, HasFault}
+use Rattle.tm_struct_parse.specs.Faults.{IsStructuredFile, IsScanned, HasTextFault, no_include, unexpected, stopped}
+use Rattle.tm_struct_parse.specs.Faults.{function_count, HasNameFault, HasFault}
 use Rattle.tm_struct_parse.specs.Inner.Names.{callable_at, place_after, first_place, AreRight}
 use Rattle.tm_struct_parse.proofs.Fitting.{fitting_right, fitting_written}
 use Rattle.tm_struct_parse.proofs.NameFaults.{fault_at, right_no_fault, right_at}

@@ -1,5 +1,6 @@
 -- Drivers whose names the design has are well made over it, and the other way round.
-use Rattle.std.proofs.Common.{◌≡◌, ℕ, zero, suc, ◌+◌, Some, List, [], ◌∷◌, ◌++◌, map, length, All, slice_get, refl, sym, subst, arith}
+use Rattle.std.proofs.Common.{◌≡◌, ℕ, zero, suc, ◌+◌, Some, List, [], ◌∷◌, ◌++◌, map, length, All, slice_get, refl, sym}
+use Rattle.std.proofs.Common.{subst, arith}
 use Rattle.std.proofs.lemmas.List.{length-map}
 use Rattle.std.proofs.lemmas.List.Elements.{All-nil, All-cons, All-head, All-tail}
 use Rattle.tm_syntax.specs.Design.{DesignTree}
@@ -13,11 +14,13 @@ use Rattle.tm_struct.specs.Tree.{ActionTree, choose, call, leave, go, idle, Prog
 use Rattle.tm_struct.specs.Fit.{FitsAction, MayNest, FitsProgram}
 use Rattle.tm_struct.specs.Text.Grammar.{action_tokens, body_tokens}
 use Rattle.tm_struct.proofs.Grammar.{call_is}
-use Rattle.tm_struct_parse.specs.Written.{WrittenFunction, functions_tokens, WrittenProgram, written_tokens, ActionInRange, FunctionInRange, AreWritten}
+use Rattle.tm_struct_parse.specs.Written.{WrittenFunction, functions_tokens, WrittenProgram, written_tokens}
+use Rattle.tm_struct_parse.specs.Written.{ActionInRange, FunctionInRange, AreWritten}
 use Rattle.tm_struct_parse.specs.Inner.Bodies.{IsSmall, IsSmallFunction, action_of}
 use Rattle.tm_struct_parse.proofs.Actions.{block_text, choose_text}
 use Rattle.tm_struct_parse.proofs.Programs.{functions_text}
-use Rattle.tm_struct_parse.proofs.Placed.{IsRightAction, AreRightFunctions, IsRightProgram, program_of, numbered, written_of, numbered_length}
+use Rattle.tm_struct_parse.proofs.Placed.{IsRightAction, AreRightFunctions, IsRightProgram, program_of, numbered}
+use Rattle.tm_struct_parse.proofs.Placed.{written_of, numbered_length}
 
 -- a right action, whose names the design has, fits it
 action_fits : (d : DesignTree) (below open_ifs : ℕ) (a : ActionTree) (rest : List Token) → ActionInRange open_ifs a →

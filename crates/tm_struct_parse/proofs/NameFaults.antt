@@ -1,5 +1,6 @@
 -- The first name at fault of a driver's tokens.
-use Rattle.std.proofs.Common.{◌≡◌, ◌≢◌, ⊎_elim, ℕ, ◌^◌, ◌<◌, ◌≤◌, Bool, true, false, List, [], ◌∷◌, ◌++◌, length, refl, sym, ap, ◌∙◌, subst, true≢false, ltb, lt-ltb, ltb-true, arith}
+use Rattle.std.proofs.Common.{◌≡◌, ◌≢◌, ⊎_elim, ℕ, ◌^◌, ◌<◌, ◌≤◌, Bool, true, false, List, [], ◌∷◌, ◌++◌, length, refl}
+use Rattle.std.proofs.Common.{sym, ap, ◌∙◌, subst, true≢false, ltb, lt-ltb, ltb-true, arith}
 use Rattle.tm_syntax.specs.Design.{DesignTree}
 use Rattle.tm_cir.specs.Text.Token.{Token, word, label, variable, location, task, constant, sign}
 use Rattle.tm_cparse.specs.declared.spot.Spot.{Spot}
@@ -12,9 +13,12 @@ use Rattle.tm_struct_parse.specs.declared.names.Before.TheVariants.{Void, Leave,
 use Rattle.tm_struct_parse.specs.declared.names.TokenPlace.{TokenPlace}
 use Rattle.tm_struct_parse.specs.Faults.{IsNameFault}
 use Rattle.tm_struct_parse.specs.Faults as faults
-use Rattle.tm_struct_parse.specs.Inner.Names.{callable_at, place_behind, place_after, first_place, IsRightName, IsRightConstant, IsRight, AreRight, IsFaultAt, unknown, no_process, out_of_order, beyond, forward, wrong_count, IsFirstFault, here, later}
+use Rattle.tm_struct_parse.specs.Inner.Names.{callable_at, place_behind, place_after, first_place, IsRightName}
+use Rattle.tm_struct_parse.specs.Inner.Names.{IsRightConstant, IsRight, AreRight, IsFaultAt, unknown, no_process}
+use Rattle.tm_struct_parse.specs.Inner.Names.{out_of_order, beyond, forward, wrong_count, IsFirstFault, here, later}
 use Rattle.tm_struct_parse.proofs.NameSteps.{places_grow, callable_few}
-use Rattle.tm_struct_parse.proofs.Positions.{void_last, last_void, process_last, last_process, functions_count, callable_is}
+use Rattle.tm_struct_parse.proofs.Positions.{void_last, last_void, process_last, last_process, functions_count}
+use Rattle.tm_struct_parse.proofs.Positions.{callable_is}
 
 -- the fault of a token by its place, and by the tokens before it
 pub fault_before : (d : DesignTree) (count : ℕ) (front : List Spot) (s : Spot) (others : List Spot)

@@ -1,5 +1,6 @@
 -- The walk over a driver's tokens that looks at what they name.
-use Rattle.std.proofs.Common.{◌≡◌, ℕ, ◌+◌, ◌-◌, ◌^◌, ◌≤◌, Bool, true, false, if◌then◌else◌, List, [], ◌∷◌, ◌++◌, length, refl, sym, ap, subst, arith}
+use Rattle.std.proofs.Common.{◌≡◌, ℕ, ◌+◌, ◌-◌, ◌^◌, ◌≤◌, Bool, true, false, if◌then◌else◌, List, [], ◌∷◌, ◌++◌, length}
+use Rattle.std.proofs.Common.{refl, sym, ap, subst, arith}
 use Rattle.tm_syntax.specs.Design.{DesignTree}
 use Rattle.tm_cir.specs.Tree.{NumTree}
 use Rattle.tm_cir.specs.Text.Token.{Token, word, label, variable, location, task, constant, sign, semicolon}
@@ -14,7 +15,9 @@ use Rattle.tm_struct_parse.specs.declared.bad.BadStructured.TheVariants.{Text, U
 use Rattle.tm_struct_parse.specs.declared.names.Before.{Before}
 use Rattle.tm_struct_parse.specs.declared.names.Before.TheVariants.{Void, Leave, Process, Other}
 use Rattle.tm_struct_parse.specs.declared.names.TokenPlace.{TokenPlace}
-use Rattle.tm_struct_parse.specs.Inner.Names.{begun_behind, functions_behind, callable_at, place_behind, place_after, first_place, IsRightConstant, IsRight, AreRight, IsFaultAt, no_process, wrong_count, IsFirstFault, here, later}
+use Rattle.tm_struct_parse.specs.Inner.Names.{begun_behind, functions_behind, callable_at, place_behind, place_after}
+use Rattle.tm_struct_parse.specs.Inner.Names.{first_place, IsRightConstant, IsRight, AreRight, IsFaultAt, no_process}
+use Rattle.tm_struct_parse.specs.Inner.Names.{wrong_count, IsFirstFault, here, later}
 
 -- what is found in the rest is found in the whole
 pub record IsSoFar (d : DesignTree) (count : ℕ) (spots : List Spot) (at : TokenPlace) (rest : List Spot) : Type 0 where

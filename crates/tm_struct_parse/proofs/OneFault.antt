@@ -1,5 +1,6 @@
 -- A text that is no structured driver has one fault.
-use Rattle.std.proofs.Common.{◌≡◌, ◌⊎◌, ⊎_elim, inl, inr, ℕ, ◌<◌, ◌≤◌, List, [], ◌∷◌, ◌++◌, length, Result, Ok, Err, refl, sym, ap, ◌∙◌, subst, length-append, arith}
+use Rattle.std.proofs.Common.{◌≡◌, ◌⊎◌, ⊎_elim, inl, inr, ℕ, ◌<◌, ◌≤◌, List, [], ◌∷◌, ◌++◌, length, Result, Ok, Err}
+use Rattle.std.proofs.Common.{refl, sym, ap, ◌∙◌, subst, length-append, arith}
 use Rattle.std.specs.Prelude.{IfOk, IfErr, MatchResult}
 use Rattle.tm_syntax.specs.Limits.{file_limit}
 use Rattle.tm_syntax.specs.Design.{DesignTree}
@@ -18,7 +19,8 @@ use Rattle.tm_struct_parse.specs.declared.bad.BadStructured.TheVariants.{TooLong
 use Rattle.tm_struct_parse.specs.declared.bad.ReadStructuredError.{ReadStructuredError}
 use Rattle.tm_struct_parse.specs.declared.bad.ReadStructuredError.TheVariants.{Bad, Memory}
 use Rattle.tm_struct_parse.specs.Written.{AreWritten, Begins}
-use Rattle.tm_struct_parse.specs.Faults.{IsStructuredFile, HasTextFault, no_include, unexpected, stopped, function_count, IsNameFault, HasNameFault, HasFault}
+use Rattle.tm_struct_parse.specs.Faults.{IsStructuredFile, HasTextFault, no_include, unexpected, stopped}
+use Rattle.tm_struct_parse.specs.Faults.{function_count, IsNameFault, HasNameFault, HasFault}
 use Rattle.tm_struct_parse.specs.Answer.{IsFaultOf, IsMemoryOr}
 use Rattle.tm_struct_parse.specs.Inner.Names.{place_after, first_place}
 use Rattle.tm_struct_parse.proofs.SameCut.{same_scan}

@@ -1,5 +1,6 @@
 -- The token in front of a structured text: one of both sorts of texts, or one that this text alone has.
-use Rattle.std.proofs.Common.{◌≡◌, ◌↔◌, ℕ, Bool, true, false, IsTrue, Option, None, Some, List, [], ◌∷◌, length, take, drop, codes, refl, sym, ap, ◌∙◌, subst, true≢false, arith}
+use Rattle.std.proofs.Common.{◌≡◌, ◌↔◌, ℕ, Bool, true, false, IsTrue, Option, None, Some, List, [], ◌∷◌, length, take}
+use Rattle.std.proofs.Common.{drop, codes, refl, sym, ap, ◌∙◌, subst, true≢false, arith}
 use Rattle.std.specs.Prelude.{MatchOption}
 use Rattle.std.specs.Fmt.{decimal}
 use Rattle.std.specs.List.{prefix_len}
@@ -16,8 +17,10 @@ use Rattle.tm_cparse.specs.Cut.{IsNumber, item_number, MayStand, BeginsNoBlank}
 use Rattle.tm_cparse.specs.Inner.Scanning as c
 use Rattle.tm_cparse.proofs.Cuts.{no_word_behind, ends_word, one_token}
 use Rattle.tm_struct_parse.specs.Cut.{IsFunctionName, IsSpelled, BeginsToken}
-use Rattle.tm_struct_parse.specs.Inner.Scanning.{is_common, IsOwnToken, IsNoOwnToken, BeginsNoOwnToken, IsNextSpot, IsNoSpot}
-use Rattle.tm_struct_parse.proofs.Spelled.{Sort, a_static, a_function, common, sort_of, is_common_token, spelled_some, from_common, to_common, own_apart, own_cut}
+use Rattle.tm_struct_parse.specs.Inner.Scanning.{is_common, IsOwnToken, IsNoOwnToken, BeginsNoOwnToken, IsNextSpot}
+use Rattle.tm_struct_parse.specs.Inner.Scanning.{IsNoSpot}
+use Rattle.tm_struct_parse.proofs.Spelled.{Sort, a_static, a_function, common, sort_of, is_common_token, spelled_some}
+use Rattle.tm_struct_parse.proofs.Spelled.{from_common, to_common, own_apart, own_cut}
 
 -- a token of both sorts of texts
 pub common_next : (d : DesignTree) (open_count line : ℕ) (text : List ℕ) (s : Spot) (len : ℕ) →

@@ -1,9 +1,11 @@
 -- Functions whose tokens are right: their names are in order, and calls name earlier ones.
-use Rattle.std.proofs.Common.{◌≡◌, ℕ, ◌+◌, ◌<◌, Bool, true, false, List, [], ◌∷◌, ◌++◌, map, length, refl, sym, ap, ap₂, ◌∙◌, subst, append_assoc, arith}
+use Rattle.std.proofs.Common.{◌≡◌, ℕ, ◌+◌, ◌<◌, Bool, true, false, List, [], ◌∷◌, ◌++◌, map, length, refl, sym, ap, ap₂}
+use Rattle.std.proofs.Common.{◌∙◌, subst, append_assoc, arith}
 use Rattle.std.proofs.lemmas.List.{append-nil}
 use Rattle.tm_syntax.specs.Design.{DesignTree}
 use Rattle.tm_cir.specs.Tree.{NumTree}
-use Rattle.tm_cir.specs.Text.Token.{Token, word, sign, void, driver_turn, else_word, open_parenthesis, close_parenthesis, open_brace, close_brace, semicolon}
+use Rattle.tm_cir.specs.Text.Token.{Token, word, sign, void, driver_turn, else_word, open_parenthesis}
+use Rattle.tm_cir.specs.Text.Token.{close_parenthesis, open_brace, close_brace, semicolon}
 use Rattle.tm_cir.specs.Text.Grammar.{parenthesized, truth_tokens, argument_tokens}
 use Rattle.tm_cparse.specs.Faults.{TakesArguments}
 use Rattle.tm_cparse.specs.Inner.Names.{HaveArguments}
@@ -18,7 +20,8 @@ use Rattle.tm_struct_parse.specs.Inner.Bodies.{action_of}
 use Rattle.tm_struct_parse.specs.Inner.Names.{callable_at, place_after, first_place, IsRightConstant, AreRight}
 use Rattle.tm_struct_parse.proofs.Actions.{block_text, choose_text}
 use Rattle.tm_struct_parse.proofs.Programs.{functions_text}
-use Rattle.tm_struct_parse.proofs.Walks.{outside, still_truth, still_arguments, still_places, right_behind, right_before, have_before}
+use Rattle.tm_struct_parse.proofs.Walks.{outside, still_truth, still_arguments, still_places, right_behind}
+use Rattle.tm_struct_parse.proofs.Walks.{right_before, have_before}
 
 abbrev open_mark : Token
 open_mark = sign open_parenthesis

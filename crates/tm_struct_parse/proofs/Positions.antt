@@ -1,12 +1,16 @@
 -- What stands before a token, as its place tells and as the tokens before it tell.
-use Rattle.std.proofs.Common.{◌≡◌, ◌≢◌, ℕ, ◌+◌, ◌-◌, Bool, true, false, List, [], ◌∷◌, ◌++◌, if◌then◌else◌, refl, sym, ap, ap₂, ◌∙◌, append_assoc, arith}
-use Rattle.tm_cir.specs.Text.Token.{Token, word, label, variable, location, task, constant, sign, Word, void, driver_turn, if_word, else_word, goto, return_word, termite_leave, termite_goal, termite_last, Sign, open_parenthesis}
+use Rattle.std.proofs.Common.{◌≡◌, ◌≢◌, ℕ, ◌+◌, ◌-◌, Bool, true, false, List, [], ◌∷◌, ◌++◌, if◌then◌else◌, refl, sym}
+use Rattle.std.proofs.Common.{ap, ap₂, ◌∙◌, append_assoc, arith}
+use Rattle.tm_cir.specs.Text.Token.{Token, word, label, variable, location, task, constant, sign, Word, void}
+use Rattle.tm_cir.specs.Text.Token.{driver_turn, if_word, else_word, goto, return_word, termite_leave, termite_goal}
+use Rattle.tm_cir.specs.Text.Token.{termite_last, Sign, open_parenthesis}
 use Rattle.tm_cparse.proofs.Positions.{IsLast, nothing, last, last_of}
 use Rattle.tm_struct_parse.specs.declared.names.Before.{Before}
 use Rattle.tm_struct_parse.specs.declared.names.Before.TheVariants.{Void, Leave, Process, Other}
 use Rattle.tm_struct_parse.specs.declared.names.TokenPlace.{TokenPlace}
 use Rattle.tm_struct_parse.specs.Faults.{function_count, EndsWithVoid, has_turn, callable}
-use Rattle.tm_struct_parse.specs.Inner.Names.{before_of_word, before_of_sign, before_behind, begun_behind, turn_behind, callable_at, place_behind, place_after, first_place}
+use Rattle.tm_struct_parse.specs.Inner.Names.{before_of_word, before_of_sign, before_behind, begun_behind, turn_behind}
+use Rattle.tm_struct_parse.specs.Inner.Names.{callable_at, place_behind, place_after, first_place}
 
 -- one token more
 after_more : (at : TokenPlace) (ts : List Token) (t : Token) →

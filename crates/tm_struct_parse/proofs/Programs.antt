@@ -15,7 +15,8 @@ use Rattle.tm_struct.specs.Text.Grammar.{braced, action_tokens, body_tokens}
 use Rattle.tm_struct.proofs.Grammar.{same_body}
 use Rattle.tm_struct_parse.specs.Written.{WrittenFunction, functions_tokens, WrittenProgram, FunctionInRange}
 use Rattle.tm_struct_parse.specs.Inner.Forms.{IsBlock, IsBody, IsFunction, IsTurn, IsProgram, AreFunctions}
-use Rattle.tm_struct_parse.proofs.Forms.{Then, Part, Done, Ends, done_ends, then_ends, part_ends, then_moves, then_refused, IsOnly, part_moves, part_refused, refused_behind, refused_as}
+use Rattle.tm_struct_parse.proofs.Forms.{Then, Part, Done, Ends, done_ends, then_ends, part_ends, then_moves}
+use Rattle.tm_struct_parse.proofs.Forms.{then_refused, IsOnly, part_moves, part_refused, refused_behind, refused_as}
 use Rattle.tm_struct_parse.proofs.Actions.{some_block, block_ends}
 
 abbrev open_mark : Token

@@ -1,6 +1,7 @@
 -- What the tokens of structured text are spelled as: those of both sorts of texts as there, and `static` and the names
 -- of functions, which this text alone has.
-use Rattle.std.proofs.Common.{◌≡◌, ◌⊎◌, inl, inr, ℕ, ◌^◌, ◌<◌, ◌≤◌, true, false, Some, ◌==◌, List, [], ◌∷◌, ◌++◌, length, take, drop, codes, refl, sym, ap, ◌∙◌, subst, true≢false, arith}
+use Rattle.std.proofs.Common.{◌≡◌, ◌⊎◌, inl, inr, ℕ, ◌^◌, ◌<◌, ◌≤◌, true, false, Some, ◌==◌, List, [], ◌∷◌, ◌++◌}
+use Rattle.std.proofs.Common.{length, take, drop, codes, refl, sym, ap, ◌∙◌, subst, true≢false, arith}
 use Rattle.std.specs.Fmt.{decimal}
 use Rattle.std.specs.List.{list_all, prefix_len}
 use Rattle.std.specs.Str.Parse.{digits_value}
@@ -14,7 +15,10 @@ use Rattle.tm_cir.specs.declared.block.NumOperator.TheVariants as numbers
 use Rattle.tm_base.specs.declared.shift_operator.ShiftOperator.TheVariants.{Left, Right}
 use Rattle.tm_cir.specs.declared.block.Comparison.TheVariants.{Equal, NotEqual, Less, LessEqual, Greater, GreaterEqual}
 use Rattle.tm_cir.specs.declared.block.Junction.TheVariants as truths
-use Rattle.tm_cir.specs.Text.Token.{void, driver_turn, if_word, else_word, goto, return_word, termite_leave, termite_goal, termite_last, Sign, open_parenthesis, close_parenthesis, open_brace, close_brace, colon, semicolon, comma, question, tilde, bang, arithmetic, shifting, comparing, joining, Token, word, label, variable, location, task, constant, sign}
+use Rattle.tm_cir.specs.Text.Token.{void, driver_turn, if_word, else_word, goto, return_word, termite_leave}
+use Rattle.tm_cir.specs.Text.Token.{termite_goal, termite_last, Sign, open_parenthesis, close_parenthesis, open_brace}
+use Rattle.tm_cir.specs.Text.Token.{close_brace, colon, semicolon, comma, question, tilde, bang, arithmetic, shifting}
+use Rattle.tm_cir.specs.Text.Token.{comparing, joining, Token, word, label, variable, location, task, constant, sign}
 use Rattle.tm_cir.specs.Text.Spelling.{sign_text, token_text, token_number}
 use Rattle.tm_cir.proofs.Text.Expressions.{same_inside}
 use Rattle.tm_cparse.specs.Cut.{IsNumber, item_number}

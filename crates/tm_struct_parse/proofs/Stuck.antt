@@ -1,5 +1,6 @@
 -- Where tokens are stuck that are no driver.
-use Rattle.std.proofs.Common.{◌≡◌, ◌≢◌, ℕ, ◌+◌, ◌-◌, ◌≤◌, Bool, true, false, ◌==◌, None, List, [], ◌∷◌, ◌++◌, All, length, refl, sym, ap, ◌∙◌, subst, append_assoc, length-append, arith}
+use Rattle.std.proofs.Common.{◌≡◌, ◌≢◌, ℕ, ◌+◌, ◌-◌, ◌≤◌, Bool, true, false, ◌==◌, None, List, [], ◌∷◌, ◌++◌, All}
+use Rattle.std.proofs.Common.{length, refl, sym, ap, ◌∙◌, subst, append_assoc, length-append, arith}
 use Rattle.std.proofs.lemmas.Bool.Decides.{Decides-eqb}
 use Rattle.std.proofs.lemmas.List.{append-nil, length-map}
 use Rattle.tm_cir.specs.Text.Token.{Token, word, void, driver_turn}
@@ -11,7 +12,8 @@ use Rattle.tm_struct.specs.Tree.{ActionTree}
 use Rattle.tm_struct.specs.Text.Spelling.{static_word, function}
 use Rattle.tm_struct.specs.Text.Grammar.{body_tokens}
 use Rattle.tm_struct.proofs.Grammar.{same_body}
-use Rattle.tm_struct_parse.specs.Written.{WrittenFunction, functions_tokens, WrittenProgram, written_tokens, FunctionInRange, AreWritten, Begins}
+use Rattle.tm_struct_parse.specs.Written.{WrittenFunction, functions_tokens, WrittenProgram, written_tokens}
+use Rattle.tm_struct_parse.specs.Written.{FunctionInRange, AreWritten, Begins}
 use Rattle.tm_struct_parse.specs.Inner.Forms.{IsProgram, IsStuckAt}
 use Rattle.tm_struct_parse.proofs.Programs.{functions_text}
 
@@ -24,7 +26,8 @@ turn a rest = word void ∷ word driver_turn ∷ (body_tokens a ++ rest)
 
 written_text : (p : WrittenProgram) (rest : List Token) →
     written_tokens p ++ rest ≡ functions_tokens p.functions ++ turn p.main rest
-written_text p rest = append_assoc (functions_tokens p.functions) (word void ∷ word driver_turn ∷ body_tokens p.main) rest
+written_text p rest =
+    append_assoc (functions_tokens p.functions) (word void ∷ word driver_turn ∷ body_tokens p.main) rest
 
 program_text : (p : WrittenProgram) (tokens rest : List Token) → IsProgram [] p tokens rest →
     tokens ≡ written_tokens p ++ rest

@@ -15,8 +15,10 @@ use Rattle.tm_struct.specs.Tree.{ActionTree, choose, call, leave, go, idle}
 use Rattle.tm_struct.specs.Fit.{most_ifs}
 use Rattle.tm_struct.specs.Text.Grammar.{braced, action_tokens}
 use Rattle.tm_struct_parse.specs.Inner.Forms.{IsAction, IsCondition, AreBranches, IsBlock}
-use Rattle.tm_struct_parse.proofs.Actions.{open_mark, close_mark, some_block, same_tail, truth_ends, truth_only, block_ends, block_only, choose_text}
-use Rattle.tm_struct_parse.proofs.Forms.{Then, Part, Done, Ends, done_ends, then_ends, part_ends, then_moves, then_refused, IsOnly, part_moves, part_refused, refused_behind, refused_as}
+use Rattle.tm_struct_parse.proofs.Actions.{open_mark, close_mark, some_block, same_tail, truth_ends, truth_only}
+use Rattle.tm_struct_parse.proofs.Actions.{block_ends, block_only, choose_text}
+use Rattle.tm_struct_parse.proofs.Forms.{Then, Part, Done, Ends, done_ends, then_ends, part_ends, then_moves}
+use Rattle.tm_struct_parse.proofs.Forms.{then_refused, IsOnly, part_moves, part_refused, refused_behind, refused_as}
 
 -- a condition
 abbrev condition_form : TruthTree → List Token → List Token → Type 0

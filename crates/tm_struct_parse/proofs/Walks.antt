@@ -1,9 +1,12 @@
 -- Tokens that name no function, no task and no process do not change the place, and are right.
 use Rattle.std.proofs.Common.{◌≡◌, ℕ, Bool, true, false, List, [], ◌∷◌, ◌++◌, refl, sym, ap, ◌∙◌, subst, true≢false}
 use Rattle.tm_syntax.specs.Design.{DesignTree}
-use Rattle.tm_cir.specs.Tree.{NumTree, var, goal, last, complement, binary, shift, conditional, TruthTree, num, negation, compare, join}
+use Rattle.tm_cir.specs.Tree.{NumTree, var, goal, last, complement, binary, shift, conditional, TruthTree, num}
+use Rattle.tm_cir.specs.Tree.{negation, compare, join}
 use Rattle.tm_cir.specs.Tree as trees
-use Rattle.tm_cir.specs.Text.Token.{Token, word, label, variable, location, task, constant, sign, void, driver_turn, if_word, else_word, goto, return_word, termite_leave, termite_goal, termite_last, close_parenthesis, colon, comma, question, arithmetic, shifting, comparing, joining}
+use Rattle.tm_cir.specs.Text.Token.{Token, word, label, variable, location, task, constant, sign, void, driver_turn}
+use Rattle.tm_cir.specs.Text.Token.{if_word, else_word, goto, return_word, termite_leave, termite_goal, termite_last}
+use Rattle.tm_cir.specs.Text.Token.{close_parenthesis, colon, comma, question, arithmetic, shifting, comparing, joining}
 use Rattle.tm_cir.specs.Text.Grammar.{num_tokens, truth_tokens, argument_tokens}
 use Rattle.tm_cparse.specs.Inner.Names.{HaveArguments}
 use Rattle.tm_cparse.proofs.Walks.{more_tokens}

@@ -1,11 +1,13 @@
 -- The text of a structured driver within its limits, and the first fault of a text that is none.
-use Rattle.std.specs.Prelude.{◌≡◌, ◌≢◌, ℕ, ◌+◌, ◌-◌, ◌<◌, ◌≤◌, ◌^◌, ◌⊎◌, Bool, true, false, List, [], ◌∷◌, ◌++◌, length, if◌then◌else◌}
+use Rattle.std.specs.Prelude.{◌≡◌, ◌≢◌, ℕ, ◌+◌, ◌-◌, ◌<◌, ◌≤◌, ◌^◌, ◌⊎◌, Bool, true, false, List, [], ◌∷◌, ◌++◌, length}
+use Rattle.std.specs.Prelude.{if◌then◌else◌}
 use Rattle.std.specs.List.{AllPass}
 use Rattle.tm_syntax.specs.Tokens.{is_blank}
 use Rattle.tm_syntax.specs.Limits.{file_limit}
 use Rattle.tm_syntax.specs.Design.{DesignTree}
 use Rattle.tm_cir.specs.Tree.{NumTree}
-use Rattle.tm_cir.specs.Text.Token.{Token, word, label, task, constant, sign, void, driver_turn, termite_leave, open_parenthesis}
+use Rattle.tm_cir.specs.Text.Token.{Token, word, label, task, constant, sign, void, driver_turn, termite_leave}
+use Rattle.tm_cir.specs.Text.Token.{open_parenthesis}
 use Rattle.tm_cir.specs.Text.Spelling.{HasInclude}
 use Rattle.tm_cir.specs.Text.Grammar.{parenthesized, argument_tokens}
 use Rattle.tm_cparse.specs.declared.spot.Spot.{Spot}

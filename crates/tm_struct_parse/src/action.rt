@@ -7,7 +7,8 @@ ghost use Rattle.tm_cparse.specs.View.{token_tree, tokens_of};
 ghost use Rattle.tm_cparse.specs.Inner.Reading.{IsRefused};
 ghost use Rattle.tm_struct.specs.Tree.{choose};
 ghost use Rattle.tm_struct_parse.specs.View.{draft_tree};
-ghost use Rattle.tm_struct_parse.specs.Inner.Forms.{IsAction, IsCondition, AreBranches, IsBlock, first_token, beginning_of};
+ghost use Rattle.tm_struct_parse.specs.Inner.Forms.{IsAction, IsCondition, AreBranches, IsBlock, first_token};
+ghost use Rattle.tm_struct_parse.specs.Inner.Forms.{beginning_of};
 
 use crate::draft::Draft;
 use std::alloc::{AllocError, Global};

@@ -10,7 +10,9 @@ ghost use Rattle.tm_cparse.specs.View.{token_tree, tokens_of};
 ghost use Rattle.tm_cparse.specs.Faults.{names_item};
 ghost use Rattle.tm_cparse.specs.Inner.Names.{TokenList, AreKnown, HaveArguments};
 ghost use Rattle.tm_struct_parse.specs.Written.{WrittenProgram, AreWritten};
-ghost use Rattle.tm_struct_parse.specs.Inner.Names.{functions_behind, turn_behind, before_behind, place_behind, callable_at, place_after, first_place, IsRight, AreRight, IsFaultAt, IsFirstFault};
+ghost use Rattle.tm_struct_parse.specs.Inner.Names.{functions_behind, turn_behind, before_behind, place_behind};
+ghost use Rattle.tm_struct_parse.specs.Inner.Names.{callable_at, place_after, first_place, IsRight, AreRight};
+ghost use Rattle.tm_struct_parse.specs.Inner.Names.{IsFaultAt, IsFirstFault};
 
 use crate::bad::BadStructured;
 use tm_cparse::names::{argument_count, is_process, names_item, takes};

@@ -7,7 +7,8 @@ ghost use Rattle.tm_syntax.specs.Design.View.{design_tree};
 ghost use Rattle.tm_cparse.specs.View.{token_tree};
 ghost use Rattle.tm_cparse.specs.Cut.{IsNumber, BeginsNoBlank};
 ghost use Rattle.tm_struct_parse.specs.Cut.{IsFunctionName};
-ghost use Rattle.tm_struct_parse.specs.Inner.Scanning.{is_common, IsOwnToken, IsNoOwnToken, BeginsNoOwnToken, IsNoSpot, IsNextSpot, IsScan};
+ghost use Rattle.tm_struct_parse.specs.Inner.Scanning.{is_common, IsOwnToken, IsNoOwnToken, BeginsNoOwnToken, IsNoSpot};
+ghost use Rattle.tm_struct_parse.specs.Inner.Scanning.{IsNextSpot, IsScan};
 
 use std::alloc::{AllocError, Global};
 use tm_cparse::scan::{Scan, behind_blanks, open_behind, run_len};

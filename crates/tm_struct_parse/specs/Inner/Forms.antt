@@ -1,7 +1,8 @@
 -- Actions, functions and drivers as their readers take them. A form is a relation between a tree, the tokens that
 -- begin with it, and those left behind it.
 use Rattle.std.specs.Prelude.{◌≡◌, ◌≢◌, ℕ, ◌≤◌, Option, None, Some, All, List, [], ◌∷◌, ◌++◌, length, take, drop}
-use Rattle.tm_cir.specs.Text.Token.{Token, word, label, task, sign, void, driver_turn, if_word, else_word, termite_leave, return_word, open_parenthesis, close_parenthesis}
+use Rattle.tm_cir.specs.Text.Token.{Token, word, label, task, sign, void, driver_turn, if_word, else_word}
+use Rattle.tm_cir.specs.Text.Token.{termite_leave, return_word, open_parenthesis, close_parenthesis}
 use Rattle.tm_cir.specs.Tree.{TruthTree}
 use Rattle.tm_cir.specs.Text.Grammar.{truth_tokens}
 use Rattle.tm_cparse.specs.Written.{TruthInRange}
@@ -13,7 +14,8 @@ use Rattle.tm_struct_parse.specs.declared.action.Beginning.{Beginning}
 use Rattle.tm_struct_parse.specs.declared.action.Beginning.TheVariants as beginnings
 use Rattle.tm_struct_parse.specs.declared.program.NoProgram.{NoProgram}
 use Rattle.tm_struct_parse.specs.declared.program.NoProgram.TheVariants.{At, Memory}
-use Rattle.tm_struct_parse.specs.Written.{WrittenFunction, functions_tokens, WrittenProgram, written_tokens, ActionInRange, FunctionInRange, AreWritten, Begins}
+use Rattle.tm_struct_parse.specs.Written.{WrittenFunction, functions_tokens, WrittenProgram, written_tokens}
+use Rattle.tm_struct_parse.specs.Written.{ActionInRange, FunctionInRange, AreWritten, Begins}
 
 -- an action inside so many open `if`, of which `front` was read, and what follows it
 pub record IsAction (open_ifs : ℕ) (front : List Token) (a : ActionTree) (tokens rest : List Token) : Type 0 where

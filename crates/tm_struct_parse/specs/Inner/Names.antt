@@ -1,8 +1,10 @@
 -- What each token of a structured driver names, by what stands before it and behind it.
-use Rattle.std.specs.Prelude.{◌≡◌, ◌≢◌, ℕ, ◌+◌, ◌-◌, ◌^◌, ◌<◌, ◌≤◌, ◌⊎◌, Bool, true, false, List, [], ◌∷◌, ◌++◌, length, if◌then◌else◌}
+use Rattle.std.specs.Prelude.{◌≡◌, ◌≢◌, ℕ, ◌+◌, ◌-◌, ◌^◌, ◌<◌, ◌≤◌, ◌⊎◌, Bool, true, false, List, [], ◌∷◌, ◌++◌, length}
+use Rattle.std.specs.Prelude.{if◌then◌else◌}
 use Rattle.tm_syntax.specs.Design.{DesignTree}
 use Rattle.tm_cir.specs.Tree.{NumTree}
-use Rattle.tm_cir.specs.Text.Token.{Token, word, label, task, constant, sign, Word, void, driver_turn, termite_leave, Sign, open_parenthesis}
+use Rattle.tm_cir.specs.Text.Token.{Token, word, label, task, constant, sign, Word, void, driver_turn, termite_leave}
+use Rattle.tm_cir.specs.Text.Token.{Sign, open_parenthesis}
 use Rattle.tm_cir.specs.Text.Grammar.{parenthesized, argument_tokens}
 use Rattle.tm_cparse.specs.declared.spot.Spot.{Spot}
 use Rattle.tm_cparse.specs.View.{token_tree, tokens_of}

@@ -6,7 +6,8 @@ use Rattle.tm_cparse.proofs.Readings.{ok_map, err_map}
 use Rattle.tm_struct_parse.specs.View.{draft_tree}
 use Rattle.tm_struct_parse.proofs.Actions.{nothing_there, none_begins, begins_with, begun_read, begun_refused, too_deep}
 use Rattle.tm_struct_parse.proofs.Endings.{block_no_begin, block_no_action, block_no_end, block_read}
-use Rattle.tm_struct_parse.proofs.Tests.{test_no_condition, test_no_branches, test_read, branches_no_first, branches_no_else, branches_no_second, branches_read}
+use Rattle.tm_struct_parse.proofs.Tests.{test_no_condition, test_no_branches, test_read, branches_no_first}
+use Rattle.tm_struct_parse.proofs.Tests.{branches_no_else, branches_no_second, branches_read}
 use Rattle.tm_struct_parse.proofs.action.+reading.Goals as goal
 
 -- ---- an action

@@ -29,6 +29,6 @@ pub returns-clause-taken : goal.returns-clause-taken
 returns-clause-taken c =
     λ open_ifs.
     leave_read open_ifs c.in-Ok-constant.read.0 _ (tokens_of c.args.spots.now) (tokens_of c.in-Ok.read.now)
-    (tokens_of c.in-Ok-constant.read.1.now) (tokens_of c.in-Ok-need_sign.read.now) (tokens_of c.in-Ok-need_sign-2.read.now)
-    c.in-Ok.ensures.taken c.in-Ok-constant.ensures.taken c.in-Ok-need_sign.ensures.taken
-    c.in-Ok-need_sign-2.ensures.taken refl
+    (tokens_of c.in-Ok-constant.read.1.now) (tokens_of c.in-Ok-need_sign.read.now)
+    (tokens_of c.in-Ok-need_sign-2.read.now) c.in-Ok.ensures.taken c.in-Ok-constant.ensures.taken
+    c.in-Ok-need_sign.ensures.taken c.in-Ok-need_sign-2.ensures.taken refl
