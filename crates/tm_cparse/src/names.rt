@@ -147,6 +147,7 @@ fn fault_at(
     }
 }
 
+/// Whether a token is the name of an item: of a variable, of a process's location or of a task.
 pub fn names_item(token: Token) -> bool
     ensures { result ≡ names_item (token_tree token) }
 {
