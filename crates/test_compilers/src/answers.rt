@@ -19,6 +19,7 @@ use tm_syntax::design::Design;
 const STATES: u32 = 200;
 
 /// A state and the number of a pending goal.
+#[derive(Drop)]
 struct Moment {
     state: State,
     goal: u32,
