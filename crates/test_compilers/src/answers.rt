@@ -26,7 +26,11 @@ struct Moment {
 }
 
 /// A drawn moment of the design.
-fn moment(alloc: Global, design: &Design, rng: &mut Pcg32) -> Result<Option<Moment>, AllocError>
+fn drawn_moment(
+    alloc: Global,
+    design: &Design,
+    rng: &mut Pcg32,
+) -> Result<Option<Moment>, AllocError>
     ensures { IfOk result (λ found. IfSome found (λ moment. CoversDesign (design_tree design.now) moment.state)) }
 {
     let state = state(alloc, rng)?;
@@ -82,7 +86,7 @@ pub fn push_answers(
     requires { FitBlocks (design_tree design.now) (trees_of blocks.now) }
 {
     for _ in 0..STATES {
-        let Some(moment) = moment(alloc, design, rng)? else {
+        let Some(moment) = drawn_moment(alloc, design, rng)? else {
             return Ok(());
         };
         let action = answer(alloc, blocks, &moment.state, moment.goal);
@@ -102,7 +106,7 @@ pub fn push_structured_answers(
     requires { FitsProgram (design_tree design.now) (program_tree program.now) }
 {
     for _ in 0..STATES {
-        let Some(moment) = moment(alloc, design, rng)? else {
+        let Some(moment) = drawn_moment(alloc, design, rng)? else {
             return Ok(());
         };
         let action = answer_structured(alloc, program, &moment.state, moment.goal);
