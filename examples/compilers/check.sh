@@ -1,6 +1,7 @@
 #!/bin/bash
-# Compiles drivers that are drawn with gcc and clang, at -Wall -Wextra without a warning, and compares what they answer
-# with what the tool answers, at 200 states each. It builds the program that draws them, without a proof.
+# Compiles drivers that are drawn, as text with jumps and as structured text, with gcc and clang, at -Wall -Wextra without
+# a warning, and compares what they answer with what the tool answers, at 200 states each. It builds the program that
+# draws them, without a proof.
 # Other seeds may be given: examples/compilers/check.sh 7 8 9
 set -e
 here="$(cd "$(dirname "$0")" && pwd)"
@@ -10,7 +11,7 @@ flags="-std=c11 -Wall -Wextra -Werror -Wno-unused-label -Wno-parentheses-equalit
 if [ $# -eq 0 ]; then
     set -- $(seq 1 40)
 fi
-(cd "$here/../../crates/test_compilers" && printf '%s\n' "$@" | rt try > "$work/all" 2> "$work/said") || { cat "$work/said" >&2; exit 1; }
+(cd "$here/../../crates/test_compilers" && printf '%s\n' "$@" "${@/#/structured }" | rt try > "$work/all" 2> "$work/said") || { cat "$work/said" >&2; exit 1; }
 # each sample begins with its include line
 csplit -s -z -f "$work/sample" -n 4 "$work/all" '/^#include/' '{*}'
 compilers=0
@@ -34,6 +35,6 @@ for compiler in gcc clang; do
         "$work/driver" < "$work/wanted" > "$work/answered"
         cmp "$work/wanted" "$work/answered"
     done
-    echo "$compiler: $# drivers compiled without a warning, with the same answers"
+    echo "$compiler: $# drivers, each in both texts, compiled without a warning, with the same answers"
 done
 [ "$compilers" -gt 0 ] || echo "no compiler is there: nothing was tried"

@@ -1,7 +1,8 @@
 //! Prints drivers that are drawn, as C text, and what they answer at drawn states: what C compilers are tried on.
 //!
-//! Each line of the input is a seed, and its driver is always the same; or it is `back N`, which tells how many of the
-//! drivers of the first N seeds are read back as what was printed.
+//! Each line of the input is a seed, and its driver is always the same; behind `structured` it is printed as structured
+//! text. `back N` tells how many of the drivers of the first N seeds are read back as what was printed, and `around N`
+//! how many go to structured text and back to blocks with the same answers.
 #![tactic(auto)]
 
 mod answers;
@@ -9,6 +10,7 @@ mod back;
 mod draw;
 mod sample;
 mod specification;
+mod structured;
 
 use anyhow::{Context, Result};
 use std::alloc::Global;
@@ -23,9 +25,11 @@ fn number(word: &str) -> Result<u64> {
 
 /// The answer to a line.
 fn answer(alloc: Global, line: &str) -> Result<String> {
-    match line.strip_prefix("back ") {
-        Some(drivers) => back::told_back(alloc, number(drivers)?),
-        None => sample::sample(alloc, number(line)?),
+    match line.split_once(' ') {
+        Some(("back", drivers)) => back::told_back(alloc, number(drivers)?),
+        Some(("around", drivers)) => structured::told_back(alloc, number(drivers)?),
+        Some(("structured", seed)) => structured::sample(alloc, number(seed)?),
+        _ => sample::sample(alloc, number(line)?),
     }
 }
 

@@ -16,9 +16,9 @@
 //! - `negated N`, a test with a truth that is negated N times, and an idle block;
 //! - `wrapping`, a test of a sum that wraps, and `mixed`, a test with an operator of each other sort.
 
-mod answers;
+pub mod answers;
 mod blocks;
-mod source;
+pub mod source;
 mod text;
 mod worked;
 

@@ -24,6 +24,7 @@ mod reading;
 mod scopes;
 mod spelling;
 mod states;
+mod structured;
 mod texts;
 mod types;
 
@@ -98,6 +99,9 @@ fn check_design<R: Print + AllocGlobal>(
     if name == "drivers" {
         return drivers::check_design(rt, design, rows, tally);
     }
+    if name == "structured" {
+        return structured::check_design(rt, design, rows, tally);
+    }
     let tables = Tables::new(rt.alloc(), design)?;
     check_tables(rt, name, design, &tables, rows, tally)
 }
@@ -123,7 +127,9 @@ fn check_case<R: Print + AllocGlobal>(
     tally: &mut Tally,
 ) -> io::Result<()> {
     match name {
-        "cells" | "drivers" | "locations" | "machines" => check_text(rt, name, case, tally),
+        "cells" | "drivers" | "locations" | "machines" | "structured" => {
+            check_text(rt, name, case, tally)
+        }
         _ => check_rows(rt, name, case, tally),
     }
 }

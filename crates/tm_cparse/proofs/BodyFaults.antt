@@ -149,14 +149,14 @@ include_fault d text line short none = (
 )
 
 -- the token at a place, and the tokens around it
-record IsAround (spots : List Spot) (place : ℕ) (s : Spot) : Type 0 where
-  front : List Spot
-  others : List Spot
-  whole : spots ≡ front ++ s ∷ others
-  before : take place (tokens_of spots) ≡ tokens_of front
-  behind : drop place (tokens_of spots) ≡ token_tree s.token ∷ tokens_of others
+pub record IsAround (spots : List Spot) (place : ℕ) (s : Spot) : Type 0 where
+  pub front : List Spot
+  pub others : List Spot
+  pub whole : spots ≡ front ++ s ∷ others
+  pub before : take place (tokens_of spots) ≡ tokens_of front
+  pub behind : drop place (tokens_of spots) ≡ token_tree s.token ∷ tokens_of others
 
-around : (spots : List Spot) (place : ℕ) (s : Spot) → slice_get spots place ≡ Some s → IsAround spots place s
+pub around : (spots : List Spot) (place : ℕ) (s : Spot) → slice_get spots place ≡ Some s → IsAround spots place s
 around [] place s there = absurd (cc)
 around (x ∷ spots) zero s there =
     let same : x ≡ s = cc in

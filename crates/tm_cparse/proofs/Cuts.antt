@@ -150,7 +150,7 @@ digit_continues b is = grind (arith, nat_tests)
 begins_continues : (b : ℕ) → begins_name b ≡ true → continues_name b ≡ true
 begins_continues b is = grind (arith, nat_tests)
 
-digits_continue : (ds : List ℕ) → AllDigits 10 ds → list_all continues_name ds ≡ true
+pub digits_continue : (ds : List ℕ) → AllDigits 10 ds → list_all continues_name ds ≡ true
 digits_continue [] are = refl
 digits_continue (d ∷ ds) are =
     and_from (continues_name d) (list_all continues_name ds) (digit_continues d (digit_passes d are.0))
@@ -162,7 +162,7 @@ path_continues (b ∷ bs) like =
     and_from (continues_name b) (list_all continues_name bs) (begins_continues b like.0)
     (list_all-from_AllPass continues_name bs like.1)
 
-all_behind : (xs ys : List ℕ) → list_all continues_name xs ≡ true → list_all continues_name ys ≡ true →
+pub all_behind : (xs ys : List ℕ) → list_all continues_name xs ≡ true → list_all continues_name ys ≡ true →
     list_all continues_name (xs ++ ys) ≡ true
 all_behind xs ys one other =
     list_all-append continues_name xs ys ∙ and_from (list_all continues_name xs) (list_all continues_name ys) one other
@@ -186,7 +186,7 @@ word_continues termite_leave = refl
 word_continues termite_goal = refl
 word_continues termite_last = refl
 
-run_continues : (t : Token) (bytes : List ℕ) → IsRunToken t → IsSpelled t bytes →
+pub run_continues : (t : Token) (bytes : List ℕ) → IsRunToken t → IsSpelled t bytes →
     list_all continues_name bytes ≡ true
 run_continues (word w) bytes of is = ap (list_all continues_name) is ∙ word_continues w
 run_continues (label k) bytes of is = ap (list_all continues_name) is.are ∙ digits_continue is.digits is.number.are.1
@@ -210,7 +210,7 @@ word_some termite_leave = omega arith
 word_some termite_goal = omega arith
 word_some termite_last = omega arith
 
-run_some : (t : Token) (bytes : List ℕ) → IsRunToken t → IsSpelled t bytes → 0 < length bytes
+pub run_some : (t : Token) (bytes : List ℕ) → IsRunToken t → IsSpelled t bytes → 0 < length bytes
 run_some (word w) bytes of is = subst (λ (l : List ℕ). 0 < length l) (sym is) (word_some w)
 run_some (label k) bytes of is = omega (arith, ap length is.are)
 run_some (variable k) bytes of is = omega (arith, ap length is.are)
@@ -221,7 +221,7 @@ run_some (constant n) bytes of is =
 run_some (sign s) bytes of is = absurd of
 
 -- a run in front of no letter, digit or `_` is all that stand in front
-run_len : (bytes rest : List ℕ) → list_all continues_name bytes ≡ true → BeginsNoWord rest →
+pub run_len : (bytes rest : List ℕ) → list_all continues_name bytes ≡ true → BeginsNoWord rest →
     prefix_len continues_name (bytes ++ rest) ≡ length bytes
 run_len [] [] are ends = refl
 run_len [] (b ∷ bs) are ends = cond-false (continues_name b) _ 0 ends
@@ -231,7 +231,7 @@ run_len (c ∷ cs) rest are ends =
     let others = run_len cs rest parts.1 ends in
     omega arith
 
-word_ends : (t : Token) (rest : List ℕ) → IsRunToken t → EndsToken t rest → BeginsNoWord rest
+pub word_ends : (t : Token) (rest : List ℕ) → IsRunToken t → EndsToken t rest → BeginsNoWord rest
 word_ends (word w) rest of ends = ends
 word_ends (label k) rest of ends = ends
 word_ends (variable k) rest of ends = ends
@@ -240,7 +240,7 @@ word_ends (task k) rest of ends = ends
 word_ends (constant n) rest of ends = ends
 word_ends (sign s) rest of ends = absurd of
 
-ends_word : (t : Token) (rest : List ℕ) → IsRunToken t → BeginsNoWord rest → EndsToken t rest
+pub ends_word : (t : Token) (rest : List ℕ) → IsRunToken t → BeginsNoWord rest → EndsToken t rest
 ends_word (word w) rest of ends = ends
 ends_word (label k) rest of ends = ends
 ends_word (variable k) rest of ends = ends
@@ -256,7 +256,7 @@ run_cut t text bytes rest of begins =
     ∙ run_len bytes rest (run_continues t bytes of begins.spelled) (word_ends t rest of begins.ends)
 
 -- a sign begins with another byte
-sign_first : (s : Sign) (rest : List ℕ) → prefix_len continues_name (sign_text s ++ rest) ≡ 0
+pub sign_first : (s : Sign) (rest : List ℕ) → prefix_len continues_name (sign_text s ++ rest) ≡ 0
 sign_first open_parenthesis rest = refl
 sign_first close_parenthesis rest = refl
 sign_first open_brace rest = refl
@@ -384,7 +384,7 @@ no_run_token text n is some none t bytes rest begins = elim (sort_of t) [
   | a_run of ↦ none t of (subst (IsSpelled t) (cut_run t text bytes rest n is of begins) begins.spelled)
 ]
 
-no_word_behind : (text : List ℕ) → BeginsNoWord (drop (prefix_len continues_name text) text)
+pub no_word_behind : (text : List ℕ) → BeginsNoWord (drop (prefix_len continues_name text) text)
 no_word_behind [] = tt
 no_word_behind (b ∷ bs) = of (continues_name b) refl (no_word_behind bs)
   where

@@ -117,7 +117,7 @@ sign_tree_back (shifting op) = refl
 sign_tree_back (comparing op) = refl
 sign_tree_back (joining op) = refl
 
-tree_back : (t : Token) → token_tree (token_back t) ≡ t
+pub tree_back : (t : Token) → token_tree (token_back t) ≡ t
 tree_back (word w) = ap word (word_tree_back w)
 tree_back (label k) = refl
 tree_back (variable k) = refl

@@ -59,13 +59,13 @@ mutual
   num_in_range v p (conditional t a b) fits =
       (truth_in_range v p t fits.0, num_in_range v p a fits.1, num_in_range v p b fits.2)
 
-  truth_in_range : (v p : ℕ) (t : TruthTree) → FitsTruth v p t → TruthInRange t
+  pub truth_in_range : (v p : ℕ) (t : TruthTree) → FitsTruth v p t → TruthInRange t
   truth_in_range v p (num a) fits = num_in_range v p a fits
   truth_in_range v p (negation t) fits = truth_in_range v p t fits
   truth_in_range v p (compare op a b) fits = (num_in_range v p a fits.0, num_in_range v p b fits.1)
   truth_in_range v p (join op t u) fits = (truth_in_range v p t fits.0, truth_in_range v p u fits.1)
 
-all_in_range : (v p : ℕ) (args : List NumTree) → All (FitsNum v p) args → All NumInRange args
+pub all_in_range : (v p : ℕ) (args : List NumTree) → All (FitsNum v p) args → All NumInRange args
 all_in_range v p [] all = All-nil NumInRange
 all_in_range v p (a ∷ args) all =
     All-cons NumInRange a args (num_in_range v p a (All-head (FitsNum v p) a args all))
@@ -163,7 +163,7 @@ file_scan d text bs names file =
       known = cut.known;
     }
 
-all_known : (spots : List Spot) → AreAllKnown spots → AreKnown spots
+pub all_known : (spots : List Spot) → AreAllKnown spots → AreKnown spots
 all_known [] known = tt
 all_known (s ∷ spots) known = ((λ item. known.0), all_known spots known.1)
 

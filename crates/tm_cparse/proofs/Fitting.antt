@@ -60,7 +60,7 @@ mutual
             ((good_behind d (truth_tokens t ++ sign _ ∷ num_tokens a) (sign _ ∷ num_tokens b) inner).1),
       )
 
-  truth_fits : (d : DesignTree) (t : TruthTree) → TruthInRange t → AreGood d (truth_tokens t) →
+  pub truth_fits : (d : DesignTree) (t : TruthTree) → TruthInRange t → AreGood d (truth_tokens t) →
       FitsTruth (length d.vars) (length d.processes) t
   truth_fits d (num n) range good = num_fits d n range good
   truth_fits d (negation t) range good = truth_fits d t range (good_front d (truth_tokens t) closing good.1.1)
@@ -83,7 +83,7 @@ more_fit d (a ∷ args) range good =
     (num_fits d a (All-head NumInRange a args range) (good_front d (num_tokens a) (more_tokens args) good.1))
     (more_fit d args (All-tail NumInRange a args range) (good_behind d (num_tokens a) (more_tokens args) good.1))
 
-arguments_fit : (d : DesignTree) (args : List NumTree) → All NumInRange args → AreGood d (argument_tokens args) →
+pub arguments_fit : (d : DesignTree) (args : List NumTree) → All NumInRange args → AreGood d (argument_tokens args) →
     All (FitsNum (length d.vars) (length d.processes)) args
 arguments_fit d [] range good = All-nil (FitsNum (length d.vars) (length d.processes))
 arguments_fit d (a ∷ args) range good =

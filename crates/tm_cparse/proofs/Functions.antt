@@ -159,12 +159,12 @@ all_written bs tokens rest is none = record {
 }
 
 -- where tokens are cut
-record IsCutAt (tokens front here : List Token) (place : ℕ) : Type 0 where
-  within : place ≤ length tokens
-  front_is : take place tokens ≡ front
-  here_is : drop place tokens ≡ here
+pub record IsCutAt (tokens front here : List Token) (place : ℕ) : Type 0 where
+  pub within : place ≤ length tokens
+  pub front_is : take place tokens ≡ front
+  pub here_is : drop place tokens ≡ here
 
-cut_at : (tokens front here : List Token) (place : ℕ) → tokens ≡ front ++ here → place + length here ≡ length tokens →
+pub cut_at : (tokens front here : List Token) (place : ℕ) → tokens ≡ front ++ here → place + length here ≡ length tokens →
     IsCutAt tokens front here place
 cut_at tokens front here place whole count =
     let len : length front ≡ place = omega (arith, ap length whole, length-append front here) in
@@ -220,7 +220,7 @@ behind_at bs tokens rest place is some count =
     no_first (t ∷ ts) e = cc
 
 -- the same at slices
-count_of : (spots rest : List Spot) → length rest ≤ length spots →
+pub count_of : (spots rest : List Spot) → length rest ≤ length spots →
     length spots - length rest + length (tokens_of rest) ≡ length (tokens_of spots)
 count_of spots rest within =
     omega (
@@ -242,7 +242,7 @@ stopped_at spots rest h =
       length-map rest (λ (s : Spot). token_tree s.token),
     )))
 
-some_left : (spots : List Spot) (r : Bool) → r ≡ (length spots == 0) → r ≡ false → tokens_of spots ≢ []
+pub some_left : (spots : List Spot) (r : Bool) → r ≡ (length spots == 0) → r ≡ false → tokens_of spots ≢ []
 some_left [] r is none e = true≢false (sym is ∙ none)
 some_left (s ∷ ss) r is none e = cc
 

@@ -34,7 +34,7 @@ begins d count spots have = record {
   fault = λ bad is. is;
 }
 
-have_tail : (t : Token) (ts : List Token) → HaveArguments (t ∷ ts) → HaveArguments ts
+pub have_tail : (t : Token) (ts : List Token) → HaveArguments (t ∷ ts) → HaveArguments ts
 have_tail (word w) ts have = have
 have_tail (label k) ts have = have
 have_tail (variable k) ts have = have
@@ -101,7 +101,7 @@ pub not_low : (p n : ℕ) → ltb p n ≡ false → n ≤ p
 not_low p n high = grind (arith, nat_tests)
 
 -- no process
-not_both : (p n m : ℕ) → ¬ ((p < n) × (p < m)) → (n ≤ p) ⊎ (m ≤ p)
+pub not_both : (p n m : ℕ) → ¬ ((p < n) × (p < m)) → (n ≤ p) ⊎ (m ≤ p)
 not_both p n m none = of (ltb p n) (ltb p m) refl refl
   where
     of : (v w : Bool) → ltb p n ≡ v → ltb p m ≡ w → (n ≤ p) ⊎ (m ≤ p)

@@ -33,7 +33,7 @@ pub data AreOrdered (xs : List Spot) (s : Spot) (ys : List Spot) (zs : List Spot
   first_before : (middle : List Spot) → zs ≡ xs ++ s ∷ middle → AreOrdered xs s ys zs t ws
   second_before : (middle : List Spot) → xs ≡ zs ++ t ∷ middle → AreOrdered xs s ys zs t ws
 
-ordered : (xs : List Spot) (s : Spot) (ys zs : List Spot) (t : Spot) (ws : List Spot) →
+pub ordered : (xs : List Spot) (s : Spot) (ys zs : List Spot) (t : Spot) (ws : List Spot) →
     xs ++ s ∷ ys ≡ zs ++ t ∷ ws → AreOrdered xs s ys zs t ws
 ordered [] s ys [] t ws is = same_place refl (cc) (cc)
 ordered [] s ys (z ∷ zs) t ws is = first_before zs (cc)

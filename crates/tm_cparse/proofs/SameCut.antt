@@ -26,13 +26,13 @@ no_blank_token b text t bytes rest is begins =
     let same : b ≡ first.0 = cc in
     true≢false (sym is ∙ ap is_blank same ∙ first.3)
 
-same_known : (p q : Bool) (X Y : Type 0) → (IsTrue p ↔ X) → (IsTrue q ↔ Y) → (X → Y) → (Y → X) → p ≡ q
+pub same_known : (p q : Bool) (X Y : Type 0) → (IsTrue p ↔ X) → (IsTrue q ↔ Y) → (X → Y) → (Y → X) → p ≡ q
 same_known true true X Y one other to from = refl
 same_known false false X Y one other to from = refl
 same_known true false X Y one other to from = sym (other.1 (to (one.0 refl)))
 same_known false true X Y one other to from = one.1 (from (other.0 refl))
 
-same_parts : (s r : Spot) → s.token ≡ r.token → s.known ≡ r.known → s.line ≡ r.line → s ≡ r
+pub same_parts : (s r : Spot) → s.token ≡ r.token → s.known ≡ r.known → s.line ≡ r.line → s ≡ r
 same_parts s r token known line =
     ap (λ (t : code.Token). record { token = t; known = s.known; line = s.line }) token
     ∙ ap (λ (k : Bool). record { token = r.token; known = k; line = s.line }) known
@@ -138,7 +138,7 @@ same_body text one other first second =
     (sym (skipped first.include refl) ∙ skipped second.include refl) in
     sym (line_read first.ends) ∙ ap past_line lines ∙ line_read second.ends
 
-same_line : (text front start body : List ℕ) → text ≡ front ++ body → text ≡ start ++ body →
+pub same_line : (text front start body : List ℕ) → text ≡ front ++ body → text ≡ start ++ body →
     line_after front ≡ line_after start
 same_line text front start body one other =
     omega (arith, feeds_behind front body, feeds_behind start body, ap (count_by is_line_feed) (sym one ∙ other))

@@ -31,7 +31,7 @@ line_step : (line b n : ℕ) (v : Bool) → is_line_feed b ≡ v → line + (con
 line_step line b n true is = omega arith
 line_step line b n false is = omega arith
 
-count_step : (line b : ℕ) (bs : List ℕ) →
+pub count_step : (line b : ℕ) (bs : List ℕ) →
     line + count_by is_line_feed (b ∷ bs) ≡ line_behind line b + count_by is_line_feed bs
 count_step line b bs =
     ap (λ (n : ℕ). line + n) (sum_by-cons (λ (x : ℕ). cond (is_line_feed x) 1 0) b bs)
@@ -207,7 +207,7 @@ so_far_more d line text spots new open_count last rest s len next behind_line cu
       );
     }
 
-empty_so : (rest : List ℕ) (r : Bool) → r ≡ (length rest == 0) → IsTrue r ↔ (rest ≡ [])
+pub empty_so : (rest : List ℕ) (r : Bool) → r ≡ (length rest == 0) → IsTrue r ↔ (rest ≡ [])
 empty_so [] r is = (λ yes. refl, λ e. is)
 empty_so (b ∷ bs) r is = (
   λ yes.

@@ -24,7 +24,7 @@ use Rattle.tm_cparse.proofs.Numbers.{spelled_decimal}
 use Rattle.tm_cparse.proofs.Fitting.{IsGood}
 
 -- a number of the design is written without a leading zero
-decimal_number : (n : ℕ) → n < 2 ^ 64 → IsNumber (decimal n)
+pub decimal_number : (n : ℕ) → n < 2 ^ 64 → IsNumber (decimal n)
 decimal_number n small = record { are = (decimal_is_IsNumeral n small).0; plain = plain n small }
   where
     plain : (m : ℕ) → m < 2 ^ 64 → slice_index (decimal m) 0 ≡ 48 → length (decimal m) ≡ 1
@@ -34,7 +34,7 @@ decimal_number n small = record { are = (decimal_is_IsNumeral n small).0; plain 
 decimal_value : (n : ℕ) → n < 2 ^ 64 → n ≡ digits_value 10 (decimal n)
 decimal_value n small = sym ((decimal_is_IsNumeral n small).1)
 
-item_value : (n : ℕ) → n < 2 ^ 32 → n ≡ item_number (decimal n)
+pub item_value : (n : ℕ) → n < 2 ^ 32 → n ≡ item_number (decimal n)
 item_value n small = omega (arith, decimal_value n (omega arith))
 
 -- the item that a name names

@@ -2,22 +2,22 @@
 #![tactic(auto)]
 
 mod bad;
-mod call;
-mod expression;
-mod include;
+pub mod call;
+pub mod expression;
+pub mod include;
 mod laws;
-mod names;
-mod part;
+pub mod names;
+pub mod part;
 mod reader;
-mod row;
-mod scan;
-mod shape;
+pub mod row;
+pub mod scan;
+pub mod shape;
 mod sign;
-mod spot;
+pub mod spot;
 mod statement;
-mod token;
+pub mod token;
 mod waiting;
 
 pub use bad::{BadDriver, ReadDriverError};
 pub use laws::sound_designs_have_names;
-pub use reader::read_driver;
+pub use reader::{MOST_BYTES, read_driver};

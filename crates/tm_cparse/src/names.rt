@@ -147,7 +147,8 @@ fn fault_at(
     }
 }
 
-fn names_item(token: Token) -> bool
+/// Whether a token is the name of an item: of a variable, of a process's location or of a task.
+pub fn names_item(token: Token) -> bool
     ensures { result ≡ names_item (token_tree token) }
 {
     match token {
@@ -191,7 +192,7 @@ fn constant_fault(design: &Design, place: TokenPlace, number: u64, line: u64) ->
 }
 
 /// Whether the design has a process of this number.
-fn is_process(design: &Design, number: u64) -> bool
+pub fn is_process(design: &Design, number: u64) -> bool
     ensures { IsTrue result ↔ IsRightConstant (design_tree design.now) Process number }
 {
     number < design.processes.len() as u64 && number <= u64::from(u32::MAX)
@@ -213,7 +214,7 @@ fn arguments_fault(design: &Design, number: u32, others: &[Spot], line: u64) -> 
 }
 
 /// Whether so many arguments fit a controllable task.
-fn takes(design: &Design, number: u32, count: usize) -> bool
+pub fn takes(design: &Design, number: u32, count: usize) -> bool
     ensures { IsTrue result ↔ TakesArguments (design_tree design.now) number count }
 {
     match parameter_count(design, number) {
@@ -223,7 +224,7 @@ fn takes(design: &Design, number: u32, count: usize) -> bool
 }
 
 /// How many arguments stand between the parentheses of a call: none, or one more than commas before the semicolon.
-fn argument_count(spots: &[Spot]) -> usize
+pub fn argument_count(spots: &[Spot]) -> usize
     ensures { (args : List NumTree) (rest : TokenList)
         → tokens_of spots.now ≡ parenthesized (argument_tokens args) ++ sign semicolon ∷ rest
         → result ≡ length args }

@@ -55,7 +55,7 @@ pub fn tokens_of(alloc: Global, design: &Design, text: &[u8], line: u64) -> Resu
 }
 
 /// What stands behind the blanks in front, and its line.
-fn behind_blanks(text: &[u8], line: u64) -> (&[u8], u64)
+pub fn behind_blanks(text: &[u8], line: u64) -> (&[u8], u64)
     requires { line + length text.now < 2 ^ 64 }
     ensures { IsBehindBlanks text.now line result.0.now result.1 }
 {
@@ -99,7 +99,7 @@ pub fn line_behind(line: u64, byte: u8) -> u64
 }
 
 /// The token in front, where so many parentheses are open, and the number of its bytes.
-fn next_spot(design: &Design, text: &[u8], open_count: u32, line: u64) -> Option<(Spot, usize)>
+pub fn next_spot(design: &Design, text: &[u8], open_count: u32, line: u64) -> Option<(Spot, usize)>
     requires no_blank { BeginsNoBlank text.now }
     requires low { line < 2 ^ 32 }
     ensures { MatchOption result (IsNoSpot open_count line text.now)
@@ -128,7 +128,7 @@ fn may_stand(open_count: u32, token: Token) -> bool
 }
 
 /// How many parentheses are open behind a token, where so many are before it.
-fn open_behind(open_count: u32, token: Token) -> u32
+pub fn open_behind(open_count: u32, token: Token) -> u32
     requires { MayStand open_count (token_tree token) }
     ensures { result ≡ open_behind open_count (token_tree token) }
 {
@@ -182,7 +182,7 @@ fn first_run(design: &Design, text: &[u8], len: usize) -> Option<(Found, usize)>
 }
 
 /// How many letters, digits and `_` stand in front.
-fn run_len(text: &[u8]) -> usize
+pub fn run_len(text: &[u8]) -> usize
     ensures value { result ≡ prefix_len continues_name text.now }
     ensures within { result ≤ length text.now }
 {

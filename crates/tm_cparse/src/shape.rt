@@ -298,7 +298,7 @@ fn all_continue(bytes: &[u8]) -> bool
 }
 
 /// Decimal digits without a leading zero.
-fn is_number(digits: &[u8]) -> bool
+pub fn is_number(digits: &[u8]) -> bool
     ensures { IsTrue result ↔ IsNumber digits.now }
 {
     match parted(digits) {
@@ -314,7 +314,7 @@ fn are_digits(bytes: &[u8]) -> bool
 }
 
 /// The first byte and the others.
-fn parted(bytes: &[u8]) -> Option<(u8, &[u8])>
+pub fn parted(bytes: &[u8]) -> Option<(u8, &[u8])>
     ensures { MatchOption result (bytes.now ≡ []) (λ r. bytes.now ≡ r.0 ∷ r.1.now) }
 {
     let (first, others) = bytes.split_first()?;
@@ -322,7 +322,7 @@ fn parted(bytes: &[u8]) -> Option<(u8, &[u8])>
 }
 
 /// Whether these digits are those of a number.
-fn is_exact(digits: &[u8], number: u32) -> bool
+pub fn is_exact(digits: &[u8], number: u32) -> bool
     requires { IsNumber digits.now }
     ensures { IsTrue result ↔ (decimal number ≡ digits.now) }
 {
@@ -333,7 +333,7 @@ fn is_exact(digits: &[u8], number: u32) -> bool
 }
 
 /// The number that digits write, and of more than 32 bits the greatest.
-fn item_number(digits: &[u8]) -> u32
+pub fn item_number(digits: &[u8]) -> u32
     requires { IsNumber digits.now }
     ensures { result ≡ item_number digits.now }
 {

@@ -20,7 +20,7 @@ const PLACES: [u32; 2] = [4, 9];
 const LAST: u32 = 3;
 
 /// A refusal as text.
-fn refusal_text(alloc: Global, refusal: Refusal) -> Result<String, AllocError> {
+pub fn refusal_text(alloc: Global, refusal: Refusal) -> Result<String, AllocError> {
     match refusal {
         Refusal::Unknown => format!(in alloc; "no source"),
         Refusal::Misfit => format!(in alloc; "misfit"),
@@ -40,7 +40,7 @@ fn fault_text(alloc: Global, fault: BadDriver) -> Result<String, AllocError> {
 }
 
 /// A driver's move as text.
-fn move_text(alloc: Global, action: &Move) -> Result<String, AllocError> {
+pub fn move_text(alloc: Global, action: &Move) -> Result<String, AllocError> {
     match action {
         Move::Call(task, args) => {
             let mut text = format!(in alloc; "call {task}")?;
@@ -56,13 +56,22 @@ fn move_text(alloc: Global, action: &Move) -> Result<String, AllocError> {
 }
 
 /// Whether a state has a value for each variable of a design, and a location for each process.
-fn covers(design: &Design, state: &State) -> bool
+pub fn covers(design: &Design, state: &State) -> bool
     ensures { IsTrue result → CoversDesign (design_tree design.now) state.now }
 {
     state.values.len() == design.vars.len() && state.places.len() == design.processes.len()
 }
 
-/// The state with these values, and what the driver answers there.
+/// The state with these values.
+pub fn state_of(alloc: Global, values: &str) -> Result<State, AllocError> {
+    Ok(State {
+        values: numbers(alloc, values)?,
+        places: Vec::from_array(alloc, PLACES)?,
+        last: LAST,
+    })
+}
+
+/// What the driver answers at the state with these values.
 fn answer_at(
     alloc: Global,
     design: &Design,
@@ -72,11 +81,7 @@ fn answer_at(
 ) -> Result<String, AllocError>
     requires { FitBlocks (design_tree design.now) (trees_of blocks.now) }
 {
-    let state = State {
-        values: numbers(alloc, values)?,
-        places: Vec::from_array(alloc, PLACES)?,
-        last: LAST,
-    };
+    let state = state_of(alloc, values)?;
     if !covers(design, &state) {
         return format!(in alloc; "no state of the design");
     }

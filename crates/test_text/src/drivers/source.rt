@@ -44,7 +44,7 @@ fn read(alloc: Global, design: &Design, text: &[u8]) -> Result<Blocks, Refusal>
 }
 
 /// These blocks, if they fit.
-fn fitting(design: &Design, list: Vec<Block>) -> Result<Blocks, Refusal>
+pub fn fitting(design: &Design, list: Vec<Block>) -> Result<Blocks, Refusal>
     ensures { IfOk result (λ blocks. FitBlocks (design_tree design.now) (trees_of blocks)) }
 {
     match Blocks::new(design, list) {

@@ -1,0 +1,26 @@
+use Rattle.std.proofs.Common.{refl}
+use Rattle.tm_cparse.specs.View.{tokens_of}
+use Rattle.tm_struct_parse.proofs.Endings.{go_no_open, go_no_close, go_no_stop, go_read}
+use Rattle.tm_struct_parse.proofs.action.go.Goals as goal
+
+pub returns-in-Err-clause-refused : goal.returns-in-Err-clause-refused
+returns-in-Err-clause-refused c =
+    λ open_ifs. go_no_open open_ifs c.args.number c.args.spots.now _ c.in-Err.ensures.refused
+
+pub returns-in-Err-need_sign-clause-refused : goal.returns-in-Err-need_sign-clause-refused
+returns-in-Err-need_sign-clause-refused c =
+    λ open_ifs. go_no_close open_ifs c.args.number (tokens_of c.args.spots.now) c.in-Ok.read.now _
+    c.in-Ok.ensures.taken c.in-Err-need_sign.ensures.refused
+
+pub returns-in-Err-need_sign-2-clause-refused : goal.returns-in-Err-need_sign-2-clause-refused
+returns-in-Err-need_sign-2-clause-refused c =
+    λ open_ifs. go_no_stop open_ifs c.args.number (tokens_of c.args.spots.now) (tokens_of c.in-Ok.read.now)
+    c.in-Ok-need_sign.read.now _ c.in-Ok.ensures.taken c.in-Ok-need_sign.ensures.taken
+    c.in-Err-need_sign-2.ensures.refused
+
+pub returns-clause-taken : goal.returns-clause-taken
+returns-clause-taken c =
+    λ open_ifs.
+    go_read open_ifs c.args.number _ (tokens_of c.args.spots.now) (tokens_of c.in-Ok.read.now)
+    (tokens_of c.in-Ok-need_sign.read.now) (tokens_of c.in-Ok-need_sign-2.read.now) c.in-Ok.ensures.taken
+    c.in-Ok-need_sign.ensures.taken c.in-Ok-need_sign-2.ensures.taken refl

@@ -1,0 +1,28 @@
+//! Reads the structured text of a driver: the functions and tests that it is over a design, or its first fault.
+#![tactic(auto)]
+
+/// What a reader read; where it refuses, so does the function, and drops the trees that it holds.
+///
+/// `?` would do so, too, at twice the cost of the proof: it converts the error, and takes the trees apart in place.
+macro_rules! read {
+    ($reader:expr $(, $held:ident)*) => {
+        match $reader {
+            Ok(read) => read,
+            Err(stop) => {
+                $(drop($held);)*
+                return Err(stop);
+            }
+        }
+    };
+}
+
+mod action;
+mod bad;
+mod draft;
+mod names;
+mod program;
+mod reader;
+mod scan;
+
+pub use bad::{BadStructured, ReadStructuredError};
+pub use reader::read_structured;
