@@ -29,12 +29,12 @@ pub(crate) struct GoalMoves {
     pub(crate) care: NodeId,
 }
 
-/// The tests of states, in three tiers: those of a later tier are tried only where none of an earlier one splits a set.
+/// The tests of states in tiers, with the number behind the last test of each tier: those of a later tier are tried
+/// only where none of an earlier one splits a set.
 #[derive(Drop)]
 pub(crate) struct TestTable {
     pub(crate) holds: Vec<NodeId>,
-    pub(crate) first_tier: usize,
-    pub(crate) second_tier: usize,
+    pub(crate) ends: Vec<usize>,
 }
 
 /// A game with tests of its states and good moves, while one goal is pending. Behind the tests of states come those
@@ -176,17 +176,15 @@ fn tiered_test(
     ensures { Carried game.old game.new }
 {
     let holds = tests.holds.as_slice();
-    let first = best_test(game, masses, holds, 0, tests.first_tier, contest)?;
-    if first.is_some() {
-        return Ok(first);
+    let mut first = 0;
+    for end in &tests.ends {
+        let found = best_test(game, masses, holds, first, *end, contest)?;
+        if found.is_some() {
+            return Ok(found);
+        }
+        first = *end;
     }
-    let (start, end) = (tests.first_tier, tests.second_tier);
-    let second = best_test(game, masses, holds, start, end, contest)?;
-    if second.is_some() {
-        return Ok(second);
-    }
-    let third = best_test(game, masses, holds, end, holds.len(), contest)?;
-    Ok(third)
+    Ok(None)
 }
 
 // A number below another one, or else 0.
