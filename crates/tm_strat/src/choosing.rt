@@ -149,21 +149,67 @@ fn constant_states(
     Ok(states)
 }
 
-// The first candidate that is good at all of a set, or else the first one.
+// Of the candidates that are good at all of a set while a goal is pending, the first one that is so for most goals, or
+// the first candidate where there is none: a move that serves other goals, too, comes before one that lets them wait.
 fn likely_candidate(
     game: &mut Game,
-    candidates: &[NodeId],
+    goals: &[GoalMoves],
+    pending: usize,
     set: NodeId,
 ) -> Result<MoveChoice, AllocError>
     ensures { Carried game.old game.new }
 {
-    for number in 0..candidates.len() {
-        let left = rest(game, set, candidates[number])?;
-        if left == FALSE {
+    let mut best = 0;
+    let mut most = 0;
+    for number in 0..candidates_of(goals, pending).len() {
+        let served = goals_served(game, goals, pending, number, set)?;
+        if served >= goals.len() {
             return Ok(MoveChoice::Candidate(narrow(number)));
         }
+        if served > most {
+            most = served;
+            best = number;
+        }
     }
-    Ok(MoveChoice::Candidate(0))
+    Ok(MoveChoice::Candidate(narrow(best)))
+}
+
+// For how many goals a candidate is good at all of a set, none where it is not while a goal is pending.
+fn goals_served(
+    game: &mut Game,
+    goals: &[GoalMoves],
+    pending: usize,
+    number: usize,
+    set: NodeId,
+) -> Result<usize, AllocError>
+    ensures { Carried game.old game.new }
+{
+    let candidates = candidates_of(goals, pending);
+    let left = rest(game, set, id_at(candidates, number))?;
+    if left != FALSE {
+        return Ok(0);
+    }
+    count_served(game, goals, number, set)
+}
+
+// For how many goals a candidate is good at all states of a set at which some move is.
+fn count_served(
+    game: &mut Game,
+    goals: &[GoalMoves],
+    number: usize,
+    set: NodeId,
+) -> Result<usize, AllocError>
+    ensures { Carried game.old game.new }
+{
+    let mut served: usize = 0;
+    for goal in goals {
+        let asked = both(game, set, goal.care)?;
+        let left = rest(game, asked, id_at(&goal.candidates, number))?;
+        if left == FALSE {
+            served = served.saturating_add(1);
+        }
+    }
+    Ok(served)
 }
 
 // The best test for what is to be told apart, of the first tier that has one.
@@ -298,8 +344,7 @@ impl Moves for Choosing {
     }
 
     fn likely_move(&mut self, set: NodeId) -> Result<MoveChoice, AllocError> {
-        let candidates = candidates_of(&self.goals, self.pending);
-        likely_candidate(&mut self.game, candidates, set)
+        likely_candidate(&mut self.game, &self.goals, self.pending, set)
     }
 
     fn likely_test(&mut self, set: NodeId, tests: u32) -> Result<u32, AllocError> {
