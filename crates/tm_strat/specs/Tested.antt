@@ -7,7 +7,6 @@ use Rattle.tm_dd.specs.declared.node.NodeId.{NodeId}
 use Rattle.tm_ddops.specs.Manager.{IsFunction}
 use Rattle.tm_game.specs.Game.{GameData, IsStates}
 use Rattle.tm_game_bits.specs.AssignedStates.{state_of}
-use Rattle.tm_sem.specs.State.{StateData}
 use Rattle.tm_sem.specs.StateBits.{state_widths}
 use Rattle.tm_solve_exact.specs.Exact.{IsExactOf}
 use Rattle.tm_strat.specs.Choice.{id_in}

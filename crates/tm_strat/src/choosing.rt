@@ -16,7 +16,7 @@ use crate::numbers::narrow;
 use crate::sets::{both, chosen, least, placed, rest};
 use crate::splits::{Contest, best_test, contest_over};
 use std::alloc::{AllocError, Global};
-use tm_dd::{FALSE, NodeId, TRUE};
+use tm_dd::{FALSE, NodeId};
 use tm_game::Game;
 use tm_strat_drafts::{MoveChoice, Moves};
 
