@@ -3,8 +3,7 @@
 # (each tests a variable and leads to the two behind it, so the ways through them are more than numbers can count), over
 # the generated design for 4, with the seconds and the peak memory that the check takes. The certificate's one ranked
 # region is all valid states, so the driver's answers are asked for and C6 is what fails. Behind them it prints the same
-# of what `synth` writes for the generated designs for 1 to 12 and the models in examples/. What the prover says goes to
-# standard error.
+# of what `synth` writes for the models that bench/models names. What the prover says goes to standard error.
 # Other numbers than these may be given: bench/check.sh 1000 100000
 set -e
 cd "$(dirname "$0")/.."

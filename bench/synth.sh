@@ -1,7 +1,7 @@
 #!/bin/bash
 # Proves and builds termite, and prints for each model what `synth` finds, how many blocks and bytes its C has, how many
-# nodes the certificate has, and the seconds and the peak memory that it takes. The models are the generated designs for
-# 1 to 12 and those in examples/. What the prover says goes to standard error.
+# nodes the certificate has, and the seconds and the peak memory that it takes. bench/models names the models. What the
+# prover says goes to standard error.
 # Other models than these may be given, generated ones by their numbers: bench/synth.sh 8 my.spec
 set -e
 cd "$(dirname "$0")/.."

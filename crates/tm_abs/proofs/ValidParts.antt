@@ -1,8 +1,10 @@
 -- The valid states of a set, and the cells that meet or lie in them.
 use Rattle.std.proofs.Common.{◌≡◌, ℕ, ◌<◌, Bool, true, not, ◌&&◌, List, length, All, sym, ap, ◌∙◌, subst}
+use Rattle.std.proofs.Math.Logic.{∥∥₁_elim}
+use Rattle.std.proofs.Props.{props}
 use Rattle.std.proofs.lemmas.Bool.{and_from, and_parts}
 use Rattle.tm_abs.proofs.Splitting.{left_lower, lower_left, not_both}
-use Rattle.tm_abs.specs.Tracked.{AreInPool, IsPooled}
+use Rattle.tm_abs.specs.Tracked.{AreInPool, HasPooled, IsPooled}
 use Rattle.tm_dd.specs.declared.node.NodeId.{NodeId}
 use Rattle.tm_dd.specs.NodeId.{complement}
 use Rattle.tm_dd.specs.Table.{Table, means}
@@ -32,6 +34,13 @@ pooled_kept d g h grows pooled = record {
   of = of_kept g h grows d pooled.of;
   pool = pool_grown d g h grows pooled.pool;
 }
+
+pub some_kept : (g h : GameData) → Grows g h → HasPooled g → HasPooled h
+some_kept g h grows some = ∥∥₁_elim some (squash₁) (λ x. ∣ (x.0, pooled_kept x.0 g h grows x.1) ∣₁)
+
+-- that an id is a set can hold in one way
+pub set_prop : (g : GameData) (id : NodeId) → IsProp (IsSet g id)
+set_prop g id = hlevel props
 
 -- the numbers stay those of predicates
 pub in_pool_kept : (g h : GameData) → Grows g h → (xs ys : List ℕ) → xs ≡ ys → AreInPool g ys → AreInPool h xs

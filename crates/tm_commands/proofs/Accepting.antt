@@ -41,7 +41,7 @@ use Rattle.tm_commands.specs.Migrate.{refuses_cert}
 use Rattle.tm_commands.specs.Run as runs
 use Rattle.tm_commands.specs.Run.{RunMayEnd}
 use Rattle.tm_commands.specs.Synthesis.{TellsGood, TellsLost, AcceptsGood, AcceptsLost}
-use Rattle.tm_commands.specs.Synthesise.{SynthesiseMayEnd, may_have_driver, may_have_none}
+use Rattle.tm_commands.specs.Synthesise.{SynthesiseMayEnd, may_have_driver, may_have_none, may_have_spent}
 use Rattle.tm_commands.specs.Synthesise.{may_not_be_specified}
 use Rattle.tm_commands.specs.Words.{Command, run, synthesise, check_driver, check_environment, generate, migrate}
 use Rattle.tm_commands.specs.World.{FilesData}
@@ -112,10 +112,11 @@ refusing_run (runs.may_refuse_blocks refused) = refused_blocks refused
 refusing_run (runs.may_refuse_script refused) = refused_script refused
 refusing_run runs.may_play = (λ is. is, λ is. is)
 
-refusing_synthesis : {ending : Ending} → SynthesiseMayEnd ending → IsRefusing ending
+refusing_synthesis : {budget : Option ℕ} {ending : Ending} → SynthesiseMayEnd budget ending → IsRefusing ending
 refusing_synthesis (may_not_be_specified refused) = refused_spec refused
-refusing_synthesis (may_have_driver ranks nodes) = (λ is. is, λ is. is)
-refusing_synthesis (may_have_none levels many chain) = (λ is. is, λ is. is)
+refusing_synthesis (may_have_driver ranks trace nodes) = (λ is. is, λ is. is)
+refusing_synthesis (may_have_none levels many chain trace) = (λ is. is, λ is. is)
+refusing_synthesis (may_have_spent n trace given) = (λ is. is, λ is. is)
 
 -- a driver is no environment
 no_lost_driver : {driver cert : List ℕ} {ending : Ending} → CheckDriverMayEnd driver cert ending → IsLostEnd ending →
@@ -217,7 +218,7 @@ module _ (contents : List ℕ → Option (List ℕ)) where
   good_command None ranks text ending may ends is = let none : Usage ≡ Accepted ranks = sym may ∙ is in absurd (cc)
   good_command (Some (run spec driver choices)) ranks text ending may ends is =
       absurd ((refusing_run may).0 (good_end ranks ending is))
-  good_command (Some (synthesise spec out)) ranks text ending may ends is =
+  good_command (Some (synthesise spec out budget)) ranks text ending may ends is =
       absurd ((refusing_synthesis may).0 (good_end ranks ending is))
   good_command (Some (check_driver spec driver cert)) ranks text ending may ends is =
       (spec, driver, cert, refl, good_told contents spec driver cert ranks text ending ends is)
@@ -237,7 +238,7 @@ module _ (contents : List ℕ → Option (List ℕ)) where
       let none : Usage ≡ AcceptedEnvironment levels many chain = sym may ∙ is in absurd (cc)
   lost_command (Some (run spec driver choices)) levels many chain text ending may ends is =
       absurd ((refusing_run may).1 (lost_end levels many chain ending is))
-  lost_command (Some (synthesise spec out)) levels many chain text ending may ends is =
+  lost_command (Some (synthesise spec out budget)) levels many chain text ending may ends is =
       absurd ((refusing_synthesis may).1 (lost_end levels many chain ending is))
   lost_command (Some (check_driver spec driver cert)) levels many chain text ending may ends is =
       absurd (no_lost_driver may (lost_end levels many chain ending is))

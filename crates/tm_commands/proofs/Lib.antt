@@ -3,6 +3,7 @@ mod Certifying
 mod Checking
 mod CheckingLevels
 mod Completing
+mod Expected
 mod Finding
 mod Halting
 mod Judging
@@ -12,10 +13,12 @@ mod Options
 mod Reading
 mod Reporting
 mod Running
+mod Rows
 mod Specifying
 mod Spelling
 mod Splits
 mod Synthesising
 mod Telling
 mod Texts
+mod Walking
 mod Writing

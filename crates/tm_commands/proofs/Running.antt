@@ -38,14 +38,14 @@ grows_none before = ([], sym (append-nil before))
 pub nothing_put : (contents : List ℕ → Option (List ℕ)) (command : Option Command) → IsCommandPart contents command []
 nothing_put contents None = refl
 nothing_put contents (Some (run spec driver choices)) = no_line
-nothing_put contents (Some (synthesise spec out)) = inl refl
+nothing_put contents (Some (synthesise spec out budget)) = inl refl
 nothing_put contents (Some (check_driver spec driver cert)) = inl refl
 nothing_put contents (Some (check_environment spec cert)) = inl refl
 nothing_put contents (Some (generate registers out)) = refl
 nothing_put contents (Some (migrate spec cert out)) = refl
 
 -- what is not done at all leaves everything
-touches_none : (reads writes : List (List ℕ)) (files : FilesData) → OnlyTouches reads writes files files
+pub touches_none : (reads writes : List (List ℕ)) (files : FilesData) → OnlyTouches reads writes files files
 touches_none reads writes files = record {
   same_others = λ name other. refl;
   no_fewer_read_faults = λ name. omega arith;

@@ -1,6 +1,6 @@
 -- What words can spell: no command with too many registers, and none that writes a file without a name.
 use Rattle.std.proofs.Common.{◌≡◌, ℕ, ◌≤◌, Bool, true, false, ◌&&◌, not, nat_lt, Option, None, Some, List, [], ◌∷◌}
-use Rattle.std.proofs.Common.{refl, subst, if◌then◌else◌}
+use Rattle.std.proofs.Common.{refl, subst, if◌then◌else◌, is_some}
 use Rattle.std.specs.Prelude.{codes}
 use Rattle.std.specs.Bool.{then_some}
 use Rattle.std.specs.List.{list_all}
@@ -9,16 +9,15 @@ use Rattle.std.specs.Str.{bytes_eq}
 use Rattle.std.proofs.lemmas.Bool.{ltb-false}
 use Rattle.tm_play.specs.Numbers.{digits_after}
 use Rattle.tm_commands.specs.Words.{Command, run, check_driver, check_environment, generate, migrate}
-use Rattle.tm_commands.specs.Words.{is_filled, positional_words, without_options}
-use Rattle.tm_commands.specs.Words.{most_registers, registers_of, run_of, check_of, generate_of, migrate_of, command_of}
-use Rattle.tm_commands.specs.Words.{synthesise, synthesise_of}
-use Rattle.tm_commands.specs.Words.{command_with}
+use Rattle.tm_commands.specs.Words.{Arguments, arguments_as, arguments_of, arguments_with, is_filled, number_of, one_budget, split_words}
+use Rattle.tm_commands.specs.Words.{most_registers, run_of, check_of, generate_of, migrate_of, command_of}
+use Rattle.tm_commands.specs.Words.{command_with, plain_command_with, synthesise, synthesise_of}
 use Rattle.tm_commands.specs.Inner.Obeying.{IsSpelled}
 
 -- the registers are within their limit, and the file that is written has a name
 abbrev pub IsFit : Command → Type 0
 IsFit (run spec driver choices) = Unit {0}
-IsFit (synthesise spec out) = Unit {0}
+IsFit (synthesise spec out budget) = Unit {0}
 IsFit (check_driver spec driver cert) = Unit {0}
 IsFit (check_environment spec cert) = Unit {0}
 IsFit (generate registers out) = (registers ≤ most_registers) × (out ≡ [] → ⊥)
@@ -45,11 +44,16 @@ made f None y is = absurd (cc)
 made f (Some x) y is = (x, refl, is)
 
 -- words behind a command are filled
-all_filled : (words found : List (List ℕ)) → positional_words words ≡ Some found → list_all is_filled found ≡ true
-all_filled words found is =
-    let from = made (λ ws. then_some (list_all is_filled ws) ws) (without_options words) found is in
-    let passed = kept (list_all is_filled from.0) from.0 found from.2 in
-    subst (λ (ws : List (List ℕ)). list_all is_filled ws ≡ true) passed.1 passed.0
+all_filled : (ws : List (List ℕ)) (found : Arguments) → arguments_of ws ≡ Some found →
+    list_all is_filled found.positional ≡ true
+all_filled ws found is =
+    let from = made arguments_as (split_words false ws) found is in
+    let one = made
+    (λ budget. then_some (list_all is_filled from.0.positional) (arguments_with from.0.positional budget))
+    (one_budget from.0.budgets) found from.2 in
+    let passed = kept (list_all is_filled from.0.positional)
+    (arguments_with from.0.positional one.0) found one.2 in
+    subst (λ (b : Arguments). list_all is_filled b.positional ≡ true) passed.1 passed.0
 
 few : (b : Bool) (n : ℕ) → b && not (nat_lt most_registers n) ≡ true → n ≤ most_registers
 few b n is = by (nat_lt most_registers n) refl (both b (not (nat_lt most_registers n)) is).1
@@ -59,7 +63,7 @@ few b n is = by (nat_lt most_registers n) refl (both b (not (nat_lt most_registe
     by false is other = ltb-false most_registers n is
 
 -- a number of registers that is read is within the limit
-few_registers : (word : List ℕ) (n : ℕ) → registers_of word ≡ Some n → n ≤ most_registers
+few_registers : (word : List ℕ) (n : ℕ) → number_of most_registers word ≡ Some n → n ≤ most_registers
 few_registers word n is =
     let from = made (λ n. then_some (is_filled word && not (nat_lt most_registers n)) n) (digits_after 0 word) n is in
     let passed = kept (is_filled word && not (nat_lt most_registers from.0)) from.0 n from.2 in
@@ -72,11 +76,12 @@ run_fit (s ∷ d ∷ []) c is = absurd (cc)
 run_fit (s ∷ d ∷ h ∷ []) c is = let same : run s d h ≡ c = cc in subst IsFit same tt
 run_fit (s ∷ d ∷ h ∷ w ∷ ws) c is = absurd (cc)
 
-synthesise_fit : (words : List (List ℕ)) (c : Command) → synthesise_of words ≡ Some c → IsFit c
-synthesise_fit [] c is = absurd (cc)
-synthesise_fit (s ∷ []) c is = absurd (cc)
-synthesise_fit (s ∷ o ∷ []) c is = let same : synthesise s o ≡ c = cc in subst IsFit same tt
-synthesise_fit (s ∷ o ∷ w ∷ ws) c is = absurd (cc)
+synthesise_fit : (words : List (List ℕ)) (budget : Option ℕ) (c : Command) → synthesise_of words budget ≡ Some c →
+    IsFit c
+synthesise_fit [] budget c is = absurd (cc)
+synthesise_fit (s ∷ []) budget c is = absurd (cc)
+synthesise_fit (s ∷ o ∷ []) budget c is = let same : synthesise s o budget ≡ c = cc in subst IsFit same tt
+synthesise_fit (s ∷ o ∷ w ∷ ws) budget c is = absurd (cc)
 
 check_fit : (words : List (List ℕ)) (c : Command) → check_of words ≡ Some c → IsFit c
 check_fit [] c is = absurd (cc)
@@ -89,9 +94,9 @@ generate_fit : (words : List (List ℕ)) (c : Command) → list_all is_filled wo
     generate_of words ≡ Some c → IsFit c
 generate_fit [] c all is = absurd (cc)
 generate_fit (n ∷ []) c all is = absurd (cc)
-generate_fit (n ∷ o ∷ []) c all is = by (registers_of n) refl is
+generate_fit (n ∷ o ∷ []) c all is = by (number_of most_registers n) refl is
   where
-    by : (r : Option ℕ) → registers_of n ≡ r → option_map (λ n. generate n o) r ≡ Some c → IsFit c
+    by : (r : Option ℕ) → number_of most_registers n ≡ r → option_map (λ n. generate n o) r ≡ Some c → IsFit c
     by None read is = absurd (cc)
     by (Some k) read is =
         let same : generate k o ≡ c = cc in
@@ -111,15 +116,25 @@ migrate_fit (s ∷ k ∷ o ∷ []) c all is =
     (filled o (both (is_filled o) true (both (is_filled k) (is_filled o && true) behind).1).0)
 migrate_fit (s ∷ k ∷ o ∷ w ∷ ws) c all is = absurd (cc)
 
-chosen : (r s k g m : Bool) (words : List (List ℕ)) (c : Command) → list_all is_filled words ≡ true →
-    (if r then run_of words else if s then synthesise_of words else if k then check_of words
-    else if g then generate_of words else if m then migrate_of words else None) ≡ Some c → IsFit c
-chosen true s k g m words c all is = run_fit words c is
-chosen false true k g m words c all is = synthesise_fit words c is
-chosen false false true g m words c all is = check_fit words c is
-chosen false false false true m words c all is = generate_fit words c all is
-chosen false false false false true words c all is = migrate_fit words c all is
-chosen false false false false false words c all is = absurd (cc)
+-- a command other than `synth`
+chosen : (r k g m : Bool) (words : List (List ℕ)) (c : Command) → list_all is_filled words ≡ true →
+    (if r then run_of words else if k then check_of words else if g then generate_of words
+    else if m then migrate_of words else None) ≡ Some c → IsFit c
+chosen true k g m words c all is = run_fit words c is
+chosen false true g m words c all is = check_fit words c is
+chosen false false true m words c all is = generate_fit words c all is
+chosen false false false true words c all is = migrate_fit words c all is
+chosen false false false false words c all is = absurd (cc)
+
+any_command : (s b : Bool) (command : List ℕ) (arguments : Arguments) (c : Command) →
+    list_all is_filled arguments.positional ≡ true →
+    (if s then synthesise_of arguments.positional arguments.budget else if b then None
+    else plain_command_with command arguments.positional) ≡ Some c → IsFit c
+any_command true b command arguments c all is = synthesise_fit arguments.positional arguments.budget c is
+any_command false true command arguments c all is = absurd (cc)
+any_command false false command arguments c all is =
+    chosen (bytes_eq command (codes "run")) (bytes_eq command (codes "check")) (bytes_eq command (codes "gen"))
+    (bytes_eq command (codes "migrate")) arguments.positional c all is
 
 -- a command that is spelled is fit
 pub spelled_fit : (c : Command) → IsSpelled c → IsFit c
@@ -128,7 +143,6 @@ spelled_fit c spelled = by spelled.0 spelled.1
     by : (words : List (List ℕ)) → command_of words ≡ Some c → IsFit c
     by [] is = absurd (cc)
     by (command ∷ words) is =
-        let from = made (command_with command) (positional_words words) c is in
-        chosen (bytes_eq command (codes "run")) (bytes_eq command (codes "synth")) (bytes_eq command (codes "check"))
-        (bytes_eq command (codes "gen")) (bytes_eq command (codes "migrate")) from.0 c
+        let from = made (command_with command) (arguments_of words) c is in
+        any_command (bytes_eq command (codes "synth")) (is_some from.0.budget) command from.0 c
         (all_filled words from.0 from.1) from.2

@@ -1,390 +1,403 @@
 -- How `clap` walks over the words behind a command.
-use Rattle.std.proofs.Common.{◌≡◌, ◌∙◌, ◌≤◌, ◌==◌, ◌&&◌, ℕ, Bool, cond, true, false, Option, None, Some, List}
-use Rattle.std.proofs.Common.{[], ◌∷◌, ◌++◌, length, fold, refl, sym, ap, ap₂, subst, arith, codes, true≢false}
-use Rattle.std.proofs.Common.{eqb-true, append_assoc, slice_get, option_map, unwrap_or, le-ltb, lt-ltb, map, String}
-use Rattle.std.proofs.Common.{⊎_elim}
-use Rattle.std.specs.List.{list_all}
+use Rattle.std.proofs.Common.{◌≡◌, ◌∙◌, ◌≤◌, ◌+◌, ℕ, Bool, cond, true, false, Option, None, Some, List, [], ◌∷◌, ◌++◌}
+use Rattle.std.proofs.Common.{suc, length, fold, refl, sym, ap, ap₂, subst, arith, codes, true≢false, option_map, map}
+use Rattle.std.proofs.Common.{String, ⊎_elim, unwrap_or}
 use Rattle.std.specs.Option.{option_and_then, option_map_or}
-use Rattle.std.specs.Str.{IsUtf8, bytes_eq, chars}
+use Rattle.std.specs.Str.{IsUtf8, bytes_eq}
 use Rattle.std.specs.String.{string_bytes}
-use Rattle.std.proofs.lemmas.List.{append-nil, length-map}
+use Rattle.std.proofs.lemmas.List.{length-append, length-map}
 use Rattle.std.proofs.lemmas.Str.{IsUtf8-string_bytes}
 use Rattle.std.proofs.lemmas.Slice.Eq.{bytes_eq-Decides}
-use Rattle.std.specs.Bool.{then_some}
-use Rattle.clap.specs.Lexer.{long_of, long_of_rest, short_of, usize_max}
-use Rattle.clap.specs.Kinds.{HasKind, Kinds, or_else, range_kinds, values_kinds}
-use Rattle.clap.specs.Faults.{bundle_fault, bundle_step_fault, check_fault, defaults_fault, fault_of, flag_word_fault}
-use Rattle.clap.specs.Faults.{flags_fault, is_simple_and_free, settle_fault, step_fault, turn_fault, walk_fault}
-use Rattle.clap.specs.Simple.{App, HasMatchesOf, Shape, built, is_simple, matches_of}
-use Rattle.clap.specs.Walk.{Held, Step, Text, Waiting, Walk, after_step, all_of, finished, idle}
-use Rattle.clap.specs.Walk.{long_or_other, nothing_held, plain_word, positional, rows_of, settled, short_or_plain}
-use Rattle.clap.specs.Walk.{trailing, value, walk_from, walked}
-use Rattle.clap.specs.declared.builder.value_parser.ValueParser.TheVariants.{NonEmptyString}
-use Rattle.clap.specs.declared.error.kind.ErrorKind.TheVariants.{InvalidValue, TooFewValues, TooManyValues, OutOfMemory}
-use Rattle.clap.specs.declared.error.kind.ErrorKind.TheVariants.{UnknownArgument}
-use Rattle.clap.specs.declared.error.Error.{Error}
-use Rattle.clap.specs.declared.parser.matches.ArgMatches.{ArgMatches}
+use Rattle.clap.specs.Lexer.{usize_max}
+use Rattle.clap.specs.Kinds.{HasKind, Kinds, or_else}
+use Rattle.clap.specs.Faults.{fault_of, is_simple_and_free, settle_fault, turn_fault, walk_fault}
 use Rattle.clap.specs.Matches.{found_of}
+use Rattle.clap.specs.Simple.{App, HasMatchesOf, built, is_simple, matches_of}
 use Rattle.clap.specs.Values.{kind_of}
+use Rattle.clap.specs.Walk.{Held, Row, Walk, all_of, finished, first_of, nothing_held, rows_of, settled, walked}
+use Rattle.clap.specs.declared.error.Error.{Error}
+use Rattle.clap.specs.declared.error.kind.ErrorKind.{ErrorKind}
+use Rattle.clap.specs.declared.error.kind.ErrorKind.TheVariants.{ArgumentConflict, InvalidValue, OutOfMemory}
+use Rattle.clap.specs.declared.error.kind.ErrorKind.TheVariants.{UnknownArgument}
+use Rattle.clap.specs.declared.parser.matches.ArgMatches.{ArgMatches}
 use Rattle.clap.proofs.FaultLemmas.{leaf_fault}
-use Rattle.clap.proofs.WalkLemmas.{raw_values-rows}
-use Rattle.tm_commands.specs.Words.{is_filled, is_option, positional_words, without_options}
-use Rattle.tm_commands.specs.Inner.Splitting.{words_app, words_of}
-use Rattle.tm_commands.proofs.Options.{flags_have_char, no_long, no_short}
+use Rattle.clap.proofs.WalkLemmas.{first_value-rows, raw_values-rows}
+use Rattle.tm_commands.specs.Words.{Arguments, Split, arguments_of, budget_before, is_option, part_behind, split_words}
+use Rattle.tm_commands.specs.Words.{with_budget, with_word}
+use Rattle.tm_commands.specs.Inner.Splitting.{arguments_found, budget_of, words_app, words_of}
+use Rattle.tm_commands.proofs.Expected.{Pending, Text, budget_after, can_use, expected, expected_whole, expects_none}
+use Rattle.tm_commands.proofs.Expected.{found_alone, from, use_pending, used_after, value, word_behind_value}
+use Rattle.tm_commands.proofs.Expected.{word_behind_words, words}
+use Rattle.tm_commands.proofs.Options.{no_long, no_number, no_short, part_is}
+use Rattle.tm_commands.proofs.Rows.{Keeps, words_in}
+use Rattle.tm_commands.proofs.Walking.{alone_step, alone_turn, behind_step, behind_turn, behind_word, dashes_step}
+use Rattle.tm_commands.proofs.Walking.{dashes_turn, fault_after, first_refuses, flag_fault, keeps_after, last_fault}
+use Rattle.tm_commands.proofs.Walking.{last_rows, level, no_more, opened, option_refused, pending_fault, pending_words}
+use Rattle.tm_commands.proofs.Walking.{place, place_refuses, plain_step, plain_turn, reason, rows_after, settled_rows}
+use Rattle.tm_commands.proofs.Walking.{skips_none, value_step, value_turn, with_step, with_turn, word_fault}
 
-abbrev level : Shape
-level = (built words_app).top
+-- ---- where words lead
+abbrev rest_of : Walk → List Text → Held
+rest_of w ws = (fold (walked level.rules []) w ws).held
 
--- where the walk stands when these words were found
-abbrev place : Bool → List Text → Walk
-place behind [] = record (walk_from nothing_held) { is_trailing = behind }
-place behind (v ∷ vs) = record {
-  held = record nothing_held { pending = Some (codes "words", v ∷ vs) };
-  waiting = positional;
-  position = 1;
-  is_trailing = behind;
-  stopped = None;
+abbrev whole_fault : Walk → List Text → Kinds
+whole_fault w ws = or_else (walk_fault level [] w ws) (fault_after (rest_of w ws))
+
+abbrev found_in : Held → Option Arguments
+found_in h = arguments_found (words_in (finished level.rules h)) (first_of (codes "budget") (finished level.rules h))
+
+-- from here words lead to this: it is what is found, or there is a fault, and it is nothing
+pub record Leads (w : Walk) (ws : List Text) (o : Option Arguments) : Type 0 where
+  found : whole_fault w ws ≡ [] → found_in (rest_of w ws) ≡ o
+  refused : (whole_fault w ws ≡ [] → ⊥) → o ≡ None
+
+leads_as : (w : Walk) (ws : List Text) (o other : Option Arguments) → o ≡ other → Leads w ws o → Leads w ws other
+leads_as w ws o other is leads = subst (λ (o : Option Arguments). Leads w ws o) is leads
+
+module _ (w : Walk) (word : Text) (ws : List Text) where
+  -- a word without a fault
+  leads_on : (next : Walk) (o : Option Arguments) → turn_fault level [] w word ≡ [] →
+      walked level.rules [] w word ≡ next → Leads next ws o → Leads w (word ∷ ws) o
+  unfolding walk_fault
+  leads_on next o turn step leads =
+      let same : whole_fault w (word ∷ ws) ≡ whole_fault next ws =
+      ap₂ or_else (ap₂ (λ a s. or_else a (walk_fault level [] s ws)) turn step)
+      (ap (λ s. fault_after (rest_of s ws)) step) in
+      record {
+        found = λ none. ap (λ s. found_in (rest_of s ws)) step ∙ leads.found (sym same ∙ none);
+        refused = λ some. leads.refused (λ none. some (same ∙ none));
+      }
+
+  -- a word with one
+  leads_nowhere : (k : ErrorKind) → turn_fault level [] w word ≡ k ∷ [] → Leads w (word ∷ ws) None
+  unfolding walk_fault
+  leads_nowhere k turn =
+      let same : whole_fault w (word ∷ ws)
+      ≡ k ∷ [] =
+      ap
+      (λ a. or_else (or_else a (walk_fault level [] (walked level.rules [] w word) ws))
+      (fault_after (rest_of (walked level.rules [] w word) ws))) turn in
+      record {
+        found = λ none. let both : k ∷ [] ≡ [] = sym same ∙ none in cc;
+        refused = λ some. refl;
+      }
+
+  -- a word that has one or not
+  leads_if : (t : Bool) (k : ErrorKind) (next : Walk) (o : Option Arguments) →
+      turn_fault level [] w word ≡ cond t [] (k ∷ []) → walked level.rules [] w word ≡ next →
+      (t ≡ true → Leads next ws o) → Leads w (word ∷ ws) (cond t o None)
+  leads_if true k next o turn step leads = leads_on next o turn step (leads refl)
+  leads_if false k next o turn step leads = leads_nowhere k turn
+
+-- no word is left
+module _ (behind : Bool) (rows : List Row) (kept : List Text) (budget : Option Text) (p : Pending)
+    (keeps : Keeps rows kept budget) (few : pending_words p ≤ usize_max) where
+  end_fault : whole_fault (place behind rows p) [] ≡ cond (can_use budget p) [] (reason p ∷ [])
+  unfolding walk_fault
+  end_fault =
+      last_fault (place behind rows p).held ∙ pending_fault behind rows kept budget p keeps few
+
+  end_found : Keeps (rows_after rows p) (used_after kept p) (budget_after budget p) →
+      found_in (rest_of (place behind rows p) [])
+      ≡ from (used_after kept p) (budget_after budget p) [] (Some (record { positional = []; budgets = [] }))
+  end_found after =
+      ap (λ (rs : List Row). arguments_found (words_in rs) (first_of (codes "budget") rs))
+      (last_rows (settled level.rules (place behind rows p).held).rows ∙ settled_rows behind rows p)
+      ∙ ap₂ arguments_found after.words after.found
+      ∙ found_alone (used_after kept p) (budget_after budget p)
+
+  end_leads : (t : Bool) → can_use budget p ≡ t →
+      Leads (place behind rows p) []
+      (cond t (from (used_after kept p) (budget_after budget p) [] (Some (record { positional = []; budgets = [] })))
+      None)
+  end_leads true can = record {
+    found = λ none. end_found (keeps_after rows kept budget p keeps can);
+    refused = λ some. absurd (some (end_fault ∙ ap (λ t. cond t [] (reason p ∷ [])) can));
+  }
+  end_leads false can = record {
+    found = λ none.
+        let both : reason p ∷ [] ≡ [] = sym (end_fault ∙ ap (λ t. cond t [] (reason p ∷ [])) can) ∙ none in cc;
+    refused = λ some. refl;
+  }
+
+  leads_end : Leads (place behind rows p) [] (expected kept budget p (Some (record { positional = []; budgets = [] })))
+  leads_end =
+      leads_as (place behind rows p) [] _ _
+      (use_pending kept budget p (Some (record { positional = []; budgets = [] })))
+      (end_leads (can_use budget p) refl)
+
+-- so from there on, if from behind it on
+leads_word : (behind : Bool) (rows : List Row) (kept : List Text) (budget : Option Text) (p : Pending) (word : Text)
+    (ws : List Text) (o : Option Split) → Keeps rows kept budget → pending_words p ≤ usize_max →
+    turn_fault level [] (place behind rows p) word ≡ word_fault behind rows p →
+    walked level.rules [] (place behind rows p) word ≡ behind_word behind rows p word →
+    ((rs : List Row) (found : List Text) (b : Option Text) (vs : List Text) → Keeps rs found b →
+    length vs ≤ suc (pending_words p) → Leads (place behind rs (words vs)) ws (expected found b (words vs) o)) →
+    Leads (place behind rows p) (word ∷ ws)
+    (expected kept budget p (option_map (with_word word) o))
+leads_word behind rows kept budget (words vs) word ws o keeps few turn step rest =
+    leads_on (place behind rows (words vs)) word ws (place behind rows (words (vs ++ word ∷ []))) _ turn step
+    (leads_as (place behind rows (words (vs ++ word ∷ []))) ws _ _ (word_behind_words kept budget vs word o)
+    (rest rows kept budget (vs ++ word ∷ []) keeps (omega (arith, length-append vs (word ∷ [])))))
+leads_word behind rows kept budget (value found) word ws o keeps few turn step rest =
+    leads_as (place behind rows (value found)) (word ∷ ws) _ _ (word_behind_value kept budget found word o)
+    (leads_if (place behind rows (value found)) word ws (can_use budget (value found)) ArgumentConflict
+    (place behind (rows_after rows (value found)) (words (word ∷ []))) _
+    (turn ∙ pending_fault behind rows kept budget (value found) keeps few) step
+    (λ can. rest (rows_after rows (value found)) (used_after kept (value found)) (budget_after budget (value found))
+    (word ∷ []) (keeps_after rows kept budget (value found) keeps can) (omega arith)))
+
+leads_behind : (ws : List Text) (rows : List Row) (kept : List Text) (budget : Option Text) (p : Pending) →
+    Keeps rows kept budget → pending_words p + length ws ≤ usize_max →
+    Leads (place true rows p) ws (expected kept budget p (Some (record { positional = ws; budgets = [] })))
+leads_behind [] rows kept budget p keeps few = leads_end true rows kept budget p keeps (omega (arith, few))
+leads_behind (word ∷ ws) rows kept budget p keeps few =
+    leads_word true rows kept budget p word ws (Some (record { positional = ws; budgets = [] })) keeps
+    (omega (arith, few)) (behind_turn rows p word) (behind_step rows p word)
+    (λ rs found b vs keeps short. leads_behind ws rs found b (words vs) keeps (omega (arith, few, short)))
+
+-- ---- `--budget`, where a budget is waited for
+-- anything but a value is a fault
+opened_ends : (behind : Bool) (rows : List Row) → Leads (opened behind rows) [] None
+unfolding walk_fault
+opened_ends behind rows = record {
+  found = λ none. let both : InvalidValue ∷ [] ≡ [] = none in cc;
+  refused = λ some. refl;
 }
 
--- ---- a word behind `--`
+opened_behind : (rows : List Row) (ws : List Text) → Leads (opened true rows) ws None
+opened_behind rows [] = opened_ends true rows
+opened_behind rows (word ∷ ws) = leads_nowhere (opened true rows) word ws InvalidValue refl
 
-behind_step : (vs : List Text) (word : Text) →
-    walked level.rules [] (place true vs) word ≡ place true (vs ++ word ∷ [])
+opened_dashes : (rows : List Row) (ws : List Text) → Leads (opened false rows) (codes "--" ∷ ws) None
 unfolding walked
-behind_step [] word = refl
-behind_step (v ∷ vs) word = refl
+opened_dashes rows ws =
+    leads_on (opened false rows) (codes "--") ws (opened true rows) None refl refl (opened_behind rows ws)
 
-behind_turn : (vs : List Text) (word : Text) → turn_fault level [] (place true vs) word ≡ []
-behind_turn [] word = refl
-behind_turn (v ∷ vs) word = refl
+opened_alone : (rows : List Row) (ws : List Text) → Leads (opened false rows) (codes "--budget" ∷ ws) None
+opened_alone rows ws = leads_nowhere (opened false rows) (codes "--budget") ws InvalidValue refl
 
--- ---- the first `--`
+opened_with : (rows : List Row) (number : Text) (ws : List Text) →
+    Leads (opened false rows) ((codes "--budget=" ++ number) ∷ ws) None
+opened_with rows number ws = leads_nowhere (opened false rows) (codes "--budget=" ++ number) ws InvalidValue refl
 
-dashes_step : (vs : List Text) → walked level.rules [] (place false vs) (codes "--") ≡ place true vs
-unfolding walked
-dashes_step [] = refl
-dashes_step (v ∷ vs) = refl
+opened_refuses : (rows : List Row) (word : Text) (ws : List Text) →
+    flag_fault word (opened false rows).held ≡ UnknownArgument ∷ [] → Leads (opened false rows) (word ∷ ws) None
+opened_refuses rows word ws is =
+    leads_nowhere (opened false rows) word ws UnknownArgument (first_refuses _ _ is)
 
-dashes_turn : (vs : List Text) → turn_fault level [] (place false vs) (codes "--") ≡ []
-dashes_turn [] = refl
-dashes_turn (v ∷ vs) = refl
-
--- ---- a word that is no option
-
-module _ (word : Text) (other : bytes_eq word (codes "--") ≡ false) (long : long_of word ≡ None)
-    (short : short_of word ≡ None) where
-  plain_met : (waiting : Waiting) (h : Held) → plain_word level.rules waiting word h ≡ (h, value) →
-      cond (bytes_eq word (codes "--")) (h, trailing 1) (long_or_other level.rules waiting word (long_of word) h)
-      ≡ (h, value)
-  plain_met waiting h plain =
-      ap (λ is. cond is (h, trailing 1) (long_or_other level.rules waiting word (long_of word) h)) other
-      ∙ ap (λ o. long_or_other level.rules waiting word o h) long
-      ∙ ap (λ o. short_or_plain level.rules waiting word o h) short ∙ plain
-
-  plain_fault : (h : Held) →
-      cond (bytes_eq word (codes "--")) [] (flag_word_fault level.rules false (long_of word) word h) ≡ []
-  plain_fault h =
-      ap (λ is. cond is [] (flag_word_fault level.rules false (long_of word) word h)) other
-      ∙ ap (λ o. flag_word_fault level.rules false o word h) long
-      ∙ ap (λ o. option_map_or (λ flags. bundle_fault level.rules false flags h) o []) short
-
-  plain_step : (vs : List Text) → walked level.rules [] (place false vs) word ≡ place false (vs ++ word ∷ [])
-  unfolding walked
-  plain_step [] =
-      ap (λ (met : Held × Step). after_step level.rules word (place false []) met.0 met.1)
-      (plain_met idle nothing_held refl)
-  plain_step (v ∷ vs) =
-      ap (λ (met : Held × Step). after_step level.rules word (place false (v ∷ vs)) met.0 met.1)
-      (plain_met positional (place false (v ∷ vs)).held refl)
-
-  plain_turn : (vs : List Text) → turn_fault level [] (place false vs) word ≡ []
-  plain_turn [] =
-      ap₂ or_else (plain_fault nothing_held)
-      (ap (λ (met : Held × Step). step_fault level 1 met.0 met.1) (plain_met idle nothing_held refl))
-  plain_turn (v ∷ vs) =
-      ap₂ or_else (plain_fault (place false (v ∷ vs)).held)
-      (ap (λ (met : Held × Step). step_fault level 1 met.0 met.1)
-      (plain_met positional (place false (v ∷ vs)).held refl))
-
--- ---- an option
-
-long_turn : (vs : List Text) (b : ℕ) (bs : Text) →
-    turn_fault level [] (place false vs) (45 ∷ 45 ∷ b ∷ bs) ≡ UnknownArgument ∷ []
-long_turn [] b bs = refl
-long_turn (v ∷ vs) b bs = refl
-
-flags_refused : (c x : ℕ) (bs : Text) (h : Held) → slice_get (chars (c ∷ bs)) 0 ≡ Some x →
-    flags_fault level.rules false (length (c ∷ bs)) (c ∷ bs) 0 h ≡ UnknownArgument ∷ []
-unfolding flags_fault
-flags_refused c x bs h is =
-    ap (λ o. bundle_step_fault level.rules false o (c ∷ bs) 0 h (flags_fault level.rules false (length bs))) is
-
-first_refuses : (a b : Kinds) → a ≡ UnknownArgument ∷ [] → or_else a b ≡ UnknownArgument ∷ []
-first_refuses a b is = ap (λ k. or_else k b) is
-
-module _ (c x : ℕ) (bs : Text) (other : (c == 45) ≡ false) (is : slice_get (chars (c ∷ bs)) 0 ≡ Some x) where
-  short_fault : (h : Held) → bundle_fault level.rules false (c ∷ bs) h ≡ UnknownArgument ∷ [] →
-      cond (bytes_eq (45 ∷ c ∷ bs) (codes "--")) []
-      (flag_word_fault level.rules false (long_of (45 ∷ c ∷ bs)) (45 ∷ c ∷ bs) h) ≡ UnknownArgument ∷ []
-  short_fault h refused =
-      let no_dashes : bytes_eq (45 ∷ c ∷ bs) (codes "--") ≡ false = ap (λ t. t && bytes_eq bs []) other in
-      let none : long_of (45 ∷ c ∷ bs) ≡ None =
-      ap (λ t. option_and_then long_of_rest (cond t (Some bs) None)) other in
-      let flags : short_of (45 ∷ c ∷ bs) ≡ Some (c ∷ bs) = ap (λ t. cond t None (Some (c ∷ bs))) other in
-      ap (λ t. cond t [] (flag_word_fault level.rules false (long_of (45 ∷ c ∷ bs)) (45 ∷ c ∷ bs) h)) no_dashes
-      ∙ ap (λ o. flag_word_fault level.rules false o (45 ∷ c ∷ bs) h) none
-      ∙ ap (λ o. option_map_or (λ fs. bundle_fault level.rules false fs h) o []) flags ∙ refused
-
-  short_turn : (vs : List Text) → turn_fault level [] (place false vs) (45 ∷ c ∷ bs) ≡ UnknownArgument ∷ []
-  short_turn [] = first_refuses _ _ (short_fault nothing_held (flags_refused c x bs nothing_held is))
-  short_turn (v ∷ vs) =
-      first_refuses _ _
-      (short_fault (place false (v ∷ vs)).held (flags_refused c x bs (place false (v ∷ vs)).held is))
-
--- a word that begins with a hyphen and is longer than that
-hyphen_turn : (vs : List Text) (c : ℕ) (bs : Text) → bytes_eq (45 ∷ c ∷ bs) (codes "--") ≡ false →
-    IsUtf8 (45 ∷ c ∷ bs) → turn_fault level [] (place false vs) (45 ∷ c ∷ bs) ≡ UnknownArgument ∷ []
-hyphen_turn vs c bs other utf8 = go (c == 45) refl bs other utf8
-  where
-    go : (is : Bool) → (c == 45) ≡ is → (bs : Text) → bytes_eq (45 ∷ c ∷ bs) (codes "--") ≡ false →
-        IsUtf8 (45 ∷ c ∷ bs) → turn_fault level [] (place false vs) (45 ∷ c ∷ bs) ≡ UnknownArgument ∷ []
-    go true is [] other utf8 = absurd (true≢false (sym (ap (λ t. t && true) is) ∙ other))
-    go true is (b ∷ bs) other utf8 =
-        subst (λ y. turn_fault level [] (place false vs) (45 ∷ y ∷ b ∷ bs) ≡ UnknownArgument ∷ [])
-        (sym (eqb-true c 45 is)) (long_turn vs b bs)
-    go false is bs other utf8 =
-        let char = flags_have_char c bs utf8 in short_turn c char.0 bs is char.1 vs
-
-option_turn : (vs : List Text) (word : Text) → is_option word ≡ true → bytes_eq word (codes "--") ≡ false →
-    IsUtf8 word → turn_fault level [] (place false vs) word ≡ UnknownArgument ∷ []
-option_turn vs [] is other utf8 = absurd (true≢false (sym is))
-option_turn vs (b ∷ []) is other utf8 = absurd (true≢false (sym is))
-option_turn vs (b ∷ c ∷ bs) is other utf8 =
-    let hyphen : 45 ≡ b = sym (eqb-true b 45 is) in
-    subst (λ y. turn_fault level [] (place false vs) (y ∷ c ∷ bs) ≡ UnknownArgument ∷ []) hyphen
-    (hyphen_turn vs c bs
-    (subst (λ y. bytes_eq (y ∷ c ∷ bs) (codes "--") ≡ false) (sym hyphen) other)
-    (subst (λ y. IsUtf8 (y ∷ c ∷ bs)) (sym hyphen) utf8))
-
--- ---- all the words
-
+-- ---- all words
 -- each word is text
 abbrev AreText : List Text → Type 0
 AreText [] = Unit {0}
-AreText (word ∷ words) = IsUtf8 word × AreText words
+AreText (word ∷ ws) = IsUtf8 word × AreText ws
 
--- over these words the walk finds what stands behind those found before, or fails
-abbrev Finds : List Text → List Text → Option (List Text) → Type 0
-Finds vs words None = walk_fault level [] (place false vs) words ≡ [] → ⊥
-Finds vs words (Some ws) =
-    (walk_fault level [] (place false vs) words ≡ [])
-    × ((behind : Bool) × (fold (walked level.rules []) (place false vs) words ≡ place behind (vs ++ ws)))
-    × (length ws ≤ length words)
+-- where the walk stands before words, and what is expected of them
+abbrev stand : Bool → List Row → Pending → Walk
+stand true rows p = opened false rows
+stand false rows p = place false rows p
 
-walk_then : (place_now next : Walk) (word : Text) (words : List Text) → turn_fault level [] place_now word ≡ [] →
-    walked level.rules [] place_now word ≡ next →
-    walk_fault level [] place_now (word ∷ words) ≡ walk_fault level [] next words
-unfolding walk_fault
-walk_then place_now next word words turn step = ap₂ (λ a w. or_else a (walk_fault level [] w words)) turn step
+abbrev wanted : Bool → List Text → Option Text → Pending → Option Split → Option Arguments
+wanted true kept budget p o = from kept budget [] o
+wanted false kept budget p o = expected kept budget p o
 
-walk_stops : (place_now : Walk) (word : Text) (words : List Text) →
-    turn_fault level [] place_now word ≡ UnknownArgument ∷ [] →
-    walk_fault level [] place_now (word ∷ words) ≡ UnknownArgument ∷ []
-unfolding walk_fault
-walk_stops place_now word words turn =
-    first_refuses (turn_fault level [] place_now word)
-    (walk_fault level [] (walked level.rules [] place_now word) words) turn
+-- words lead there, from wherever the walk stands
+abbrev Lead : List Text → Type 0
+Lead ws = (waits : Bool) (rows : List Row) (kept : List Text) (budget : Option Text) (p : Pending) →
+    Keeps rows kept budget → pending_words p + length ws ≤ usize_max →
+    Leads (stand waits rows p) ws (wanted waits kept budget p (split_words waits ws))
 
-behind_fault : (vs words : List Text) → walk_fault level [] (place true vs) words ≡ []
-unfolding walk_fault
-behind_fault vs [] = refl
-behind_fault vs (word ∷ words) =
-    walk_then (place true vs) (place true (vs ++ word ∷ [])) word words (behind_turn vs word) (behind_step vs word)
-    ∙ behind_fault (vs ++ word ∷ []) words
+module _ (word : Text) (utf8 : IsUtf8 word) (ws : List Text) (rest : Lead ws) (rows : List Row) (kept : List Text)
+    (budget : Option Text) (keeps : Keeps rows kept budget) where
+  module _ (p : Pending) (few : pending_words p + suc (length ws) ≤ usize_max) where
+    by_alone : word ≡ codes "--budget" →
+        Leads (place false rows p) (word ∷ ws) (expected kept budget p (split_words true ws))
+    by_alone is =
+        subst (λ (w : Text). Leads (place false rows p) (w ∷ ws) (expected kept budget p (split_words true ws)))
+        (sym is)
+        (leads_as (place false rows p) (codes "--budget" ∷ ws) _ _
+        (use_pending kept budget p (split_words true ws))
+        (leads_if (place false rows p) (codes "--budget") ws (can_use budget p) (reason p)
+        (opened false (rows_after rows p)) _
+        (alone_turn rows p ∙ no_more (settle_fault level.rules false (place false rows p).held)
+        ∙ pending_fault false rows kept budget p keeps (omega (arith, few)))
+        (alone_step rows p)
+        (λ can. rest true (rows_after rows p) (used_after kept p) (budget_after budget p) (words [])
+        (keeps_after rows kept budget p keeps can) (omega (arith, few)))))
 
-behind_walk : (vs words : List Text) → fold (walked level.rules []) (place true vs) words ≡ place true (vs ++ words)
-behind_walk vs [] = ap (place true) (sym (append-nil vs))
-behind_walk vs (word ∷ words) =
-    ap (λ w. fold (walked level.rules []) w words) (behind_step vs word) ∙ behind_walk (vs ++ word ∷ []) words
-    ∙ ap (place true) (append_assoc vs (word ∷ []) words)
+    -- a number that is attached, where what is pending can be used or not
+    with_number : (number : Text) (t : Bool) → can_use budget p ≡ t →
+        Leads (place false rows p) ((codes "--budget=" ++ number) ∷ ws)
+        (cond t
+        (from (used_after kept p) (budget_after budget p) [] (budget_before number (split_words false ws))) None)
+    with_number number false can =
+        leads_nowhere (place false rows p) (codes "--budget=" ++ number) ws (reason p)
+        (with_turn rows p number
+        ∙ ap
+        (λ (ks : Kinds). or_else
+        (or_else ks (settle_fault level.rules false (place false (rows_after rows p) (value number)).held)) [])
+        (pending_fault false rows kept budget p keeps (omega (arith, few))
+        ∙ ap (λ t. cond t [] (reason p ∷ [])) can))
+    with_number number true can =
+        let after = keeps_after rows kept budget p keeps can in
+        leads_as (place false rows p) ((codes "--budget=" ++ number) ∷ ws) _ _
+        (use_pending (used_after kept p) (budget_after budget p) (value number) (split_words false ws))
+        (leads_if (place false rows p) (codes "--budget=" ++ number) ws
+        (can_use (budget_after budget p) (value number)) ArgumentConflict
+        (place false (rows_after (rows_after rows p) (value number)) (words [])) _
+        (with_turn rows p number
+        ∙ ap
+        (λ (ks : Kinds). or_else
+        (or_else ks (settle_fault level.rules false (place false (rows_after rows p) (value number)).held)) [])
+        (pending_fault false rows kept budget p keeps (omega (arith, few))
+        ∙ ap (λ t. cond t [] (reason p ∷ [])) can)
+        ∙ no_more (settle_fault level.rules false (place false (rows_after rows p) (value number)).held)
+        ∙ pending_fault false (rows_after rows p) (used_after kept p) (budget_after budget p) (value number) after
+        (omega arith))
+        (with_step rows p number)
+        (λ free. rest false (rows_after (rows_after rows p) (value number)) (used_after kept p) (Some number)
+        (words [])
+        (keeps_after (rows_after rows p) (used_after kept p) (budget_after budget p) (value number) after free)
+        (omega (arith, few))))
 
-finds_dashes : (vs : List Text) (word : Text) (words : List Text) → word ≡ codes "--" →
-    Finds vs (word ∷ words) (Some words)
-finds_dashes vs word words is = (
-  walk_then (place false vs) (place true vs) word words
-      (ap (turn_fault level [] (place false vs)) is ∙ dashes_turn vs)
-      (ap (walked level.rules [] (place false vs)) is ∙ dashes_step vs)
-      ∙ behind_fault vs words,
-  (
-    true,
-    ap (λ w. fold (walked level.rules []) (walked level.rules [] (place false vs) w) words) is
-        ∙ ap (λ w. fold (walked level.rules []) w words) (dashes_step vs) ∙ behind_walk vs words,
-  ),
-  omega arith,
-)
+    by_with : (number : Text) → word ≡ codes "--budget=" ++ number →
+        Leads (place false rows p) (word ∷ ws)
+        (expected kept budget p (budget_before number (split_words false ws)))
+    by_with number is =
+        subst
+        (λ (w : Text). Leads (place false rows p) (w ∷ ws)
+        (expected kept budget p (budget_before number (split_words false ws))))
+        (sym is)
+        (leads_as (place false rows p) ((codes "--budget=" ++ number) ∷ ws) _ _
+        (use_pending kept budget p (budget_before number (split_words false ws)))
+        (with_number number (can_use budget p) refl))
 
-finds_option : (vs : List Text) (word : Text) (words : List Text) →
-    turn_fault level [] (place false vs) word ≡ UnknownArgument ∷ [] → Finds vs (word ∷ words) None
-finds_option vs word words turn = λ none.
-    let both : UnknownArgument ∷ [] ≡ [] = sym (walk_stops (place false vs) word words turn) ∙ none in cc
+    place_next : Leads (place false rows p) (word ∷ ws) (expected kept budget p (split_words false (word ∷ ws)))
+    place_next = go (bytes_eq word (codes "--")) refl (bytes_eq word (codes "--budget")) refl
+        (part_behind (codes "--budget=") word) refl (is_option word) refl
+      where
+        go : (d : Bool) → bytes_eq word (codes "--") ≡ d → (a : Bool) → bytes_eq word (codes "--budget") ≡ a →
+            (w : Option Text) → part_behind (codes "--budget=") word ≡ w → (o : Bool) → is_option word ≡ o →
+            Leads (place false rows p) (word ∷ ws)
+            (expected kept budget p
+            (cond d (Some (record { positional = ws; budgets = [] }))
+            (cond a (split_words true ws)
+            (option_map_or (λ number. budget_before number (split_words false ws)) w
+            (cond o None
+            (option_map (with_word word) (split_words false ws)))))))
+        go true dashes a alone w with o is =
+            subst
+            (λ (v : Text). Leads (place false rows p) (v ∷ ws)
+            (expected kept budget p (Some (record { positional = ws; budgets = [] }))))
+            (sym ((bytes_eq-Decides word (codes "--")).0 dashes))
+            (leads_on (place false rows p) (codes "--") ws (place true rows p) _ (dashes_turn rows p)
+            (dashes_step rows p) (leads_behind ws rows kept budget p keeps (omega (arith, few))))
+        go false dashes true alone w with o is = by_alone ((bytes_eq-Decides word (codes "--budget")).0 alone)
+        go false dashes false alone (Some number) with o is =
+            by_with number (part_is (codes "--budget=") word number with)
+        go false dashes false alone None with true is =
+            leads_as (place false rows p) (word ∷ ws) None _ (sym (expects_none kept budget p))
+            (leads_nowhere (place false rows p) word ws UnknownArgument
+            (place_refuses rows p word
+            (option_refused word (place false rows p).held is dashes alone with utf8 (skips_none rows p))))
+        go false dashes false alone None with false is =
+            leads_word false rows kept budget p word ws (split_words false ws) keeps (omega (arith, few))
+            (plain_turn word dashes (no_long word is) (no_short word is) rows p)
+            (plain_step word dashes (no_long word is) (no_short word is) rows p)
+            (λ rs found b vs keeps short. rest false rs found b (words vs) keeps (omega (arith, few, short)))
 
-finds_plain : (vs : List Text) (word : Text) (words : List Text) (found : Option (List Text)) →
-    turn_fault level [] (place false vs) word ≡ [] →
-    walked level.rules [] (place false vs) word ≡ place false (vs ++ word ∷ []) →
-    Finds (vs ++ word ∷ []) words found → Finds vs (word ∷ words) (option_map (λ ws. word ∷ ws) found)
-finds_plain vs word words None turn step rest = λ none.
-    rest (sym (walk_then (place false vs) (place false (vs ++ word ∷ [])) word words turn step) ∙ none)
-finds_plain vs word words (Some ws) turn step rest = (
-  walk_then (place false vs) (place false (vs ++ word ∷ [])) word words turn step ∙ rest.0,
-  (
-    rest.1.0,
-    ap (λ w. fold (walked level.rules []) w words) step ∙ rest.1.1
-        ∙ ap (place rest.1.0) (append_assoc vs (word ∷ []) ws),
-  ),
-  omega (arith, rest.2),
-)
+  -- the word behind `--budget` is an option
+  not_a_value : is_option word ≡ true → Leads (opened false rows) (word ∷ ws) None
+  not_a_value is = go (bytes_eq word (codes "--")) refl (bytes_eq word (codes "--budget")) refl
+      (part_behind (codes "--budget=") word) refl
+    where
+      go : (d : Bool) → bytes_eq word (codes "--") ≡ d → (a : Bool) → bytes_eq word (codes "--budget") ≡ a →
+          (w : Option Text) → part_behind (codes "--budget=") word ≡ w → Leads (opened false rows) (word ∷ ws) None
+      go true dashes a alone w with =
+          subst (λ (v : Text). Leads (opened false rows) (v ∷ ws) None)
+          (sym ((bytes_eq-Decides word (codes "--")).0 dashes)) (opened_dashes rows ws)
+      go false dashes true alone w with =
+          subst (λ (v : Text). Leads (opened false rows) (v ∷ ws) None)
+          (sym ((bytes_eq-Decides word (codes "--budget")).0 alone)) (opened_alone rows ws)
+      go false dashes false alone (Some number) with =
+          subst (λ (v : Text). Leads (opened false rows) (v ∷ ws) None)
+          (sym (part_is (codes "--budget=") word number with)) (opened_with rows number ws)
+      go false dashes false alone None with =
+          opened_refuses rows word ws
+          (option_refused word (opened false rows).held is dashes alone with utf8 refl)
 
-finds_next : (vs : List Text) (word : Text) (words : List Text) → IsUtf8 word →
-    Finds (vs ++ word ∷ []) words (without_options words) →
-    Finds vs (word ∷ words) (without_options (word ∷ words))
-finds_next vs word words utf8 rest = go (bytes_eq word (codes "--")) refl (is_option word) refl
-  where
-    go : (dashes : Bool) → bytes_eq word (codes "--") ≡ dashes → (is : Bool) → is_option word ≡ is →
-        Finds vs (word ∷ words) (cond dashes (Some words)
-        (cond is None (option_map (λ ws. word ∷ ws) (without_options words))))
-    go true are o is = finds_dashes vs word words ((bytes_eq-Decides word (codes "--")).0 are)
-    go false other true is = finds_option vs word words (option_turn vs word is other utf8)
-    go false other false is =
-        finds_plain vs word words (without_options words)
-        (plain_turn word other (no_long word is) (no_short word is) vs)
-        (plain_step word other (no_long word is) (no_short word is) vs) rest
+  no_dashes : is_option word ≡ false → bytes_eq word (codes "--") ≡ false
+  no_dashes is = go (bytes_eq word (codes "--")) refl
+    where
+      go : (t : Bool) → bytes_eq word (codes "--") ≡ t → bytes_eq word (codes "--") ≡ false
+      go true dashes = absurd (true≢false (ap is_option (sym ((bytes_eq-Decides word (codes "--")).0 dashes)) ∙ is))
+      go false dashes = dashes
 
-finds : (vs words : List Text) → AreText words → Finds vs words (without_options words)
-unfolding walk_fault
-finds vs [] texts = (refl, (false, ap (place false) (sym (append-nil vs))), omega arith)
-finds vs (word ∷ words) texts = finds_next vs word words texts.0 (finds (vs ++ word ∷ []) words texts.1)
+  opened_next : suc (length ws) ≤ usize_max →
+      Leads (opened false rows) (word ∷ ws) (from kept budget [] (split_words true (word ∷ ws)))
+  opened_next few = go (is_option word) refl
+    where
+      go : (o : Bool) → is_option word ≡ o →
+          Leads (opened false rows) (word ∷ ws) (from kept budget [] (budget_before word (split_words false ws)))
+      go true is =
+          leads_as (opened false rows) (word ∷ ws) None _
+          (sym (ap
+          (λ (number : Option ℕ). from kept budget []
+          (option_and_then (λ n. option_map (with_budget n) (split_words false ws)) number))
+          (no_number word is)))
+          (not_a_value is)
+      go false is =
+          leads_on (opened false rows) word ws (place false rows (value word)) _
+          (value_turn word (no_dashes is) (no_long word is) (no_short word is) rows)
+          (value_step word (no_dashes is) (no_long word is) (no_short word is) rows)
+          (rest false rows kept budget (value word) keeps (omega (arith, few)))
 
--- ---- what comes after the words
-
--- an empty word among those that were found is refused
-empty_fault : (ws : List Text) →
-    values_kinds false NonEmptyString ws ≡ cond (list_all is_filled ws) [] (InvalidValue ∷ [])
-empty_fault [] = refl
-empty_fault ([] ∷ ws) = refl
-empty_fault ((b ∷ bs) ∷ ws) =
-    ap (λ t. or_else (cond t [] (InvalidValue ∷ [])) (values_kinds false NonEmptyString ws))
-    (lt-ltb 0 (length (b ∷ bs)) (omega arith))
-    ∙ empty_fault ws
-
-few_words : (n : ℕ) → n ≤ usize_max → range_kinds 0 usize_max n ≡ []
-few_words n few =
-    ap₂ (λ a b. cond a (TooFewValues ∷ []) (cond b (TooManyValues ∷ []) [])) (le-ltb n 0 (omega arith))
-    (le-ltb usize_max n few)
-
-no_more : (t : Bool) → or_else (cond t [] (InvalidValue ∷ [])) [] ≡ cond t [] (InvalidValue ∷ [])
-no_more true = refl
-no_more false = refl
-
-abbrev fault_after : Held → Kinds
-fault_after h =
-    or_else (settle_fault level.rules false h)
-    (or_else (defaults_fault (settled level.rules h).rows level.rules)
-    (check_fault level (finished level.rules h) false))
-
-end_fault : (behind : Bool) (ws : List Text) → length ws ≤ usize_max →
-    fault_after (place behind ws).held ≡ cond (list_all is_filled ws) [] (InvalidValue ∷ [])
-unfolding defaults_fault
-end_fault behind [] few = refl
-end_fault behind (v ∷ vs) few =
-    ap₂ (λ a b. or_else (or_else a b) []) (few_words (length (v ∷ vs)) few) (empty_fault (v ∷ vs))
-    ∙ no_more (list_all is_filled (v ∷ vs))
-
-found_rows : (behind : Bool) (ws : List Text) →
-    unwrap_or (all_of (codes "words") (finished level.rules (place behind ws).held)) [] ≡ ws
-found_rows behind [] = refl
-found_rows behind (v ∷ vs) = refl
-
-first_none : (a b : Kinds) → or_else a b ≡ [] → a ≡ []
-first_none [] b none = refl
-first_none (k ∷ ks) b none = none
-
--- words that have a reading are split without a fault, and those that were found are the positional ones
-abbrev Splits : List Text → Option (List Text) → Type 0
-Splits words None = fault_of words_app words ≡ [] → ⊥
-Splits words (Some ws) =
-    (fault_of words_app words ≡ []) × (unwrap_or (all_of (codes "words") (matches_of words_app words)) [] ≡ ws)
-
-whole_fault : (words : List Text) →
-    fault_of words_app words ≡ or_else (walk_fault level [] (place false []) words)
-    (fault_after (fold (walked level.rules []) (place false []) words).held)
-whole_fault words = leaf_fault (built words_app) nothing_held words refl
-
-splits_filled : (words ws : List Text) →
-    fault_of words_app words ≡ cond (list_all is_filled ws) [] (InvalidValue ∷ []) →
-    unwrap_or (all_of (codes "words") (matches_of words_app words)) [] ≡ ws →
-    Splits words (then_some (list_all is_filled ws) ws)
-splits_filled words ws fault found = go (list_all is_filled ws) fault
-  where
-    go : (filled : Bool) → fault_of words_app words ≡ cond filled [] (InvalidValue ∷ []) →
-        Splits words (then_some filled ws)
-    go true fault = (fault, found)
-    go false fault = λ none. let both : InvalidValue ∷ [] ≡ [] = sym fault ∙ none in cc
-
-splits : (words : List Text) → AreText words → length words ≤ usize_max → Splits words (positional_words words)
-splits words texts few = go (without_options words) (finds [] words texts)
-  where
-    go : (found : Option (List Text)) → Finds [] words found →
-        Splits words (option_and_then (λ ws. then_some (list_all is_filled ws) ws) found)
-    go None fails = λ none. fails (first_none (walk_fault level [] (place false []) words)
-        (fault_after (fold (walked level.rules []) (place false []) words).held) (sym (whole_fault words) ∙ none))
-    go (Some ws) rest =
-        splits_filled words ws
-        (whole_fault words
-        ∙ ap₂ (λ (a : Kinds) (w : Walk). or_else a (fault_after w.held)) rest.0 rest.1.1
-        ∙ end_fault rest.1.0 ws (omega (arith, rest.2)))
-        (ap (λ (w : Walk). unwrap_or (all_of (codes "words") (finished level.rules w.held)) []) rest.1.1
-        ∙ found_rows rest.1.0 ws)
+lead : (ws : List Text) → AreText ws → Lead ws
+lead [] texts true rows kept budget p keeps few = opened_ends false rows
+lead [] texts false rows kept budget p keeps few =
+    leads_end false rows kept budget p keeps (omega (arith, few))
+lead (word ∷ ws) texts true rows kept budget p keeps few =
+    opened_next word texts.0 ws (lead ws texts.1) rows kept budget keeps (omega (arith, few))
+lead (word ∷ ws) texts false rows kept budget p keeps few =
+    place_next word texts.0 ws (lead ws texts.1) rows kept budget keeps p few
 
 -- the bytes of strings are text
 strings_are_text : {Z : Type 0} (strings : List (String Z)) → AreText (map string_bytes strings)
 strings_are_text [] = tt
 strings_are_text (s ∷ strings) = (IsUtf8-string_bytes s, strings_are_text strings)
 
-pub splits_strings : {Z : Type 0} (strings : List (String Z)) → length strings ≤ usize_max →
-    Splits (map string_bytes strings) (positional_words (map string_bytes strings))
-splits_strings strings few =
-    splits (map string_bytes strings) (strings_are_text strings) (omega (arith, length-map strings string_bytes))
+pub starts : {Z : Type 0} (strings : List (String Z)) → length strings ≤ usize_max →
+    Leads (place false [] (words [])) (map string_bytes strings) (arguments_of (map string_bytes strings))
+starts strings few =
+    leads_as (place false [] (words [])) (map string_bytes strings) _ _ (expected_whole (map string_bytes strings))
+    (lead (map string_bytes strings) (strings_are_text strings) false [] [] None (words [])
+    (record { words = refl; found = refl; has = refl }) (omega (arith, few, length-map strings string_bytes)))
 
-module _ (app : App) (words : List Text) (is : app ≡ words_app) (split : Splits words (positional_words words)) where
-  -- where `clap` splits the words, those that it found are the positional ones
-  pub split_whole : (m : ArgMatches) → (is_simple_and_free app ≡ true → fault_of app words ≡ []) →
-      HasMatchesOf app words m → Some (words_of m) ≡ positional_words words
-  split_whole m faultless matches = go (positional_words words) split
-    where
-      none : fault_of words_app words ≡ []
-      none = ap (λ a. fault_of a words) (sym is) ∙ faultless (ap is_simple_and_free is)
+split_fault : (ws : List Text) → fault_of words_app ws ≡ whole_fault (place false [] (words [])) ws
+split_fault ws = leaf_fault (built words_app) nothing_held ws refl
 
-      rows : rows_of (found_of m) ≡ matches_of words_app words
-      rows = (matches (ap is_simple is)).0 ∙ ap (λ a. matches_of a words) is
-
-      found : words_of m ≡ unwrap_or (all_of (codes "words") (matches_of words_app words)) []
-      found = ap (λ o. unwrap_or o []) (raw_values-rows (found_of m) (codes "words"))
-          ∙ ap (λ r. unwrap_or (all_of (codes "words") r) []) rows
-
-      go : (positional : Option (List Text)) → Splits words positional → Some (words_of m) ≡ positional
-      go None fails = absurd (fails none)
-      go (Some ws) done = ap Some (found ∙ done.1)
+module _ (app : App) (ws : List Text) (is : app ≡ words_app)
+    (leads : Leads (place false [] (words [])) ws (arguments_of ws)) where
+  -- where `clap` splits the words, what it found stands behind the command
+  pub split_whole : (m : ArgMatches) → (is_simple_and_free app ≡ true → fault_of app ws ≡ []) →
+      HasMatchesOf app ws m → arguments_found (words_of m) (budget_of m) ≡ arguments_of ws
+  split_whole m faultless matches =
+      let none : fault_of words_app ws ≡ [] =
+      ap (λ a. fault_of a ws) (sym is) ∙ faultless (ap is_simple_and_free is) in
+      let rows : rows_of (found_of m) ≡ matches_of words_app ws =
+      (matches (ap is_simple is)).0 ∙ ap (λ a. matches_of a ws) is in
+      ap₂ arguments_found
+      (ap (λ o. unwrap_or o []) (raw_values-rows (found_of m) (codes "words"))
+      ∙ ap (λ r. unwrap_or (all_of (codes "words") r) []) rows)
+      (first_value-rows (found_of m) (codes "budget") ∙ ap (first_of (codes "budget")) rows)
+      ∙ leads.found (sym (split_fault ws) ∙ none)
 
   -- where it refuses them for another cause than memory, one of them has no reading
-  pub split_refused : (error : Error) → (is_simple_and_free app ≡ true → HasKind (fault_of app words) error) →
-      (kind_of error ≡ OutOfMemory → ⊥) → None ≡ positional_words words
-  split_refused error kinds other = go (positional_words words) split
-    where
-      kind : HasKind (fault_of words_app words) error
-      kind = subst (λ a. HasKind (fault_of a words) error) is (kinds (ap is_simple_and_free is))
-
-      go : (positional : Option (List Text)) → Splits words positional → None ≡ positional
-      go None fails = refl
-      go (Some ws) done =
-          let memory = subst (λ ks. HasKind ks error) done.0 kind in
-          absurd (⊎_elim other (λ none. none) memory)
+  pub split_refused : (error : Error) → (is_simple_and_free app ≡ true → HasKind (fault_of app ws) error) →
+      (kind_of error ≡ OutOfMemory → ⊥) → None ≡ arguments_of ws
+  split_refused error kinds other =
+      let kind : HasKind (fault_of words_app ws) error =
+      subst (λ a. HasKind (fault_of a ws) error) is (kinds (ap is_simple_and_free is)) in
+      sym (leads.refused (λ none.
+      let memory = subst (λ ks. HasKind ks error) (split_fault ws ∙ none) kind in
+      ⊎_elim other (λ nothing. nothing) memory))

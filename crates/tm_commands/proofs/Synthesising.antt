@@ -9,6 +9,7 @@ use Rattle.tm_base.specs.declared.files.Files.{Ghosts as FilesGhosts}
 use Rattle.tm_base.specs.declared.sink.Sink.{Ghosts as SinkGhosts}
 use Rattle.tm_base.specs.Sink.{AppendsPrefix}
 use Rattle.tm_cir.specs.Answer.{Answers}
+use Rattle.tm_cir.specs.Tree.{BlockTree}
 use Rattle.tm_play.proofs.Putting.{cut_nothing}
 use Rattle.tm_report.specs.Output.{SinkData, sink_data}
 use Rattle.tm_report.specs.Putting.{HasPut, IsSinkFailure}
@@ -18,10 +19,13 @@ use Rattle.tm_report.specs.declared.ending.Failure.{Failure}
 use Rattle.tm_report.specs.declared.ending.Failure.TheVariants.{ReadFault, WriteFault, Memory}
 use Rattle.tm_report.proofs.Counts.{rose_later}
 use Rattle.tm_sem.specs.Loss.{Lost}
+use Rattle.tm_sem.specs.Strategy.{Good}
 use Rattle.tm_sem.proofs.Excluding.{good_is_not_lost}
+use Rattle.tm_refine.specs.declared.trace.Trace.{Trace}
 use Rattle.tm_synth.specs.Found.{IsDriverFound}
 use Rattle.tm_syntax.specs.Design.{DesignTree}
 use Rattle.tm_syntax.specs.Faults.{IsSound}
+use Rattle.tm_syntax.specs.declared.fault.Faulty.{Faulty as Fault}
 use Rattle.tm_syntax.proofs.Limits as limits
 use Rattle.tm_verdict.specs.Sets.{ranked_set}
 use Rattle.tm_commands.specs.declared.stop.Stop.{Stop}
@@ -32,13 +36,13 @@ use Rattle.tm_commands.specs.Inner.Reading.{IsRead}
 use Rattle.tm_commands.specs.Inner.Stopping.{StopsBy, stop_outcome, IsLoadFailure, IsRefusal, IsWriteFailure}
 use Rattle.tm_commands.specs.Inner.Synthesising.{BreaksOff, FailsSo, Finishes, HasPutPart, IsDriverUnwritten}
 use Rattle.tm_commands.specs.Inner.Synthesising.{LeavesDriver, Synthesises, at_cert, at_driver, at_loss, finds_driver}
-use Rattle.tm_commands.specs.Inner.Synthesising.{finds_none, no_cert, no_driver}
-use Rattle.tm_commands.specs.Inputs.{NoSpecification, RefusesSpecification, faulty_spec}
+use Rattle.tm_commands.specs.Inner.Synthesising.{finds_none, no_cert, no_driver, spends}
+use Rattle.tm_commands.specs.Inputs.{NoSpecification, RefusesSpecification, TellsFault, TellsSpecification, faulty_spec}
 use Rattle.tm_commands.specs.Inputs.{refuses_specification}
 use Rattle.tm_commands.specs.Synthesise.{AreAlike, SynthesiseBreaksOff, SynthesiseEnds, SynthesiseLeaves}
 use Rattle.tm_commands.specs.Synthesise.{SynthesiseMayEnd, cert_name, cert_unwritten, driver_name, driver_unwritten}
-use Rattle.tm_commands.specs.Synthesise.{has_driver, has_none, loss_unwritten}
-use Rattle.tm_commands.specs.Synthesise.{may_have_driver, may_have_none, may_not_be_specified, not_specified}
+use Rattle.tm_commands.specs.Synthesise.{has_driver, has_none, has_spent, loss_unwritten, may_have_driver}
+use Rattle.tm_commands.specs.Synthesise.{may_have_none, may_have_spent, may_not_be_specified, not_specified}
 use Rattle.tm_commands.specs.Words.{synthesise}
 use Rattle.tm_commands.specs.World.{FilesData, HasFailedWrite, OnlyReads, OnlyTouches, OnlyWrites, files_data}
 use Rattle.tm_commands.proofs.Running.{grows_part, stopped_obeys, unread_obeys}
@@ -47,30 +51,52 @@ use Rattle.tm_commands.proofs.Telling.{one_no_specification, specification_read,
 
 -- ---- its end
 -- two of its ends are alike
-module _ (contents : List ℕ → Option (List ℕ)) (spec : List ℕ) where
-  pub alike : (text other_text : List ℕ) (one other : Ending) → SynthesiseEnds contents spec text one →
-      SynthesiseEnds contents spec other_text other → AreAlike one other
+module _ (contents : List ℕ → Option (List ℕ)) (spec : List ℕ) (budget : Option ℕ) where
+  -- an end over a design is no fault of its text
+  not_faulty : {f : Fault} (d : DesignTree) → TellsSpecification contents spec d → TellsFault contents spec f → ⊥
+  not_faulty {f = f} d told p = specification_read contents spec d (Faulty f) told (faulty_spec p)
+
+  -- a design with a good driver is not lost
+  not_lost : (d e : DesignTree) (bs : List BlockTree) (ranks : List ℕ) → TellsSpecification contents spec d →
+      TellsSpecification contents spec e → Good d (Answers bs) ranks → Lost e → ⊥
+  not_lost d e bs ranks told also good lost =
+      good_is_not_lost d told.is.sound.numbered (Answers bs) ranks good
+      (subst Lost (sym (told_specification contents spec d e told also)) lost)
+
+  pub alike : (text other_text : List ℕ) (one other : Ending) → SynthesiseEnds contents spec budget text one →
+      SynthesiseEnds contents spec budget other_text other → AreAlike one other
   alike _ _ _ _ (not_specified (faulty_spec {f = f} p)) (not_specified (faulty_spec {f = g} q)) =
       one_no_specification contents spec (Faulty f) (Faulty g) (faulty_spec p) (faulty_spec q)
-  alike _ _ _ _ (not_specified (faulty_spec {f = f} p)) (has_driver {d = d} ranks nodes told good) =
-      absurd (specification_read contents spec d (Faulty f) told (faulty_spec p))
-  alike _ _ _ _ (not_specified (faulty_spec {f = f} p)) (has_none {d = d} levels many chain told lost) =
-      absurd (specification_read contents spec d (Faulty f) told (faulty_spec p))
-  alike _ _ _ _ (has_driver {d = d} ranks nodes told good) (not_specified (faulty_spec {f = f} p)) =
-      absurd (specification_read contents spec d (Faulty f) told (faulty_spec p))
-  alike _ _ _ _ (has_driver {d = d} ranks nodes told good) (has_driver others many also fine) = tt
-  alike _ _ _ _ (has_driver {d = d} {bs = bs} ranks nodes told good) (has_none {d = e} levels many chain also lost) =
-      absurd (good_is_not_lost d told.is.sound.numbered (Answers bs) ranks good
-      (subst Lost (sym (told_specification contents spec d e told also)) lost.lost))
-  alike _ _ _ _ (has_none {d = d} levels many chain told lost) (not_specified (faulty_spec {f = f} p)) =
-      absurd (specification_read contents spec d (Faulty f) told (faulty_spec p))
-  alike _ _ _ _ (has_none {d = d} levels many chain told lost) (has_driver {d = e} {bs = bs} ranks nodes also good) =
-      absurd (good_is_not_lost e also.is.sound.numbered (Answers bs) ranks good
-      (subst Lost (told_specification contents spec d e told also) lost.lost))
-  alike _ _ _ _ (has_none levels many chain told lost) (has_none others ones most also loss) = tt
+  alike _ _ _ _ (not_specified (faulty_spec p)) (has_driver {d = d} ranks trace nodes told good honest) =
+      absurd (not_faulty d told p)
+  alike _ _ _ _ (not_specified (faulty_spec p)) (has_none {d = d} levels many chain trace told lost honest) =
+      absurd (not_faulty d told p)
+  alike _ _ _ _ (not_specified (faulty_spec p)) (has_spent {d = d} n trace is told spent) =
+      absurd (not_faulty d told p)
+  alike _ _ _ _ (has_driver {d = d} ranks trace nodes told good honest) (not_specified (faulty_spec p)) =
+      absurd (not_faulty d told p)
+  alike _ _ _ _ (has_driver ranks trace nodes told good honest) (has_driver others track many also fine fair) = tt
+  alike _ _ _ _ (has_driver {d = d} {bs = bs} ranks trace nodes told good honest)
+      (has_none {d = e} levels many chain track also lost fair) =
+      absurd (not_lost d e bs ranks told also good lost.lost)
+  alike _ _ _ _ (has_driver ranks trace nodes told good honest) (has_spent n track is also spent) = tt
+  alike _ _ _ _ (has_none {d = d} levels many chain trace told lost honest) (not_specified (faulty_spec p)) =
+      absurd (not_faulty d told p)
+  alike _ _ _ _ (has_none {d = d} levels many chain trace told lost honest)
+      (has_driver {d = e} {bs = bs} ranks track nodes also good fair) =
+      absurd (not_lost e d bs ranks also told good lost.lost)
+  alike _ _ _ _ (has_none levels many chain trace told lost honest)
+      (has_none others ones most track also loss fair) = tt
+  alike _ _ _ _ (has_none levels many chain trace told lost honest) (has_spent n track is also spent) = tt
+  alike _ _ _ _ (has_spent {d = d} n trace is told spent) (not_specified (faulty_spec p)) =
+      absurd (not_faulty d told p)
+  alike _ _ _ _ (has_spent n trace is told spent) (has_driver ranks track nodes also good honest) = tt
+  alike _ _ _ _ (has_spent n trace is told spent) (has_none levels many chain track also lost honest) = tt
+  alike _ _ _ _ (has_spent n trace is told spent) (has_spent m track was also done) =
+      let same : Some n ≡ Some m = sym is ∙ was in cc
 
 -- ---- before it writes
-module _ (spec out : List ℕ) (old new : FilesData) where
+module _ (spec out : List ℕ) (budget : Option ℕ) (old new : FilesData) where
   refused_leaves : (ending : Ending) → RefusesSpecification ending → new.contents ≡ old.contents →
       SynthesiseLeaves old.contents new.contents spec out ending
   refused_leaves ending refuses_specification same = same
@@ -80,20 +106,20 @@ module _ (spec out : List ℕ) (old new : FilesData) where
       outcome ≡ stop_outcome stop → OnlyReads old new →
       StopsBy (IsRefusal (NoSpecification old.contents spec) RefusesSpecification old new)
       (IsLoadFailure (spec ∷ []) (λ name. name ≡ spec) old new) stop →
-      Obeys (Some (synthesise spec out)) old new sink sink outcome
+      Obeys (Some (synthesise spec out budget)) old new sink sink outcome
   stopped_synthesising =
-      stopped_obeys (Some (synthesise spec out)) (NoSpecification old.contents spec) RefusesSpecification old new
+      stopped_obeys (Some (synthesise spec out budget)) (NoSpecification old.contents spec) RefusesSpecification old new
       (λ tells. tells) (λ is. cc) (λ ending cause. not_specified cause)
-      (λ ending cause text other ends. alike old.contents spec [] text ending other (not_specified cause) ends)
+      (λ ending cause text other ends. alike old.contents spec budget [] text ending other (not_specified cause) ends)
       (λ ending named. may_not_be_specified named) refused_leaves
 
   -- memory ran out before `synth` wrote
   pub wanting_synthesising : (sink : SinkData) → OnlyReads old new →
-      Obeys (Some (synthesise spec out)) old new sink sink (Err Memory)
+      Obeys (Some (synthesise spec out budget)) old new sink sink (Err Memory)
   wanting_synthesising sink left =
-      unread_obeys (Some (synthesise spec out)) (NoSpecification old.contents spec) RefusesSpecification old new
+      unread_obeys (Some (synthesise spec out budget)) (NoSpecification old.contents spec) RefusesSpecification old new
       (λ tells. tells) (λ is. cc) (λ ending cause. not_specified cause)
-      (λ ending cause text other ends. alike old.contents spec [] text ending other (not_specified cause) ends)
+      (λ ending cause text other ends. alike old.contents spec budget [] text ending other (not_specified cause) ends)
       (λ ending named. may_not_be_specified named) refused_leaves sink Memory left tt
 
 -- ---- the names of its files
@@ -191,9 +217,9 @@ on_ok (Ok x) p = p
 on_ok (Err e) p = tt
 
 -- there are few goals
-pub few_found_ranks : (d : DesignTree) → IsSound d → (driver cert ranks : List ℕ) (nodes : ℕ) →
-    IsDriverFound d driver cert ranks nodes → (lent : List ℕ) → lent ≡ ranks → length lent < 2 ^ 32
-few_found_ranks d sound driver cert ranks nodes found lent same =
+pub few_found_ranks : (d : DesignTree) → IsSound d → (driver cert ranks : List ℕ) (trace : Trace) (nodes : ℕ) →
+    IsDriverFound d driver cert ranks nodes trace → (lent : List ℕ) → lent ≡ ranks → length lent < 2 ^ 32
+few_found_ranks d sound driver cert ranks trace nodes found lent same =
     omega (
       arith,
       limits.few_goals d sound,
@@ -241,13 +267,13 @@ module _ (out driver : List ℕ) {A : Type 0} (F : FilesGhosts A) (x y z : A) wh
   driver_stays more holds tells = more.same_others (driver_name out) (names_differ out) ∙ holds tells
 
 -- ---- what was found
-module _ (d : DesignTree) (out : List ℕ) (old new : FilesData) where
+module _ (d : DesignTree) (budget : Option ℕ) (out : List ℕ) (old new : FilesData) where
   -- no driver's file was written: nothing was put
-  pub unwritten_synthesises : (sink : SinkData) {driver cert : List ℕ} (ranks : List ℕ) (nodes : ℕ)
-      (failure : Failure) → IsDriverFound d driver cert ranks nodes →
+  pub unwritten_synthesises : (sink : SinkData) {driver cert : List ℕ} (ranks : List ℕ) (trace : Trace) (nodes : ℕ)
+      (failure : Failure) → IsDriverFound d driver cert ranks nodes trace →
       OnlyTouches [] (driver_name out ∷ cert_name out ∷ []) old new →
-      IsDriverUnwritten out driver old new failure → Synthesises d out old new sink sink (Err failure)
-  unwritten_synthesises sink {driver} ranks nodes failure found touched failed = record {
+      IsDriverUnwritten out driver old new failure → Synthesises d budget out old new sink sink (Err failure)
+  unwritten_synthesises sink {driver} ranks trace nodes failure found touched failed = record {
     ended = tt;
     failed = fails failure failed;
     touched = touched;
@@ -260,9 +286,9 @@ module _ (d : DesignTree) (out : List ℕ) (old new : FilesData) where
 
       breaks : (name : List ℕ) → LeavesDriver out driver old new name → BreaksOff d out old new name
       breaks name (no_driver is same) = at_driver is same
-      breaks name (no_cert is holds) = at_cert ranks nodes is found holds
+      breaks name (no_cert is holds) = at_cert ranks trace nodes is found holds
 
-      fails : (f : Failure) → IsDriverUnwritten out driver old new f → FailsSo d out old new sink sink f
+      fails : (f : Failure) → IsDriverUnwritten out driver old new f → FailsSo d budget out old new sink sink f
       fails Memory unwritten = inl refl
       fails (ReadFault name) unwritten = elim unwritten [ ]
       fails (WriteFault []) unwritten = absurd (none unwritten.0)
@@ -271,7 +297,7 @@ module _ (d : DesignTree) (out : List ℕ) (old new : FilesData) where
   -- nor the environment's
   pub loss_unwritten_synthesises : (sink : SinkData) (failure : Failure) → Lost d →
       OnlyWrites (cert_name out) old new → IsWriteFailure (cert_name out) old new failure →
-      Synthesises d out old new sink sink (Err failure)
+      Synthesises d budget out old new sink sink (Err failure)
   loss_unwritten_synthesises sink failure lost wrote failed = record {
     ended = tt;
     failed = fails failure failed;
@@ -279,7 +305,7 @@ module _ (d : DesignTree) (out : List ℕ) (old new : FilesData) where
     no_fewer_faults = omega arith;
   }
     where
-      fails : (f : Failure) → IsWriteFailure (cert_name out) old new f → FailsSo d out old new sink sink f
+      fails : (f : Failure) → IsWriteFailure (cert_name out) old new f → FailsSo d budget out old new sink sink f
       fails Memory unwritten = inl refl
       fails (ReadFault name) unwritten = elim unwritten [ ]
       fails (WriteFault []) unwritten = absurd (some_cert_name out (sym unwritten.0))
@@ -290,11 +316,11 @@ module _ (d : DesignTree) (out : List ℕ) (old new : FilesData) where
       )
 
   -- the files are as an end leaves them
-  module _ (text : List ℕ) (ending : Ending) (ends : Finishes d out old new text ending)
+  module _ (text : List ℕ) (ending : Ending) (ends : Finishes d budget out old new text ending)
       (touched : OnlyTouches [] (driver_name out ∷ cert_name out ∷ []) old new) (sink after : SinkData) where
     -- and its lines were put
     pub put_synthesises : {T : Type 0} (r : Result T Failure) (v : T) → r ≡ Ok v → HasPut text sink after r →
-        Synthesises d out old new sink after (Ok ending)
+        Synthesises d budget out old new sink after (Ok ending)
     put_synthesises r v is put = record {
       ended = (text, ends, (subst (HasPut text sink after) is put).whole);
       failed = tt;
@@ -304,7 +330,7 @@ module _ (d : DesignTree) (out : List ℕ) (old new : FilesData) where
 
     -- or not all of them
     pub cut_synthesises : {T : Type 0} (r : Result T Failure) (failure : Failure) → r ≡ Err failure →
-        HasPut text sink after r → Synthesises d out old new sink after (Err failure)
+        HasPut text sink after r → Synthesises d budget out old new sink after (Err failure)
     cut_synthesises {T} r failure is put =
         let cut = subst (HasPut text sink after) is put in
         record {
@@ -314,42 +340,46 @@ module _ (d : DesignTree) (out : List ℕ) (old new : FilesData) where
           no_fewer_faults = put.no_fewer_faults;
         }
       where
-        fails : (f : Failure) → IsSinkFailure sink after f → HasPutPart d out old new sink after →
-            FailsSo d out old new sink after f
+        fails : (f : Failure) → IsSinkFailure sink after f → HasPutPart d budget out old new sink after →
+            FailsSo d budget out old new sink after f
         fails Memory failed part = inr part
         fails (ReadFault name) failed part = elim failed [ ]
         fails (WriteFault []) failed part = (failed.1, part)
         fails (WriteFault (b ∷ bs)) failed part = let none : b ∷ bs ≡ [] = failed.0 in cc
 
 -- ---- all of it
-module _ (spec out : List ℕ) {A : Type 0} (F : FilesGhosts A) (x y z : A) {B : Type 0} (O : SinkGhosts B) (a b : B)
+module _ (spec out : List ℕ) (budget : Option ℕ) {A : Type 0} (F : FilesGhosts A) (x y z : A) {B : Type 0} (O : SinkGhosts B) (a b : B)
     (d : DesignTree) (left : OnlyReads (files_data F x) (files_data F y))
     (read : IsRead F.tells (F.contents x) spec d) where
   as_it_ends : (text : List ℕ) (ending : Ending) →
-      Finishes d out (files_data F y) (files_data F z) text ending → IsTrue F.tells →
-      SynthesiseEnds (F.contents x) spec text ending
-  as_it_ends _ _ (finds_driver ranks nodes found driver cert) tells =
-      has_driver {bs = found.blocks} ranks nodes (specified read tells) found.good
-  as_it_ends _ _ (finds_none levels many chain found cert same) tells =
-      has_none levels many chain (specified read tells) (record { lost = found.lost; within = found.within })
+      Finishes d budget out (files_data F y) (files_data F z) text ending → IsTrue F.tells →
+      SynthesiseEnds (F.contents x) spec budget text ending
+  as_it_ends _ _ (finds_driver ranks trace nodes found driver cert) tells =
+      has_driver {bs = found.blocks} ranks trace nodes (specified read tells) found.good found.honest
+  as_it_ends _ _ (finds_none levels many chain trace found cert same) tells =
+      has_none levels many chain trace (specified read tells) (record { lost = found.lost; within = found.within })
+      found.honest
+  as_it_ends _ _ (spends n trace is spent same) tells = has_spent n trace is (specified read tells) spent
 
   may_end : (text : List ℕ) (ending : Ending) →
-      Finishes d out (files_data F y) (files_data F z) text ending → SynthesiseMayEnd ending
-  may_end _ _ (finds_driver ranks nodes found driver cert) = may_have_driver ranks nodes
-  may_end _ _ (finds_none levels many chain found cert same) = may_have_none levels many chain
+      Finishes d budget out (files_data F y) (files_data F z) text ending → SynthesiseMayEnd budget ending
+  may_end _ _ (finds_driver ranks trace nodes found driver cert) = may_have_driver ranks trace nodes
+  may_end _ _ (finds_none levels many chain trace found cert same) = may_have_none levels many chain trace
+  may_end _ _ (spends n trace is spent same) = may_have_spent n trace is
 
   not_long : (text : List ℕ) (ending : Ending) →
-      Finishes d out (files_data F y) (files_data F z) text ending →
+      Finishes d budget out (files_data F y) (files_data F z) text ending →
       IsLongShown (files_data F x) (files_data F z) ending
-  not_long _ _ (finds_driver ranks nodes found driver cert) =
+  not_long _ _ (finds_driver ranks trace nodes found driver cert) =
       record { specification = λ is. cc; file = λ name is. cc }
-  not_long _ _ (finds_none levels many chain found cert same) =
+  not_long _ _ (finds_none levels many chain trace found cert same) =
       record { specification = λ is. cc; file = λ name is. cc }
+  not_long _ _ (spends n trace is spent same) = record { specification = λ is. cc; file = λ name is. cc }
 
   as_it_leaves : (text : List ℕ) (ending : Ending) →
-      Finishes d out (files_data F y) (files_data F z) text ending → IsTrue F.tells →
+      Finishes d budget out (files_data F y) (files_data F z) text ending → IsTrue F.tells →
       SynthesiseLeaves (F.contents x) (F.contents z) spec out ending
-  as_it_leaves _ _ (finds_driver {driver = text} {cert = certificate} ranks nodes found driver cert) tells = record {
+  as_it_leaves _ _ (finds_driver {driver = text} {cert = certificate} ranks trace nodes found driver cert) tells = record {
     design = d;
     driver = text;
     cert = certificate;
@@ -358,7 +388,7 @@ module _ (spec out : List ℕ) {A : Type 0} (F : FilesGhosts A) (x y z : A) {B :
     cert_told = cert tells;
     found = found;
   }
-  as_it_leaves _ _ (finds_none {cert = certificate} levels many chain found cert same) tells = record {
+  as_it_leaves _ _ (finds_none {cert = certificate} levels many chain trace found cert same) tells = record {
     design = d;
     cert = certificate;
     specified = specified read tells;
@@ -366,13 +396,14 @@ module _ (spec out : List ℕ) {A : Type 0} (F : FilesGhosts A) (x y z : A) {B :
     found = found;
     no_driver = same ∙ ap (λ (f : List ℕ → Option (List ℕ)). f (driver_name out)) left.same_contents;
   }
+  as_it_leaves _ _ (spends n trace is spent same) tells = same ∙ left.same_contents
 
   broken_off : (name : List ℕ) → BreaksOff d out (files_data F y) (files_data F z) name → IsTrue F.tells →
       SynthesiseBreaksOff (F.contents x) (F.contents z) spec out name
   broken_off name (at_driver is same) tells =
       driver_unwritten is (same ∙ ap (λ (f : List ℕ → Option (List ℕ)). f (cert_name out)) left.same_contents)
-  broken_off name (at_cert ranks nodes is found holds) tells =
-      cert_unwritten ranks nodes is (specified read tells) (holds tells) found
+  broken_off name (at_cert ranks trace nodes is found holds) tells =
+      cert_unwritten ranks trace nodes is (specified read tells) (holds tells) found
   broken_off name (at_loss is lost same) tells =
       loss_unwritten is (specified read tells) lost
       (same ∙ ap (λ (f : List ℕ → Option (List ℕ)). f (driver_name out)) left.same_contents)
@@ -380,12 +411,12 @@ module _ (spec out : List ℕ) {A : Type 0} (F : FilesGhosts A) (x y z : A) {B :
   of_two : (name : List ℕ) → BreaksOff d out (files_data F y) (files_data F z) name →
       Contains (driver_name out ∷ cert_name out ∷ []) name
   of_two name (at_driver is same) = (0, omega arith, sym is)
-  of_two name (at_cert ranks nodes is found holds) = (1, omega arith, sym is)
+  of_two name (at_cert ranks trace nodes is found holds) = (1, omega arith, sym is)
   of_two name (at_loss is lost same) = (1, omega arith, sym is)
 
   shown_so : (failure : Failure) →
-      FailsSo d out (files_data F y) (files_data F z) (sink_data O a) (sink_data O b) failure →
-      IsShown (Some (synthesise spec out)) (files_data F x) (files_data F z) (sink_data O a) (sink_data O b) failure
+      FailsSo d budget out (files_data F y) (files_data F z) (sink_data O a) (sink_data O b) failure →
+      IsShown (Some (synthesise spec out budget)) (files_data F x) (files_data F z) (sink_data O a) (sink_data O b) failure
   shown_so Memory failed = tt
   shown_so (ReadFault name) failed = elim failed [ ]
   shown_so (WriteFault []) failed = failed.0
@@ -399,9 +430,9 @@ module _ (spec out : List ℕ) {A : Type 0} (F : FilesGhosts A) (x y z : A) {B :
   same_written same = ap (λ (s : SinkData). s.written) same
 
   put_so : (failure : Failure) →
-      FailsSo d out (files_data F y) (files_data F z) (sink_data O a) (sink_data O b) failure → IsTrue F.tells →
+      FailsSo d budget out (files_data F y) (files_data F z) (sink_data O a) (sink_data O b) failure → IsTrue F.tells →
       IsTrue O.tells →
-      PutBefore (IsCommandPart (F.contents x) (Some (synthesise spec out))) (O.written a) (O.written b) failure
+      PutBefore (IsCommandPart (F.contents x) (Some (synthesise spec out budget))) (O.written a) (O.written b) failure
   put_so Memory (inl same) tells sink = (
     [],
     inl refl,
@@ -418,7 +449,7 @@ module _ (spec out : List ℕ) {A : Type 0} (F : FilesGhosts A) (x y z : A) {B :
   put_so (WriteFault (c ∷ cs)) failed tells sink = same_written failed.2
 
   grows_so : (failure : Failure) →
-      FailsSo d out (files_data F y) (files_data F z) (sink_data O a) (sink_data O b) failure → IsTrue O.tells →
+      FailsSo d budget out (files_data F y) (files_data F z) (sink_data O a) (sink_data O b) failure → IsTrue O.tells →
       (text : List ℕ) × (O.written b ≡ O.written a ++ text)
   grows_so Memory (inl same) sink = ([], same_written same ∙ sym (append-nil (O.written a)))
   grows_so Memory (inr part) sink = grows_part part.0 (O.written a) (O.written b) (part.3 sink)
@@ -427,8 +458,8 @@ module _ (spec out : List ℕ) {A : Type 0} (F : FilesGhosts A) (x y z : A) {B :
   grows_so (WriteFault (c ∷ cs)) failed sink = ([], same_written failed.2 ∙ sym (append-nil (O.written a)))
 
   leaves_so : (failure : Failure) →
-      FailsSo d out (files_data F y) (files_data F z) (sink_data O a) (sink_data O b) failure → IsTrue F.tells →
-      Leaves (Some (synthesise spec out)) (files_data F x) (files_data F z) (Err failure)
+      FailsSo d budget out (files_data F y) (files_data F z) (sink_data O a) (sink_data O b) failure → IsTrue F.tells →
+      Leaves (Some (synthesise spec out budget)) (files_data F x) (files_data F z) (Err failure)
   leaves_so Memory failed tells = tt
   leaves_so (ReadFault name) failed tells = elim failed [ ]
   leaves_so (WriteFault []) failed tells =
@@ -444,13 +475,13 @@ module _ (spec out : List ℕ) {A : Type 0} (F : FilesGhosts A) (x y z : A) {B :
 
   -- what was found was written and told, or not all of it
   pub synthesised_obeys : (outcome : Result Ending Failure) →
-      Synthesises d out (files_data F y) (files_data F z) (sink_data O a) (sink_data O b) outcome →
-      Obeys (Some (synthesise spec out)) (files_data F x) (files_data F z) (sink_data O a) (sink_data O b) outcome
+      Synthesises d budget out (files_data F y) (files_data F z) (sink_data O a) (sink_data O b) outcome →
+      Obeys (Some (synthesise spec out budget)) (files_data F x) (files_data F z) (sink_data O a) (sink_data O b) outcome
   synthesised_obeys (Ok ending) s =
       let e = s.ended in
       record {
         ends = λ told. (e.0, as_it_ends e.0 ending e.1 told, e.2);
-        complete = λ told text other also. alike (F.contents x) spec e.0 text ending other
+        complete = λ told text other also. alike (F.contents x) spec budget e.0 text ending other
             (as_it_ends e.0 ending e.1 told) also;
         cut = λ told sink. tt;
         grows = λ sink. (e.0, e.2 sink);

@@ -15,7 +15,7 @@ use Rattle.tm_commands.specs.Synthesise.{SynthesiseBreaksOff, driver_name, cert_
 abbrev pub read_names : Option Command → List (List ℕ)
 read_names None = []
 read_names (Some (run spec driver choices)) = spec ∷ driver ∷ choices ∷ []
-read_names (Some (synthesise spec out)) = spec ∷ []
+read_names (Some (synthesise spec out budget)) = spec ∷ []
 read_names (Some (check_driver spec driver cert)) = spec ∷ driver ∷ cert ∷ []
 read_names (Some (check_environment spec cert)) = spec ∷ cert ∷ []
 read_names (Some (generate registers out)) = []
@@ -25,7 +25,7 @@ read_names (Some (migrate spec cert out)) = spec ∷ cert ∷ []
 abbrev pub write_names : Option Command → List (List ℕ)
 write_names None = []
 write_names (Some (run spec driver choices)) = []
-write_names (Some (synthesise spec out)) = driver_name out ∷ cert_name out ∷ []
+write_names (Some (synthesise spec out budget)) = driver_name out ∷ cert_name out ∷ []
 write_names (Some (check_driver spec driver cert)) = []
 write_names (Some (check_environment spec cert)) = []
 write_names (Some (generate registers out)) = out ∷ []
@@ -36,7 +36,7 @@ write_names (Some (migrate spec cert out)) = out ∷ []
 abbrev pub CommandEnds : (List ℕ → Option (List ℕ)) → Option Command → List ℕ → Ending → Type 0
 CommandEnds contents None text ending = (text ≡ []) × (ending ≡ Usage)
 CommandEnds contents (Some (run spec driver choices)) text ending = RunEnds contents spec driver choices text ending
-CommandEnds contents (Some (synthesise spec out)) text ending = SynthesiseEnds contents spec text ending
+CommandEnds contents (Some (synthesise spec out budget)) text ending = SynthesiseEnds contents spec budget text ending
 CommandEnds contents (Some (check_driver spec driver cert)) text ending =
     CheckDriverEnds contents spec driver cert text ending
 CommandEnds contents (Some (check_environment spec cert)) text ending =
@@ -47,14 +47,14 @@ CommandEnds contents (Some (migrate spec cert out)) text ending =
 
 -- an end that a command has is the one that is answered; of `synth` it is alike
 abbrev pub IsAnswered : Option Command → (answered ending : Ending) → Type 0
-IsAnswered (Some (synthesise spec out)) answered ending = AreAlike answered ending
+IsAnswered (Some (synthesise spec out budget)) answered ending = AreAlike answered ending
 IsAnswered _ answered ending = answered ≡ ending
 
 -- what a command has put so far
 abbrev pub IsCommandPart : (List ℕ → Option (List ℕ)) → Option Command → List ℕ → Type 0
 IsCommandPart contents (Some (run spec driver choices)) text = IsRunPart contents spec driver choices text
-IsCommandPart contents (Some (synthesise spec out)) text =
-    (text ≡ []) ⊎ ((ending : Ending) × SynthesiseEnds contents spec text ending)
+IsCommandPart contents (Some (synthesise spec out budget)) text =
+    (text ≡ []) ⊎ ((ending : Ending) × SynthesiseEnds contents spec budget text ending)
 IsCommandPart contents (Some (check_driver spec driver cert)) text =
     (text ≡ []) ⊎ ((ending : Ending) × CheckDriverEnds contents spec driver cert text ending)
 IsCommandPart contents (Some (check_environment spec cert)) text =
@@ -65,7 +65,7 @@ IsCommandPart contents _ text = text ≡ []
 abbrev pub MayEnd : Option Command → Ending → Type 0
 MayEnd None ending = ending ≡ Usage
 MayEnd (Some (run spec driver choices)) ending = RunMayEnd driver choices ending
-MayEnd (Some (synthesise spec out)) ending = SynthesiseMayEnd ending
+MayEnd (Some (synthesise spec out budget)) ending = SynthesiseMayEnd budget ending
 MayEnd (Some (check_driver spec driver cert)) ending = CheckDriverMayEnd driver cert ending
 MayEnd (Some (check_environment spec cert)) ending = CheckEnvironmentMayEnd cert ending
 MayEnd (Some (generate registers out)) ending = ending ≡ Generated registers
@@ -74,12 +74,12 @@ MayEnd (Some (migrate spec cert out)) ending = MigrateMayEnd cert ending
 -- what an end of a command leaves in the files, from what they held at first: the text that was asked for, a
 -- certificate, a driver with its certificate, or all as it was
 abbrev pub CommandLeaves : (old new : List ℕ → Option (List ℕ)) → Option Command → Ending → Type 0
-CommandLeaves old new (Some (synthesise spec out)) ending = SynthesiseLeaves old new spec out ending
+CommandLeaves old new (Some (synthesise spec out budget)) ending = SynthesiseLeaves old new spec out ending
 CommandLeaves old new (Some (generate registers out)) ending = Tells new out (generated_text registers)
 CommandLeaves old new (Some (migrate spec cert out)) ending = MigrateLeaves old new spec cert out ending
 CommandLeaves old new _ ending = new ≡ old
 
 -- what a failed write of a file leaves in the other files that a command writes: only `synth` writes two
 abbrev pub CommandBreaksOff : (old new : List ℕ → Option (List ℕ)) → Option Command → List ℕ → Type 0
-CommandBreaksOff old new (Some (synthesise spec out)) name = SynthesiseBreaksOff old new spec out name
+CommandBreaksOff old new (Some (synthesise spec out budget)) name = SynthesiseBreaksOff old new spec out name
 CommandBreaksOff old new _ name = Unit {0}

@@ -23,7 +23,7 @@ pub data IsDueOfTwo (contents : List ℕ → Option (List ℕ)) (spec cert : Lis
 -- a file of a command is due to be read
 abbrev pub IsDue : (List ℕ → Option (List ℕ)) → Option Command → List ℕ → Type 0
 IsDue contents (Some (run spec driver choices)) = IsDueOfThree contents spec driver choices
-IsDue contents (Some (synthesise spec out)) = λ name. name ≡ spec
+IsDue contents (Some (synthesise spec out budget)) = λ name. name ≡ spec
 IsDue contents (Some (check_driver spec driver cert)) = IsDueOfThree contents spec driver cert
 IsDue contents (Some (check_environment spec cert)) = IsDueOfTwo contents spec cert
 IsDue contents (Some (migrate spec cert out)) = IsDueOfTwo contents spec cert
@@ -32,7 +32,7 @@ IsDue contents _ = λ name. ⊥
 -- what a command writes is due: that of `synth` where SPEC tells a design, that of `migrate` where CERT tells a
 -- certificate for it, too, and that of `gen` at once
 abbrev pub IsWriteDue : (List ℕ → Option (List ℕ)) → Option Command → Type 0
-IsWriteDue contents (Some (synthesise spec out)) = (d : DesignTree) × TellsSpecification contents spec d
+IsWriteDue contents (Some (synthesise spec out budget)) = (d : DesignTree) × TellsSpecification contents spec d
 IsWriteDue contents (Some (migrate spec cert out)) =
     (d : DesignTree) × (c : Certificate) × TellsSpecification contents spec d × TellsCert contents cert d Either c
 IsWriteDue contents _ = Unit {0}

@@ -8,7 +8,7 @@ use Rattle.tm_commands.specs.declared.status.Status.{Status}
 use Rattle.tm_commands.specs.declared.status.Status.TheVariants.{Played, Usage, Faulty, ReadFault, WriteFault, Memory}
 use Rattle.tm_commands.specs.declared.status.Status.TheVariants.{BadText, Stopped, Generated, Migrated}
 use Rattle.tm_commands.specs.declared.status.Status.TheVariants.{Accepted, AcceptedEnvironment, Refused}
-use Rattle.tm_commands.specs.declared.status.Status.TheVariants.{Driver, Environment}
+use Rattle.tm_commands.specs.declared.status.Status.TheVariants.{Budget, Driver, Environment}
 use Rattle.tm_play.specs.declared.ending.PlayEnd.TheVariants as plays
 
 -- the end of a command, or the failure that came before it
@@ -17,8 +17,9 @@ outcome_of Usage = Ok endings.Usage
 outcome_of (Faulty f) = Ok (endings.Faulty f)
 outcome_of (Played n) = Ok (endings.Play (plays.Played n))
 outcome_of (Stopped step why) = Ok (endings.Play (plays.Stopped step why))
-outcome_of (Driver ranks nodes) = Ok (endings.Driver ranks nodes)
-outcome_of (Environment levels conditions chain) = Ok (endings.Environment levels conditions chain)
+outcome_of (Driver ranks trace nodes) = Ok (endings.Driver ranks trace nodes)
+outcome_of (Environment levels conditions chain trace) = Ok (endings.Environment levels conditions chain trace)
+outcome_of (Budget n trace) = Ok (endings.Budget n trace)
 outcome_of (Accepted ranks) = Ok (endings.Accepted ranks)
 outcome_of (AcceptedEnvironment levels conditions chain) = Ok (endings.AcceptedEnvironment levels conditions chain)
 outcome_of (Refused condition goal s) = Ok (endings.Refused condition goal s)
@@ -31,16 +32,17 @@ outcome_of Memory = Err failures.Memory
 
 -- the code of a status
 abbrev pub code_of : Status → ℕ
-code_of (Driver ranks nodes) = 0
+code_of (Driver ranks trace nodes) = 0
 code_of (Played n) = 0
 code_of (Accepted ranks) = 0
 code_of (AcceptedEnvironment levels conditions chain) = 0
 code_of (Generated registers) = 0
 code_of Migrated = 0
-code_of (Environment levels conditions chain) = 1
+code_of (Environment levels conditions chain trace) = 1
 code_of (Refused condition goal s) = 1
 code_of Usage = 2
 code_of (Faulty f) = 3
+code_of (Budget n trace) = 4
 code_of (ReadFault name) = 5
 code_of (WriteFault name) = 6
 code_of Memory = 7

@@ -11,4 +11,5 @@ mod words;
 pub use obeying::obey_and_report;
 pub use status::Status;
 pub use tm_play::{PlayEnd, StopWhy};
+pub use tm_refine::{Added, Trace};
 pub use tm_report::{Bad, Ending, Failure, Ranks};

@@ -1,5 +1,5 @@
 //! What the words of a command line ask for, done and reported.
-ghost use Rattle.std.specs.Prelude.{◌≤◌, Some, map, IfOk, IfErr};
+ghost use Rattle.std.specs.Prelude.{◌≤◌, Some, map, IfOk, IfErr, IsTrue};
 ghost use Rattle.std.specs.String.{string_bytes};
 ghost use Rattle.tm_commands.specs.Words.{command_of, command_view};
 ghost use Rattle.tm_commands.specs.Commands.{MayEnd};
@@ -10,6 +10,7 @@ ghost use Rattle.tm_commands.specs.Status.{outcome_of};
 ghost use Rattle.tm_commands.specs.Headline.{HasCause, IsComplete, IsShown, IsLongShown, Reports, EndsWithLines};
 ghost use Rattle.tm_commands.specs.Headline.{KeepsFiles};
 ghost use Rattle.tm_commands.specs.Synthesis.{AcceptsGood, AcceptsLost, AlwaysDecides, FindsGood, FindsLost};
+ghost use Rattle.tm_commands.specs.Synthesis.{TracesHonestly};
 ghost use Rattle.tm_commands.specs.Inner.Obeying.{IsSpelled, Obeys};
 
 use crate::commands::check_driver::check_driver;
@@ -45,7 +46,11 @@ fn obey<F: Files, O: Sink>(
             driver,
             choices,
         } => run(alloc, files, out, spec, driver, choices),
-        Command::Synthesise { spec, out: name } => synthesise(alloc, files, out, spec, name),
+        Command::Synthesise {
+            spec,
+            out: name,
+            budget,
+        } => synthesise(alloc, files, out, spec, name, budget),
         Command::CheckDriver { spec, driver, cert } => {
             check_driver(alloc, files, out, spec, driver, cert)
         }
@@ -104,7 +109,7 @@ pub fn obey_and_report<F: Files, O: Sink>(
 
     // The synthesis theorem. A driver that is found or accepted is a good one with the ranks that are answered, and a
     // design without a driver, or whose environment is accepted, is lost, where the files tell; and `synth` finds a
-    // driver of each design or that there is none, unless a fault shows or memory runs out.
+    // driver of each design or that there is none, unless a budget is spent, a fault shows or memory runs out.
     ensures found_good { FindsGood (files_data ⟦<F as Files>⟧ files.old) (files_data ⟦<F as Files>⟧ files.new)
         (command_of (map string_bytes words.now)) (outcome_of result) }
     ensures found_lost { FindsLost (files_data ⟦<F as Files>⟧ files.old)
@@ -115,6 +120,12 @@ pub fn obey_and_report<F: Files, O: Sink>(
     ensures good { AcceptsGood (files_data ⟦<F as Files>⟧ files.old)
         (command_of (map string_bytes words.now)) (outcome_of result) }
     ensures lost { AcceptsLost (files_data ⟦<F as Files>⟧ files.old)
+        (command_of (map string_bytes words.now)) (outcome_of result) }
+
+    // The trace is honest: it tells why each predicate was tracked, the sets of the certificate that is written are
+    // unions of cells of these predicates, and where a budget is spent they leave the design undecided.
+    ensures traced { IsTrue F.tells → TracesHonestly
+        (files_data ⟦<F as Files>⟧ files.old) (files_data ⟦<F as Files>⟧ files.new)
         (command_of (map string_bytes words.now)) (outcome_of result) }
 
     // What is known of an end in any case: `Usage` comes exactly where the words have no reading, a file that is
@@ -145,8 +156,9 @@ pub fn obey_and_report<F: Files, O: Sink>(
 
     // No file changes but those that the command writes. At `Driver`, `Environment`, `Generated` and `Migrated` what
     // they hold is the driver with its certificate, the environment's certificate, the text or the certificate that was
-    // asked for; where a read failed or a text is refused none of them has changed. After a failed write the other file
-    // stands that was written before. Where the output failed they are as the outcome says whose lines it did not take.
+    // asked for; where a read failed, a text is refused or a budget is spent none of them has changed. After a failed
+    // write the other file stands that was written before. Where the output failed they are as the outcome says whose
+    // lines it did not take.
     ensures files { KeepsFiles (command_of (map string_bytes words.now))
         (files_data ⟦<F as Files>⟧ files.old) (files_data ⟦<F as Files>⟧ files.new) (outcome_of result) }
 {

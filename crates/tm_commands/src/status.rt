@@ -4,6 +4,7 @@ ghost use Rattle.tm_commands.specs.Status.{outcome_of};
 
 use tm_base::Name;
 use tm_play::{PlayEnd, StopWhy};
+use tm_refine::Trace;
 use tm_report::{Bad, Ending, Failure, Ranks};
 use tm_sem::state::State;
 use tm_syntax::fault::Faulty;
@@ -13,18 +14,25 @@ use tm_syntax::fault::Faulty;
 pub enum Status {
     /// The choices were read to their end and are a play of so many steps.
     Played(u64),
-    /// A driver was found, and its files are written: it has so many ranked regions for each goal, and its certificate
-    /// so many nodes.
+    /// A driver was found over these predicates, and its files are written: it has so many ranked regions for each
+    /// goal, and its certificate so many nodes.
     Driver {
         ranks: Ranks,
+        trace: Trace,
         nodes: u64,
     },
-    /// No driver exists, and the file that shows it is written: so many levels, with a chain for each of so many
-    /// fairness conditions; the longest chain has so many sets.
+    /// No driver exists, as these predicates show, and the file that shows it is written: so many levels, with a chain
+    /// for each of so many fairness conditions; the longest chain has so many sets.
     Environment {
         levels: u64,
         conditions: u64,
         chain: u64,
+        trace: Trace,
+    },
+    /// `n` predicates were added, as many as were allowed, and those that are tracked leave it undecided who wins.
+    Budget {
+        n: u32,
+        trace: Trace,
     },
     /// The driver has its certificate, with so many ranked regions for each goal.
     Accepted {
@@ -84,6 +92,7 @@ impl Status {
             Status::Refused { .. } => 1,
             Status::Usage => 2,
             Status::Faulty(_) => 3,
+            Status::Budget { .. } => 4,
             Status::ReadFault(_) => 5,
             Status::WriteFault(_) => 6,
             Status::Memory => 7,
@@ -102,18 +111,31 @@ pub fn status_of(outcome: Result<Ending, Failure>) -> Status
         Ok(Ending::Faulty(fault)) => Status::Faulty(fault),
         Ok(Ending::Play(PlayEnd::Played(steps))) => Status::Played(steps),
         Ok(Ending::Play(PlayEnd::Stopped { step, why })) => Status::Stopped { step, why },
-        Ok(Ending::Driver { ranks, nodes }) => Status::Driver { ranks, nodes },
+        Ok(
+            Ending::Driver {
+                ranks,
+                trace,
+                nodes,
+            },
+        ) => Status::Driver {
+            ranks,
+            trace,
+            nodes,
+        },
         Ok(
             Ending::Environment {
                 levels,
                 conditions,
                 chain,
+                trace,
             },
         ) => Status::Environment {
             levels,
             conditions,
             chain,
+            trace,
         },
+        Ok(Ending::Budget { budget, trace }) => Status::Budget { n: budget, trace },
         Ok(Ending::Accepted { ranks }) => Status::Accepted { ranks },
         Ok(
             Ending::AcceptedEnvironment {

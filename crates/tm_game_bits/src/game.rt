@@ -90,7 +90,7 @@ impl GameDiagrams {
     /// driver, for some arguments, for no choices errs or leaves the set, if the driver can be picked. Every id keeps
     /// its meaning, also where memory runs out.
     ///
-    /// The answers on the last four sets are remembered.
+    /// The answers on the last 256 sets are remembered.
     pub fn cpre(
         &self,
         dd: &mut Manager,

@@ -5,8 +5,8 @@ ghost use Rattle.tm_game_bits.specs.Functions.{GameFunctions};
 
 use tm_dd::{FALSE, NodeId};
 
-/// How many answers are remembered: a fixpoint asks for three sets in turn.
-const ROOM: usize = 4;
+/// How many answers are remembered: a fixpoint asks for three sets in turn, and the next one for many of the same.
+const ROOM: usize = 256;
 
 /// A set, and where the driver stays in it.
 #[derive(Clone, Copy)]

@@ -1,1 +1,2 @@
+mod StateFields
 mod StateWidths

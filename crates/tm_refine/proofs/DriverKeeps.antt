@@ -193,8 +193,8 @@ module _ {d : DesignTree} {op : Operator} {g : Game} (exact : IsGameOf d op g) (
         (λ t it. into_up s t (omega arith) it) (stays_no_higher goal ranked are below s here fails)))
 
     fails_at : (s : StateData) → IsIn d c.region s → goal_holds d s goal ≡ false → place ranked s ≤ k →
-        ((op.goal goal s && op.stay c.region s) || op.stay f s || (not (op.fair r.fair s) && op.stay (up_to ranked k) s))
-        ≡ true
+        ((op.goal goal s && op.stay c.region s) || op.stay f s
+        || (not (op.fair r.fair s) && op.stay (up_to ranked k) s)) ≡ true
     fails_at s here fails most =
         elim (below_or_not (place ranked s) k) [
           | inl less ↦

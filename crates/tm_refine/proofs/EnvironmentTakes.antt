@@ -212,7 +212,8 @@ module _ {d : DesignTree} {op : Operator} {g : Game} (exact : IsGameOf d op g) (
               elim (meets.e5 m i q chain t is got_chain new_t) [
                 | inl fair ↦ unfair fair
                 | inr forced ↦
-                    stays_not_forced (IsIn d x) (IsIn d (either (set_before chain (place chain t)) (level_before levels m)))
+                    stays_not_forced (IsIn d x)
+                    (IsIn d (either (set_before chain (place chain t)) (level_before levels m)))
                     (λ u kept here. into u kept
                     (or_either (set_before chain (place chain t) u) (level_before levels m u) here.1))
                     stays forced

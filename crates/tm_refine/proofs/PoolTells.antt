@@ -43,7 +43,8 @@ module _ (d : DesignTree) (g : GameData) (can : CanDecide d g) where
 
   pub inputs_fit : (s : StateData) → IsState d s → AreInputs g.terms (inputs_at s)
   inputs_fit s valid =
-      are_inputs d can.solve.exact.ordered.of.small g.terms s no_bits no_bits can.solve.exact.ordered.of.flat.inputs valid no_bits_set no_bits_set
+      are_inputs d can.solve.exact.ordered.of.small g.terms s no_bits no_bits can.solve.exact.ordered.of.flat.inputs
+      valid no_bits_set no_bits_set
 
   module _ (s t : StateData) (valid_s : IsState d s) (valid_t : IsState d t) where
     same_value : (p : Predicate) (id : TermId) → R p id → predicate_holds d s p ≡ predicate_holds d t p →

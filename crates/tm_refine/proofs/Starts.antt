@@ -33,7 +33,8 @@ module _ (ps : List StateSet) (g : Game) (mono : IsMonotone g) where
           (lower_union g.states ps (g.part z f (upper_part g.states ps some.2.set) j some.0)).same w m.0 in_w m.1 m.2
           ∙ ((lower_monotone ps g mono).rises z z (lower_part g.states ps f) f some.2.set
           (upper_part g.states ps some.2.set) j some.0
-          (record { within = λ t in_t h. h }) (in_lower f) (in_upper some.2.set)).within m.0 m.1 (some.2.holds m.0 m.1 m.3);
+          (record { within = λ t in_t h. h }) (in_lower f) (in_upper some.2.set)).within m.0 m.1
+          (some.2.holds m.0 m.1 m.3);
       here = upper_when g.states ps some.2.set v u in_u (alike_back ps u v like) some.2.here;
     },
   )

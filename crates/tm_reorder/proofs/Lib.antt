@@ -1,3 +1,7 @@
-pub mod Loading
-pub mod Parting
-pub mod Reordered
+mod Agreed
+mod ClampedBits
+mod Loading
+mod Parting
+mod Places
+mod Reordered
+mod Within

@@ -1,85 +1,57 @@
 -- The diagrams of entries over moved levels, one behind the other.
-use Rattle.std.proofs.Common.{◌≡◌, ◌⊎◌, inl, inr, ℕ, zero, suc, ◌+◌, ◌<◌, ◌≤◌, Bool, true, false, if◌then◌else◌, List, Result, Ok, Err, [], ◌∷◌, ◌++◌, length, take, get_or, slice_get, Some, refl, sym, ap, ◌∙◌, subst, arith}
-use Rattle.std.specs.Prelude.{All, IfOk}
+use Rattle.std.proofs.Common.{◌≡◌, ◌⊎◌, inl, inr, ℕ, zero, suc, ◌+◌, ◌<◌, Bool, if◌then◌else◌, List, [], ◌∷◌, ◌++◌, length, take, get_or, slice_get, Some, refl, sym, ap, ◌∙◌, subst, arith}
 use Rattle.std.proofs.lemmas.List.{length_push, length-take-le}
-use Rattle.std.proofs.lemmas.Option.{none-some, same_Some, slice_get_read, slice_get_within}
+use Rattle.std.proofs.lemmas.Option.{get_or_from_slice_get, none-some, same_Some, slice_get_read, slice_get_within}
 use Rattle.tm_cert.specs.declared.cert.Entry.{Entry}
 use Rattle.tm_cert.specs.CertValue.{IsNode}
 use Rattle.tm_dd.specs.declared.node.NodeId.{NodeId}
 use Rattle.tm_dd.specs.declared.node.TheConstants.{FALSE, TRUE}
 use Rattle.tm_dd.specs.Reduced.{Extends}
-use Rattle.tm_dd.specs.Table.{Table, Knows, level_of, means}
-use Rattle.tm_dd.proofs.CallerLaws.{level_of-IsConstant, means-FALSE, means-TRUE}
+use Rattle.tm_dd.specs.Table.{Table, Knows, means}
+use Rattle.tm_dd.proofs.CallerLaws.{means-FALSE, means-TRUE}
 use Rattle.tm_ddops.specs.Manager.{IsFunction}
 use Rattle.tm_numbering.proofs.Items.{get_more}
 use Rattle.tm_verdict.specs.Fitting.{AreNodes}
 use Rattle.tm_verdict.specs.Sets.{id_holds}
 use Rattle.tm_verdict.proofs.Values.{always_holds, entry_holds, never_holds}
-use Rattle.tm_reorder.specs.Inner.Moved.{AreFirstMoved, AreMoved, IsMoved, moved, seen}
+use Rattle.tm_reorder.specs.Inner.Clamped.{AreBits}
+use Rattle.tm_reorder.specs.Inner.Moved.{AreFirstMoved, AreMoved, IsMoved, seen}
 
--- ---- a choice by a level's value, whatever levels the two functions read
--- the constants lie below a level
-pub below_false : (s : Table) (level : ℕ) → level < s.levels → level < level_of s FALSE
-below_false s level low = subst (λ (n : ℕ). level < n) (sym (level_of-IsConstant s FALSE (omega arith))) low
+-- ---- the bits of old levels
+-- the bit of an old level is known, and seen as its value
+pub bit_known : (s t : Table) (bits : List NodeId) (place : ℕ) (bit : NodeId) → Extends s t → AreBits s bits →
+    slice_get bits place ≡ Some bit → Knows t bit
+bit_known s t bits place bit grows known at =
+    let before = known place bit at in
+    omega (arith, grows.rises, before)
 
-pub below_true : (s : Table) (level : ℕ) → level < s.levels → level < level_of s TRUE
-below_true s level low = subst (λ (n : ℕ). level < n) (sym (level_of-IsConstant s TRUE (omega arith))) low
-
-chosen_by : (s t u : Table) (level : ℕ) (bit lo hi id : NodeId) → Extends s t → Extends t u → Knows s lo →
-    Knows s hi → IsFunction t bit (λ v. if v level then means t TRUE v else means t FALSE v) →
-    IsFunction u id (λ v. if means u bit v then means u hi v else means u lo v) →
-    IsFunction u id (λ v. if v level then means s hi v else means s lo v)
-chosen_by s t u level bit lo hi id first second lo_is hi_is bit_is is = record {
-  known = is.known;
-  meaning = λ v. is.meaning v ∙ (λ i. if bit_means v i then stays hi hi_is v i else stays lo lo_is v i);
-}
-  where
-    stays : (x : NodeId) → Knows s x → (v : ℕ → Bool) → means u x v ≡ means s x v
-    stays x known v = second.same_meaning x (omega (arith, first.rises, known)) v ∙ first.same_meaning x known v
-
-    by : (b : Bool) (v : ℕ → Bool) → (if b then means t TRUE v else means t FALSE v) ≡ b
-    by true v = means-TRUE t v
-    by false v = means-FALSE t v
-
-    bit_means : (v : ℕ → Bool) → means u bit v ≡ v level
-    bit_means v = second.same_meaning bit bit_is.known v ∙ bit_is.meaning v ∙ by (v level) v
-
--- the same of a call that may want memory
-pub chosen : {E : Type 0} (r : Result NodeId E) (s t u : Table) (level : ℕ) (bit lo hi : NodeId) → Extends s t →
-    Extends t u → Knows s lo → Knows s hi →
-    IsFunction t bit (λ v. if v level then means t TRUE v else means t FALSE v) →
-    IfOk r (λ id. IsFunction u id (λ v. if means u bit v then means u hi v else means u lo v)) →
-    IfOk r (λ id. IsFunction u id (λ v. if v level then means s hi v else means s lo v))
-chosen (Ok id) s t u level bit lo hi first second lo_is hi_is bit_is is =
-    chosen_by s t u level bit lo hi id first second lo_is hi_is bit_is is
-chosen (Err e) s t u level bit lo hi first second lo_is hi_is bit_is is = tt
-
--- the new level of an old one is one
-pub moved_below : (order levels : List ℕ) (count level : ℕ) → All (λ p. p < length levels) order →
-    All (λ l. l < count) levels → level < length order → moved order levels level < count
-moved_below order levels count level places within below =
-    within (get_or order level 0) 0 (places level 0 below)
+pub bit_seen : (s t : Table) (order : List ℕ) (bits : List NodeId) (level : ℕ) (bit : NodeId) → Extends s t →
+    AreBits s bits → slice_get bits (get_or order level 0) ≡ Some bit → (v : ℕ → Bool) →
+    means t bit v ≡ seen s order bits v level
+bit_seen s t order bits level bit grows known at v =
+    grows.same_meaning bit (known (get_or order level 0) bit at) v
+    ∙ ap (λ (id : NodeId). means s id v) (sym (get_or_from_slice_get bits (get_or order level 0) bit FALSE at))
 
 -- ---- the first entries
-module _ (order levels : List ℕ) (nodes : List Entry) where
-  pub begun : (s : Table) → AreFirstMoved s order levels nodes 0 (FALSE ∷ TRUE ∷ [])
+module _ (see : (ℕ → Bool) → ℕ → Bool) (nodes : List Entry) where
+  pub begun : (s : Table) → AreFirstMoved s see nodes 0 (FALSE ∷ TRUE ∷ [])
   begun s = record { count = refl; each = each }
     where
-      each : (k : ℕ) (id : NodeId) → slice_get (FALSE ∷ TRUE ∷ []) k ≡ Some id → IsMoved s order levels nodes k id
+      each : (k : ℕ) (id : NodeId) → slice_get (FALSE ∷ TRUE ∷ []) k ≡ Some id → IsMoved s see nodes k id
       each zero id is =
-          subst (IsMoved s order levels nodes 0) (same_Some FALSE id is) (record {
+          subst (IsMoved s see nodes 0) (same_Some FALSE id is) (record {
             known = omega arith;
-            meaning = λ v. means-FALSE s v ∙ sym (never_holds nodes (seen order levels v));
+            meaning = λ v. means-FALSE s v ∙ sym (never_holds nodes (see v));
           })
       each (suc zero) id is =
-          subst (IsMoved s order levels nodes 1) (same_Some TRUE id is) (record {
+          subst (IsMoved s see nodes 1) (same_Some TRUE id is) (record {
             known = omega arith;
-            meaning = λ v. means-TRUE s v ∙ sym (always_holds nodes (seen order levels v));
+            meaning = λ v. means-TRUE s v ∙ sym (always_holds nodes (see v));
           })
       each (suc (suc k)) id is = absurd (none-some id is)
 
   moved_kept : (s t : Table) (done : ℕ) (ids : List NodeId) → Extends s t →
-      AreFirstMoved s order levels nodes done ids → AreFirstMoved t order levels nodes done ids
+      AreFirstMoved s see nodes done ids → AreFirstMoved t see nodes done ids
   moved_kept s t done ids grows are = record {
     count = are.count;
     each = λ k id is. record {
@@ -90,21 +62,22 @@ module _ (order levels : List ℕ) (nodes : List Entry) where
 
   -- all are there
   pub all_moved : (s : Table) (done : ℕ) (ids : List NodeId) → length nodes ≡ done →
-      AreFirstMoved s order levels nodes done ids → AreMoved s order levels nodes ids
+      AreFirstMoved s see nodes done ids → AreMoved s see nodes ids
   all_moved s done ids all are = record { count = omega (arith, are.count, all); each = are.each }
 
   -- ---- one more entry
-  module _ (nodes_are : AreNodes (length order) nodes) (done : ℕ) (e : Entry) (at : slice_get nodes done ≡ Some e) where
-    node : IsNode (length order) (take done nodes) e
+  module _ (count : ℕ) (nodes_are : AreNodes count nodes) (done : ℕ) (e : Entry)
+      (at : slice_get nodes done ≡ Some e) where
+    node : IsNode count (take done nodes) e
     node = nodes_are done e at
 
     before : length (take done nodes) ≡ done
     before = length-take-le done nodes (let all = slice_get_within nodes done e at in omega arith)
 
-    pub level_below : e.level < length order
+    pub level_below : e.level < count
     level_below = node.level_below
 
-    module _ (s : Table) (ids : List NodeId) (are : AreFirstMoved s order levels nodes done ids) where
+    module _ (s : Table) (ids : List NodeId) (are : AreFirstMoved s see nodes done ids) where
       pub lo_within : e.lo < length ids
       lo_within = omega (arith, node.lo_before, before, are.count)
 
@@ -122,36 +95,39 @@ module _ (order levels : List ℕ) (nodes : List Entry) where
       child_known k id is = (are.each k id is).known
 
       -- the entry is loaded behind those before it
-      pub one_more : (t : Table) (level : ℕ) (lo hi id : NodeId) (later : List NodeId) → Extends s t →
-          slice_get ids e.lo ≡ Some lo → slice_get ids e.hi ≡ Some hi → level ≡ moved order levels e.level →
-          IsFunction t id (λ v. if v level then means s hi v else means s lo v) → later ≡ ids ++ id ∷ [] →
-          AreFirstMoved t order levels nodes (done + 1) later
-      one_more t level lo hi id later grows lo_at hi_at level_is is items =
-          subst (AreFirstMoved t order levels nodes (done + 1)) (sym items) (record {
+      pub one_more : (t : Table) (bit lo hi id : NodeId) (later : List NodeId) → Extends s t →
+          slice_get ids e.lo ≡ Some lo → slice_get ids e.hi ≡ Some hi → Knows s bit →
+          ((v : ℕ → Bool) → means s bit v ≡ see v e.level) →
+          IsFunction t id (λ v. if means t bit v then means t hi v else means t lo v) → later ≡ ids ++ id ∷ [] →
+          AreFirstMoved t see nodes (done + 1) later
+      one_more t bit lo hi id later grows lo_at hi_at bit_known bit_is is items =
+          subst (AreFirstMoved t see nodes (done + 1)) (sym items) (record {
             count = omega (arith, length_push ids id, are.count);
             each = λ k x there. each k x (get_more ids id k x there);
           })
         where
-          chosen : (b : Bool) (v : ℕ → Bool) →
-              (if b then means s hi v else means s lo v)
-              ≡ (if b then id_holds nodes e.hi (seen order levels v) else id_holds nodes e.lo (seen order levels v))
-          chosen true v = (are.each e.hi hi hi_at).meaning v
-          chosen false v = (are.each e.lo lo lo_at).meaning v
+          stays : (x : NodeId) → Knows s x → (v : ℕ → Bool) → means t x v ≡ means s x v
+          stays x known v = grows.same_meaning x known v
 
-          last : IsMoved t order levels nodes (done + 2) id
+          hi_is : (v : ℕ → Bool) → means t hi v ≡ id_holds nodes e.hi (see v)
+          hi_is v = stays hi (child_known e.hi hi hi_at) v ∙ (are.each e.hi hi hi_at).meaning v
+
+          lo_is : (v : ℕ → Bool) → means t lo v ≡ id_holds nodes e.lo (see v)
+          lo_is v = stays lo (child_known e.lo lo lo_at) v ∙ (are.each e.lo lo lo_at).meaning v
+
+          last : IsMoved t see nodes (done + 2) id
           last = record {
             known = is.known;
             meaning = λ v.
                 is.meaning v
-                ∙ ap (λ (l : ℕ). if v l then means s hi v else means s lo v) level_is
-                ∙ chosen (v (moved order levels e.level)) v
-                ∙ sym (entry_holds (length order) done nodes e (seen order levels v) nodes_are at);
+                ∙ (λ i. if (stays bit bit_known v ∙ bit_is v) i then hi_is v i else lo_is v i)
+                ∙ sym (entry_holds count done nodes e (see v) nodes_are at);
           }
 
           each : (k : ℕ) (x : NodeId) → (slice_get ids k ≡ Some x) ⊎ ((k ≡ length ids) × (id ≡ x)) →
-              IsMoved t order levels nodes k x
+              IsMoved t see nodes k x
           each k x (inl p) = (moved_kept s t done ids grows are).each k x p
           each k x (inr p) =
               let place : done + 2 ≡ k = omega (arith, are.count, p.0) in
-              subst (λ (n : ℕ). IsMoved t order levels nodes n x) place
-              (subst (λ (y : NodeId). IsMoved t order levels nodes (done + 2) y) p.1 last)
+              subst (λ (n : ℕ). IsMoved t see nodes n x) place
+              (subst (λ (y : NodeId). IsMoved t see nodes (done + 2) y) p.1 last)

@@ -1,2 +1,4 @@
+pub mod Clamped
 pub mod Moved
 pub mod Parts
+pub mod Told

@@ -1,13 +1,21 @@
 //! Environments' certificates in another order.
-ghost use Rattle.std.specs.List.{range_with_len};
-ghost use Rattle.std.specs.Prelude.{◌≡◌, ◌<◌, ◌^◌, ℕ, IfOk, length, map};
+ghost use Rattle.std.specs.Prelude.{◌≡◌, ◌<◌, ◌^◌, ℕ, Bool, IfOk, length, sum};
+ghost use Rattle.tm_agreement.specs.Agreement.{LevelsAgree};
+ghost use Rattle.tm_cert.specs.Nodes.{ids_of};
 ghost use Rattle.tm_dd.specs.Reduced.{IsReduced};
-ghost use Rattle.tm_game_bits.specs.Order.{IsOrder, level_in};
+ghost use Rattle.tm_game_bits.specs.Order.{IsOrder};
+ghost use Rattle.tm_reorder.specs.Fields.{AreFields};
+ghost use Rattle.tm_reorder.specs.Inner.Clamped.{HavePlaces};
 ghost use Rattle.tm_reorder.specs.Inner.Moved.{AreMoved};
+ghost use Rattle.tm_reorder.specs.Inner.Parts.{AreIds};
+ghost use Rattle.tm_reorder.specs.Inner.Told.{EnvironmentTold, IsEnvironmentMoved};
+ghost use Rattle.tm_sem.specs.StateBits.{state_widths};
 ghost use Rattle.tm_syntax.specs.Design.{DesignTree};
 ghost use Rattle.tm_verdict.specs.Fitting.{FitsEnvironment};
 ghost use Rattle.tm_verdict.specs.Sets.{levels_of};
 
+use crate::clamping::clamped_bits;
+use crate::fields::Field;
 use crate::moving::load_moved;
 use crate::parts::place_levels;
 use indexmap::IndexSet;
@@ -38,13 +46,60 @@ pub fn reorder_environment(
     ensures fits { IfOk result (λ c. (goals fairs : ℕ) → FitsEnvironment (length order.now) goals fairs cert.now
         → FitsEnvironment (length order.now) goals fairs c) }
 {
+    move_environment(alloc, dd, cert, order, &[])
+}
+
+/// An environment's certificate of the design of these fields in another order of the levels: the same goals, with
+/// levels and chains of sets that hold the same valid states. A number that no valid state has is taken for one that
+/// some valid state has, as in `clamp_driver`.
+///
+/// The diagrams are made as in `reorder_environment`.
+pub fn clamp_environment(
+    alloc: Global,
+    dd: &mut Manager,
+    cert: &EnvCert,
+    order: &[u32],
+    fields: &[Field],
+) -> Result<EnvCert, AllocError>
+    requires levels { dd.old.table.levels ≡ length order.now }
+    requires count { length order.now < 2 ^ 32 }
+    requires order { IsOrder (length order.now) order.now }
+    requires fits { (goals fairs : ℕ) × FitsEnvironment (length order.now) goals fairs cert.now }
+    requires fields { (d : DesignTree) × AreFields d fields.now × (sum (state_widths d) ≡ length order.now) }
+
+    ensures order { IfOk result (λ c. c.order ≡ order.now) }
+    ensures sets { IfOk result (λ c. (d : DesignTree) → AreFields d fields.now
+        → LevelsAgree d (levels_of d c) (levels_of d cert.now)) }
+    ensures fits { IfOk result (λ c. (goals fairs : ℕ) → FitsEnvironment (length order.now) goals fairs cert.now
+        → FitsEnvironment (length order.now) goals fairs c) }
+{
+    move_environment(alloc, dd, cert, order, fields)
+}
+
+// An environment's certificate in another order, over clamped bits.
+fn move_environment(
+    alloc: Global,
+    dd: &mut Manager,
+    cert: &EnvCert,
+    order: &[u32],
+    fields: &[Field],
+) -> Result<EnvCert, AllocError>
+    requires levels { dd.old.table.levels ≡ length order.now }
+    requires count { length order.now < 2 ^ 32 }
+    requires order { IsOrder (length order.now) order.now }
+    requires fits { (goals fairs : ℕ) × FitsEnvironment (length order.now) goals fairs cert.now }
+    requires places { HavePlaces (length order.now) fields.now }
+
+    ensures { IfOk result (IsEnvironmentMoved order.now fields.now cert.now) }
+{
     let levels = levels_by_place(alloc, order)?;
+    let bits = clamped_bits(alloc, dd, levels.as_slice(), fields)?;
     let ids = load_moved(
         alloc,
         dd,
         cert.nodes.as_slice(),
         cert.order.as_slice(),
-        levels.as_slice(),
+        bits.as_slice(),
     )?;
     renumber_environment(alloc, dd.store(), cert, ids.as_slice(), order)
 }
@@ -59,15 +114,12 @@ fn renumber_environment(
 ) -> Result<EnvCert, AllocError>
     requires reduced { IsReduced store.now }
     requires levels { store.now.levels ≡ length order.now }
-    requires order { IsOrder (length order.now) order.now }
     requires fits { (goals fairs : ℕ) × FitsEnvironment (length order.now) goals fairs cert.now }
-    requires moved { AreMoved store.now cert.now.order
-        (map (level_in order.now) (range_with_len 0 (length order.now))) cert.now.nodes ids.now }
+    requires ids { AreIds store.now ids.now }
+    requires count { length ids.now ≡ ids_of cert.now.nodes }
 
-    ensures order { IfOk result (λ c. c.order ≡ order.now) }
-    ensures sets { IfOk result (λ c. (d : DesignTree) → levels_of d c ≡ levels_of d cert.now) }
-    ensures fits { IfOk result (λ c. (goals fairs : ℕ) → FitsEnvironment (length order.now) goals fairs cert.now
-        → FitsEnvironment (length order.now) goals fairs c) }
+    ensures { (see : (ℕ → Bool) → ℕ → Bool) → AreMoved store.now see cert.now.nodes ids.now
+        → IfOk result (EnvironmentTold order.now see cert.now) }
 {
     let mut kept = IndexSet::new(alloc);
     let mut nodes = Vec::new(alloc);

@@ -1,10 +1,14 @@
-//! Certificates in another order of the levels: the same sets of states, told by other diagrams.
+//! Certificates in another order of the levels: sets that hold the same states, or the same valid ones, told by other
+//! diagrams.
 #![tactic(auto)]
 
+mod clamping;
 mod driver;
 mod environment;
+mod fields;
 mod moving;
 mod parts;
 
-pub use driver::reorder_driver;
-pub use environment::reorder_environment;
+pub use driver::{clamp_driver, reorder_driver};
+pub use environment::{clamp_environment, reorder_environment};
+pub use fields::Field;

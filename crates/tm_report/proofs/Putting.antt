@@ -1,10 +1,10 @@
 -- Texts that are put, one behind the other.
 use Rattle.std.proofs.Common.{◌≡◌, ℕ, zero, suc, ◌+◌, ◌-◌, ◌≤◌, Result, Ok, Err, List, [], ◌∷◌, ◌++◌}
-use Rattle.std.proofs.Common.{sym, ap}
+use Rattle.std.proofs.Common.{◌<◌, drop, get_or, length, refl, sym, take, ap}
 use Rattle.std.proofs.Common.{◌∙◌, subst, append_assoc, arith}
 use Rattle.std.specs.Prelude.{IsTrue, OnOk, OnErr, IfErr}
 use Rattle.std.specs.List.{flat_map, range_with_len}
-use Rattle.std.proofs.lemmas.List.{append-nil}
+use Rattle.std.proofs.lemmas.List.{append-nil, take_all, take_more}
 use Rattle.std.proofs.lemmas.List.Concat.{flat_map-append}
 use Rattle.tm_base.specs.Sink.{AppendsPrefix}
 use Rattle.tm_base.specs.declared.sink.Sink.{Ghosts as SinkGhosts}
@@ -14,7 +14,7 @@ use Rattle.tm_report.specs.Output.{SinkData, sink_data}
 use Rattle.tm_report.specs.Putting.{HasPut}
 use Rattle.tm_report.specs.Putting.{IsSinkFailure}
 use Rattle.tm_report.proofs.Counts.{rose_later}
-use Rattle.tm_report.proofs.PutLines.{cut_longer, err_as, ok_as}
+use Rattle.tm_report.proofs.PutLines.{cut_longer, err_as, ok_as, split_at}
 use Rattle.tm_play.proofs.Putting.{cut_more}
 
 -- memory ran out before anything was put
@@ -140,6 +140,57 @@ module _ (f : ℕ → List ℕ) where
       (let r : Result T Failure = Ok v in HasPut (lines_below n) (sink_data O x) (sink_data O y) r)
   all_lines O x y k whole le n is v = record {
     whole = λ told. whole told ∙ ap (λ m. O.written x ++ lines_below m) is;
+    cut = tt;
+    failure = tt;
+    no_fewer_faults = le;
+  }
+
+-- ---- one text for each item of a list
+module _ {A : Type 0} (f : A → List ℕ) (xs : List A) {B : Type 0} (O : SinkGhosts B) where
+  -- the texts of the first items
+  abbrev pub texts_of_first : ℕ → List ℕ
+  texts_of_first i = flat_map f (take i xs)
+
+  texts_more : (i : ℕ) (d : A) → i < length xs → texts_of_first (i + 1) ≡ texts_of_first i ++ f (get_or xs i d)
+  texts_more i d within =
+      ap (flat_map f) (take_more xs i d within) ∙ flat_map-append f (take i xs) (get_or xs i d ∷ [])
+      ∙ ap (λ t. texts_of_first i ++ t) (append-nil (f (get_or xs i d)))
+
+  module _ (x y z : B) (i : ℕ) (d : A) (text : List ℕ) (is_text : text ≡ f (get_or xs i d))
+      (so_far : IsTrue O.tells → O.written y ≡ O.written x ++ texts_of_first i) (le : O.faults x ≤ O.faults y)
+      (within : i < length xs) where
+    -- one more text was put
+    pub one_text_more : {T : Type 0} (r : Result T Failure) (v : T) → r ≡ Ok v →
+        HasPut text (sink_data O y) (sink_data O z) r →
+        (IsTrue O.tells → O.written z ≡ O.written x ++ texts_of_first (i + 1)) × (O.faults x ≤ O.faults z)
+    one_text_more r v is put =
+        let r' = subst (HasPut text (sink_data O y) (sink_data O z)) is put in
+        let here = then_put O x y z (texts_of_first i) text (Ok v) so_far le r' in (
+          λ told. here.whole told
+              ∙ ap (λ t. O.written x ++ t)
+              (ap (λ t. texts_of_first i ++ t) is_text ∙ sym (texts_more i d within)),
+          here.no_fewer_faults,
+        )
+
+    -- or not all of it
+    pub text_failed : {T U : Type 0} (r : Result T Failure) (failure : Failure) → r ≡ Err failure →
+        HasPut text (sink_data O y) (sink_data O z) r →
+        (let s : Result U Failure = Err failure in HasPut (flat_map f xs) (sink_data O x) (sink_data O z) s)
+    text_failed {T = T} {U = U} r failure is put =
+        let r' = subst (HasPut text (sink_data O y) (sink_data O z)) is put in
+        let here = then_put O x y z (texts_of_first i) text (Err failure) so_far le r' in
+        let s : Result U Failure = Err failure in
+        subst (λ (t : List ℕ). HasPut t (sink_data O x) (sink_data O z) s)
+        (sym (split_at f xs i d text within is_text))
+        (put_less (texts_of_first i ++ text) (flat_map f (drop (suc i) xs)) (sink_data O x) (sink_data O z) failure
+        here.cut here.failure here.no_fewer_faults)
+
+  -- all texts were put
+  pub all_texts : (x y : B) (i : ℕ) → (IsTrue O.tells → O.written y ≡ O.written x ++ texts_of_first i) →
+      O.faults x ≤ O.faults y → length xs ≤ i → {T : Type 0} (v : T) →
+      (let r : Result T Failure = Ok v in HasPut (flat_map f xs) (sink_data O x) (sink_data O y) r)
+  all_texts x y i whole le end v = record {
+    whole = λ told. whole told ∙ ap (λ (ys : List A). O.written x ++ flat_map f ys) (take_all i xs end);
     cut = tt;
     failure = tt;
     no_fewer_faults = le;

@@ -17,12 +17,14 @@ use Rattle.tm_cert.specs.declared.refusal.BadCert.TheVariants as cert
 use Rattle.tm_report.specs.declared.ending.Bad.{Bad}
 use Rattle.tm_report.specs.declared.ending.Bad.TheVariants.{TooLong, Driver, Cert, Choices}
 use Rattle.tm_play.specs.Report.{end_text, path_at, state_text}
+use Rattle.tm_refine.specs.declared.trace.Added.{Added}
+use Rattle.tm_refine.specs.declared.trace.Trace.{Trace}
 use Rattle.tm_sem.specs.State.{StateData}
 use Rattle.tm_syntax.specs.Design.{DesignTree}
 use Rattle.tm_report.specs.declared.ending.Ending.{Ending}
 use Rattle.tm_report.specs.declared.ending.Ending.TheVariants.{Usage, Faulty, Play, Generated, Migrated}
 use Rattle.tm_report.specs.declared.ending.Ending.TheVariants.{BadText, Accepted, AcceptedEnvironment, Refused}
-use Rattle.tm_report.specs.declared.ending.Ending.TheVariants.{Environment}
+use Rattle.tm_report.specs.declared.ending.Ending.TheVariants.{Budget, Environment}
 use Rattle.tm_report.specs.declared.ending.Ending.TheVariants as endings
 use Rattle.tm_report.specs.declared.ending.Failure.{Failure}
 use Rattle.tm_report.specs.declared.ending.Failure.TheVariants.{ReadFault, WriteFault, Memory}
@@ -116,24 +118,42 @@ numbers_line levels conditions chain =
 abbrev pub levels_text : (levels conditions chain : ℕ) → List ℕ
 levels_text levels conditions chain = codes "accepted environment\n" ++ numbers_line levels conditions chain
 
--- the line that tells how many predicates were tracked at first: the decision is made without any
-abbrev pub track_line : List ℕ
-track_line = codes "track 0\n"
+-- the line of how many predicates are tracked from the start
+abbrev pub track_line : ℕ → List ℕ
+track_line first = codes "track " ++ decimal first ++ codes "\n"
+
+-- the line of a predicate that was added: its number in the pool, and the two states that it tells apart
+abbrev pub add_line : DesignTree → Added → List ℕ
+add_line d a =
+    codes "add " ++ decimal a.predicate ++ codes ": " ++ state_text d a.left ++ codes " / " ++ state_text d a.right
+    ++ codes "\n"
+
+-- the lines of the predicates that were tracked, in order
+abbrev pub trace_text : DesignTree → Trace → List ℕ
+trace_text d t = track_line t.first ++ flat_map (add_line d) t.added.items
 
 -- the line of the number of nodes of a certificate
 abbrev pub nodes_line : ℕ → List ℕ
 nodes_line nodes = codes "nodes " ++ decimal nodes ++ codes "\n"
 
 -- the lines of a driver that was found
-abbrev pub driver_found_text : DesignTree → (ranks : List ℕ) (nodes : ℕ) → List ℕ
-driver_found_text d ranks nodes =
-    codes "driver\n" ++ (track_line
+abbrev pub driver_found_text : DesignTree → (ranks : List ℕ) → Trace → (nodes : ℕ) → List ℕ
+driver_found_text d ranks t nodes =
+    codes "driver\n" ++ (trace_text d t
     ++ (flat_map (goal_line d ranks) (range_with_len 0 (length ranks)) ++ nodes_line nodes))
 
 -- the lines of a design that has no driver
-abbrev pub environment_found_text : (levels conditions chain : ℕ) → List ℕ
-environment_found_text levels conditions chain =
-    codes "environment\n" ++ (track_line ++ numbers_line levels conditions chain)
+abbrev pub environment_found_text : DesignTree → (levels conditions chain : ℕ) → Trace → List ℕ
+environment_found_text d levels conditions chain t =
+    codes "environment\n" ++ (trace_text d t ++ numbers_line levels conditions chain)
+
+-- the line of how many predicates could be added
+abbrev pub budget_line : ℕ → List ℕ
+budget_line budget = codes "budget " ++ decimal budget ++ codes "\n"
+
+-- the lines of a design that a budget leaves undecided
+abbrev pub budget_text : DesignTree → (budget : ℕ) → Trace → List ℕ
+budget_text d budget t = budget_line budget ++ trace_text d t
 
 -- the line of a condition that fails, with its letter: its number, the goal, and the state that are reported
 abbrev pub refused_text : DesignTree → (letter : List ℕ) (condition goal : ℕ) → StateData → List ℕ
@@ -157,8 +177,9 @@ abbrev pub ending_text : Ending → List ℕ
 ending_text Usage = usage_text
 ending_text (Faulty f) = fault_line f
 ending_text (Play end) = end_text end
-ending_text (endings.Driver ranks nodes) = []
-ending_text (Environment levels conditions chain) = []
+ending_text (endings.Driver ranks trace nodes) = []
+ending_text (Environment levels conditions chain trace) = []
+ending_text (Budget budget trace) = []
 ending_text (Accepted ranks) = []
 ending_text (AcceptedEnvironment levels conditions chain) = []
 ending_text (Refused condition goal s) = []

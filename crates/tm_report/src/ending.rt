@@ -6,6 +6,7 @@ use tm_base::Name;
 use tm_cert::BadCert;
 use tm_cparse::BadDriver;
 use tm_play::PlayEnd;
+use tm_refine::Trace;
 use tm_sem::state::State;
 use tm_syntax::fault::Faulty;
 
@@ -44,18 +45,25 @@ pub enum Ending {
     Faulty(Faulty),
     /// The choices were played to this end.
     Play(PlayEnd),
-    /// A driver was found, and its files are written: it has so many ranked regions for each goal, and its certificate
-    /// so many nodes.
+    /// A driver was found over these predicates, and its files are written: it has so many ranked regions for each
+    /// goal, and its certificate so many nodes.
     Driver {
         ranks: Ranks,
+        trace: Trace,
         nodes: u64,
     },
-    /// No driver exists, and the file that shows it is written: so many levels, with a chain for each of so many
-    /// fairness conditions; the longest chain has so many sets.
+    /// No driver exists, as these predicates show, and the file that shows it is written: so many levels, with a chain
+    /// for each of so many fairness conditions; the longest chain has so many sets.
     Environment {
         levels: u64,
         conditions: u64,
         chain: u64,
+        trace: Trace,
+    },
+    /// So many predicates were added as were allowed, and those that are tracked leave it undecided who wins.
+    Budget {
+        budget: u32,
+        trace: Trace,
     },
     /// The driver has its certificate: every condition holds.
     Accepted {

@@ -164,6 +164,7 @@ fn put_ending<O: Sink>(alloc: Global, ending: &Ending, out: &mut O) -> Result<()
         }
         Ending::Driver { .. } => Ok(()),
         Ending::Environment { .. } => Ok(()),
+        Ending::Budget { .. } => Ok(()),
         Ending::Accepted { .. } => Ok(()),
         Ending::AcceptedEnvironment { .. } => Ok(()),
         Ending::Refused { .. } => Ok(()),

@@ -1,6 +1,6 @@
+mod Agreed
 mod Calling
 mod Certificates
 mod Files
 mod Games
-mod Known
-mod Losing
+mod Verdicts

@@ -1,3 +1,4 @@
 pub mod Found
-pub mod Region
 pub mod Shown
+pub mod Traced
+pub mod Written

@@ -8,7 +8,6 @@ use Rattle.tm_envcheck.specs.Verdict.{IsLostWithin}
 use Rattle.tm_game_bits.specs.Order.{IsOrder}
 use Rattle.tm_judge.specs.Judged.{CanJudgeDriver, CanJudgeEnvironment}
 use Rattle.tm_sem.specs.Certificates.{MeetsDriver, MeetsEnvironment}
-use Rattle.tm_sem.specs.Fairness.{conditions}
 use Rattle.tm_sem.specs.Loss.{Lost}
 use Rattle.tm_sem.specs.StateBits.{state_widths, weight_order}
 use Rattle.tm_sem.specs.Strategy.{Good}
@@ -32,9 +31,3 @@ pub record IsEnvironmentShown (d : DesignTree) (c : EnvData) : Type 0 where
   pub meets : MeetsEnvironment d (levels_of d c)
   pub lost : Lost d
   pub within : IsLostWithin d (levels_of d c)
-
--- so for a design of so many fairness conditions, with its weight order
-pub record IsLossShown (d : DesignTree) (c : EnvData) (fairs : ℕ) (weight : List ℕ) : Type 0 where
-  pub shown : IsEnvironmentShown d c
-  pub fairs_are : fairs ≡ length (conditions d)
-  pub in_order : IsWeightOrder d weight

@@ -4,6 +4,7 @@
 mod driver;
 mod environment;
 mod found;
+mod ordering;
 mod synthesis;
 
 pub use found::{DriverFiles, EnvironmentFiles, Synthesis};

@@ -1,6 +1,6 @@
 //! The commands.
 
-/// A command, with the names of its files.
+/// A command, with the names of its files. A budget says how many predicates `synth` may add.
 #[derive(Clone, Copy)]
 pub enum Command<'a> {
     Run {
@@ -11,6 +11,7 @@ pub enum Command<'a> {
     Synthesise {
         spec: &'a str,
         out: &'a str,
+        budget: Option<u32>,
     },
     CheckDriver {
         spec: &'a str,

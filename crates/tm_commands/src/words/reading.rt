@@ -2,16 +2,18 @@
 ghost use Rattle.std.specs.Prelude.{◌≡◌, map, IfOk};
 ghost use Rattle.std.specs.Option.{option_map};
 ghost use Rattle.std.specs.String.{string_bytes};
-ghost use Rattle.tm_commands.specs.Words.{check_of, command_of, command_view, command_with as command_behind};
-ghost use Rattle.tm_commands.specs.Words.{generate_of, migrate_of, registers_of, run_of, synthesise_of};
+ghost use Rattle.tm_commands.specs.Words.{check_of, command_of, command_view, command_with as command_given};
+ghost use Rattle.tm_commands.specs.Words.{generate_of, migrate_of, plain_command_with as plain_command_given};
+ghost use Rattle.tm_commands.specs.Words.{run_of, synthesise_of};
+ghost use Rattle.tm_commands.specs.Inner.Splitting.{arguments_view};
 
 use crate::words::command::Command;
-use crate::words::splitting::split;
+use crate::words::number::read_number;
+use crate::words::splitting::{Arguments, split};
 use std::alloc::{AllocError, Global};
-use tm_play::read_digits;
 
 /// The most registers of a generated specification.
-const MOST_REGISTERS: u64 = 12;
+const MOST_REGISTERS: u32 = 12;
 
 /// The command `run` with its positional words.
 fn run_with<'a>(words: &[&'a str]) -> Option<Command<'a>>
@@ -27,14 +29,14 @@ fn run_with<'a>(words: &[&'a str]) -> Option<Command<'a>>
     })
 }
 
-/// The command `synth` with its positional words.
-fn synthesise_with<'a>(words: &[&'a str]) -> Option<Command<'a>>
-    ensures { option_map command_view result ≡ synthesise_of (map (λ w. w.now) words.now) }
+/// The command `synth` with its positional words, and its budget.
+fn synthesise_with<'a>(words: &[&'a str], budget: Option<u32>) -> Option<Command<'a>>
+    ensures { option_map command_view result ≡ synthesise_of (map (λ w. w.now) words.now) budget }
 {
     let [spec, out] = words else {
         return None;
     };
-    Some(Command::Synthesise { spec, out })
+    Some(Command::Synthesise { spec, out, budget })
 }
 
 /// The command `check` with its positional words: three for a driver, two for the environment.
@@ -48,19 +50,6 @@ fn check_with<'a>(words: &[&'a str]) -> Option<Command<'a>>
     }
 }
 
-/// The number of registers that a word asks for: decimal digits, of at most 12 in value.
-fn read_registers(word: &str) -> Option<u32>
-    ensures { result ≡ registers_of word.now }
-{
-    if word.is_empty() {
-        return None;
-    }
-    match read_digits(word.as_bytes()) {
-        Some(registers) if registers <= MOST_REGISTERS => Some(registers as u32),
-        _ => None,
-    }
-}
-
 /// The command `gen` with its positional words.
 fn generate_with<'a>(words: &[&'a str]) -> Option<Command<'a>>
     ensures { option_map command_view result ≡ generate_of (map (λ w. w.now) words.now) }
@@ -68,7 +57,7 @@ fn generate_with<'a>(words: &[&'a str]) -> Option<Command<'a>>
     let [registers, out] = words else {
         return None;
     };
-    match read_registers(registers) {
+    match read_number(registers, MOST_REGISTERS) {
         Some(registers) => Some(Command::Generate { registers, out }),
         None => None,
     }
@@ -84,13 +73,12 @@ fn migrate_with<'a>(words: &[&'a str]) -> Option<Command<'a>>
     Some(Command::Migrate { spec, cert, out })
 }
 
-/// The command that a first word begins, with its positional words.
-fn command_with<'a>(command: &str, words: &[&'a str]) -> Option<Command<'a>>
-    ensures { option_map command_view result ≡ command_behind command.now (map (λ w. w.now) words.now) }
+/// A command other than `synth`, with its positional words.
+fn plain_command_with<'a>(command: &str, words: &[&'a str]) -> Option<Command<'a>>
+    ensures { option_map command_view result ≡ plain_command_given command.now (map (λ w. w.now) words.now) }
 {
     match command {
         "run" => run_with(words),
-        "synth" => synthesise_with(words),
         "check" => check_with(words),
         "gen" => generate_with(words),
         "migrate" => migrate_with(words),
@@ -98,15 +86,28 @@ fn command_with<'a>(command: &str, words: &[&'a str]) -> Option<Command<'a>>
     }
 }
 
+/// The command that a first word begins, with its arguments: `synth` alone has a budget.
+fn command_with<'a>(command: &str, arguments: &Arguments<'a>) -> Option<Command<'a>>
+    ensures { option_map command_view result ≡ command_given command.now (arguments_view arguments.now) }
+{
+    match command {
+        "synth" => synthesise_with(&arguments.words, arguments.budget),
+        _ => match arguments.budget {
+            Some(_) => None,
+            None => plain_command_with(command, &arguments.words),
+        },
+    }
+}
+
 /// The command that the words spell; none where they spell none. It takes time linear in the words.
 pub fn read_words<'a>(alloc: Global, words: &'a [String]) -> Result<Option<Command<'a>>, AllocError>
     ensures { IfOk result (λ r. option_map command_view r ≡ command_of (map string_bytes words.now)) }
 {
-    let [command, behind @ ..] = words else {
+    let [command, others @ ..] = words else {
         return Ok(None);
     };
-    match split(alloc, behind)? {
-        Some(words) => Ok(command_with(command.as_str(), &words)),
+    match split(alloc, others)? {
+        Some(arguments) => Ok(command_with(command.as_str(), &arguments)),
         None => Ok(None),
     }
 }

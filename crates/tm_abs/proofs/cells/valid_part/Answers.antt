@@ -1,4 +1,6 @@
 use Rattle.std.proofs.Common.{◌&&◌, IfOk, subst}
+use Rattle.std.proofs.Math.Logic.{∥∥₁_elim}
+use Rattle.std.proofs.Props.{props}
 use Rattle.tm_dd.specs.declared.node.NodeId.{NodeId}
 use Rattle.tm_dd.specs.Table.{means}
 use Rattle.tm_ddops.specs.Manager.{IsFunction}
@@ -7,7 +9,7 @@ use Rattle.tm_abs.proofs.cells.valid_part.Goals as goal
 
 pub and-requires : goal.and-requires
 and-requires c = record {
-  f = (c.valid-valid.ensures.states c.requires.pool.0 c.requires.pool.1.of).known;
+  f = ∥∥₁_elim c.requires.pool (hlevel props) (λ x. (c.valid-valid.ensures.states x.0 x.1.of).known);
   g = c.requires.set.known;
 }
 

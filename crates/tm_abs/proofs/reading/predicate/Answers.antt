@@ -1,4 +1,6 @@
 use Rattle.std.proofs.Common.{◌≡◌, ℕ, ◌<◌, List, Some, length, sym, ap, ◌∙◌, arith}
+use Rattle.std.proofs.Math.Logic.{∥∥₁_elim}
+use Rattle.std.proofs.Props.{props}
 use Rattle.std.specs.Prelude.{slice_get, slice_index_or}
 use Rattle.std.proofs.lemmas.Option.{slice_get-get_or}
 use Rattle.tm_abs.proofs.Predicates.{has_first, is_predicate, term_known}
@@ -17,21 +19,23 @@ pub bits-requires : goal.bits-requires
 bits-requires c =
     let g = c.args.game.now in
     let pool = ap (λ (f : FlatTerms). f.pool) c.flat.ensures in
-    term_known c.requires.pool.0 g c.requires.pool.1 c.args.number c.index-term.result.now
+    ∥∥₁_elim c.requires.pool (hlevel props)
+    (λ x.
+    term_known x.0 g x.1 c.args.number c.index-term.result.now
     (at_number c.flat.result.now.pool.items g.flat.pool c.args.number c.index-term.result.now pool c.requires.number
-    c.index-term.ensures)
+    c.index-term.ensures))
 
 pub index-requires : goal.index-requires
 index-requires c =
     let g = c.args.game.now in
-    let d = c.requires.pool.0 in
-    let pooled = c.requires.pool.1 in
     let pool = ap (λ (f : FlatTerms). f.pool) c.flat.ensures in
-    let long = has_first d g pooled c.args.number c.index-term.result.now
+    ∥∥₁_elim c.requires.pool (hlevel props)
+    (λ x.
+    let long = has_first x.0 g x.1 c.args.number c.index-term.result.now
     (at_number c.flat.result.now.pool.items g.flat.pool c.args.number c.index-term.result.now pool c.requires.number
     c.index-term.ensures) c.bits.new.self.diagrams.table c.in_ok-bits.bits.items
-    (c.in_ok-bits.ensures.bits d pooled.of) in
-    omega (arith, long, c.in_ok-bits.bits.ok.0)
+    (c.in_ok-bits.ensures.bits x.0 x.1.of) in
+    omega (arith, long, c.in_ok-bits.bits.ok.0))
 
 pub returns-clause-predicate : goal.returns-clause-predicate
 returns-clause-predicate c = λ d pooled.

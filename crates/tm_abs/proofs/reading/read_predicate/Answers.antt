@@ -1,4 +1,6 @@
 use Rattle.std.proofs.Common.{ℕ, List, ◌∷◌, [], ◌++◌, All, length, sym, ap, subst, arith}
+use Rattle.std.proofs.Math.Logic.{∥∥₁_elim}
+use Rattle.std.proofs.Props.{props}
 use Rattle.std.proofs.lemmas.List.Elements.{All-push}
 use Rattle.tm_abs.proofs.Readings.{read_atom, read_bit}
 use Rattle.tm_abs.proofs.Tracking.{atoms_kept}
@@ -7,6 +9,10 @@ use Rattle.tm_abs.specs.declared.atoms.Atom.{Atom}
 use Rattle.tm_abs.specs.Inner.Atoms.{AreTracked, IsAtom}
 use Rattle.tm_abs.specs.Tracked.{tracked_of}
 use Rattle.tm_abs.proofs.reading.read_predicate.Goals as goal
+
+pub bit_level-requires : goal.bit_level-requires
+bit_level-requires c =
+    ∥∥₁_elim c.requires.pool (hlevel props) (λ x. (c.in_ok-holds.ensures.predicate x.0 x.1).known)
 
 pub returns-in-Some-clause-atoms : goal.returns-in-Some-clause-atoms
 returns-in-Some-clause-atoms c = λ all.
@@ -27,13 +33,15 @@ returns-in-Some-clause-tracked c = λ d first before pooled fg tracked.
     c.in-Some.level (omega (arith, below, count, order)) found.1
 
 pub atom_of-requires-clause-pool : goal.atom_of-requires-clause-pool
-atom_of-requires-clause-pool c = (
-  c.requires.pool.0,
-  c.args.game.now,
-  c.requires.pool.1,
-  c.predicate.ensures.grows,
-  c.in_ok-holds.ensures.predicate c.requires.pool.0 c.requires.pool.1,
-)
+atom_of-requires-clause-pool c =
+    ∥∥₁_elim c.requires.pool (squash₁)
+    (λ x. ∣ (
+      x.0,
+      c.args.game.now,
+      x.1,
+      c.predicate.ensures.grows,
+      c.in_ok-holds.ensures.predicate x.0 x.1,
+    ) ∣₁)
 
 pub returns-clause-atoms : goal.returns-clause-atoms
 returns-clause-atoms c = λ all.

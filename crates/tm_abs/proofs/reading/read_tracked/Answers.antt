@@ -3,7 +3,7 @@ use Rattle.std.specs.Prelude.{slice_index_or}
 use Rattle.std.proofs.lemmas.List.{length-replicate, take_all, take_more}
 use Rattle.std.proofs.lemmas.List.Elements.{All-nil}
 use Rattle.tm_abs.proofs.Tracking.{predicates_at-append, tracked_none}
-use Rattle.tm_abs.proofs.ValidParts.{pooled_kept}
+use Rattle.tm_abs.proofs.ValidParts.{some_kept}
 use Rattle.tm_abs.specs.declared.atoms.Atom.{Atom}
 use Rattle.tm_abs.specs.Inner.Atoms.{AreTracked, IsAtom}
 use Rattle.tm_abs.specs.Tracked.{tracked_of}
@@ -29,10 +29,8 @@ loop-number-init c =
     }
 
 pub read_predicate-requires-clause-pool : goal.read_predicate-requires-clause-pool
-read_predicate-requires-clause-pool c = (
-  c.requires.pool.0,
-  pooled_kept c.requires.pool.0 c.args.game.now c.loop-number.game c.loop-number.invariant.grows c.requires.pool.1,
-)
+read_predicate-requires-clause-pool c =
+    some_kept c.args.game.now c.loop-number.game c.loop-number.invariant.grows c.requires.pool
 
 pub returns-in_err-read_predicate-clause-grows : goal.returns-in_err-read_predicate-clause-grows
 returns-in_err-read_predicate-clause-grows c =

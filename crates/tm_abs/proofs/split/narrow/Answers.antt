@@ -1,7 +1,9 @@
 use Rattle.std.proofs.Common.{◌++◌, ◌∷◌, []}
+use Rattle.std.proofs.Math.Logic.{∥∥₁_elim}
+use Rattle.std.proofs.Props.{props}
 use Rattle.std.proofs.lemmas.Result.{IfOk-weaker}
 use Rattle.tm_abs.proofs.Narrows.{met_set, narrow_with, narrow_without, narrowed_same}
-use Rattle.tm_abs.proofs.ValidParts.{pooled_kept}
+use Rattle.tm_abs.proofs.ValidParts.{pooled_kept, set_prop}
 use Rattle.tm_abs.specs.Tracked.{tracked_of}
 use Rattle.tm_game.proofs.Growing.{grows_then, known_kept, of_kept}
 use Rattle.tm_game.proofs.LeastStates.{found_none, found_some}
@@ -10,56 +12,64 @@ use Rattle.tm_sem.specs.StateBits.{IsLeast}
 use Rattle.tm_abs.proofs.split.narrow.Goals as goal
 
 pub predicate-requires : goal.predicate-requires
-predicate-requires c =
-    let it = c.requires.narrowed in
-    record {
-      number = c.requires.number;
-      pool = (it.0, pooled_kept it.0 it.1 c.args.game.now it.5 it.4);
-    }
+predicate-requires c = record {
+  number = c.requires.number;
+  pool = ∥∥₁_elim c.requires.narrowed (squash₁)
+      (λ it. ∣ (it.0, pooled_kept it.0 it.1 c.args.game.now it.5 it.4) ∣₁);
+}
 
 pub and-requires : goal.and-requires
 and-requires c =
-    let it = c.requires.narrowed in
     let g = c.args.game.now in
     record {
-      f = known_kept g c.predicate.new.game c.predicate.ensures.grows c.args.found.sought it.6.sought_is.known;
-      g = (c.in_ok-holds.ensures.predicate it.0 (pooled_kept it.0 it.1 g it.5 it.4)).known;
+      f = ∥∥₁_elim c.requires.narrowed (hlevel props)
+          (λ it.
+          known_kept g c.predicate.new.game c.predicate.ensures.grows c.args.found.sought it.6.sought_is.known);
+      g = ∥∥₁_elim c.requires.narrowed (hlevel props)
+          (λ it. (c.in_ok-holds.ensures.predicate it.0 (pooled_kept it.0 it.1 g it.5 it.4)).known);
     }
 
 pub least-requires : goal.least-requires
 least-requires c =
-    let it = c.requires.narrowed in
     let g = c.args.game.now in
     let found = c.args.found in
+    ∥∥₁_elim c.requires.narrowed (set_prop c.and.new.self c.in_ok-met.met)
+    (λ it.
     met_set it.0 it.1 g c.predicate.new.game c.and.new.self it.4 it.5 c.predicate.ensures.grows c.and.ensures.grows
     c.in_ok-holds.ensures.order it.2 it.3 found.state found.cell found.sought it.6 c.args.number c.in_ok-holds.holds
     (c.in_ok-holds.ensures.predicate it.0 (pooled_kept it.0 it.1 g it.5 it.4)) c.in_ok-met.met
-    c.in_ok-met.ensures.answer
+    c.in_ok-met.ensures.answer)
 
 pub narrow_to-requires : goal.narrow_to-requires
 narrow_to-requires c =
-    let it = c.requires.narrowed in
     let g = c.args.game.now in
     let h = c.predicate.new.game in
     let l = c.least.new.self in
     let hl = grows_then h c.and.new.self l c.and.ensures.grows c.least.ensures.grows in
     record {
-      cell = known_kept g l (grows_then g h l c.predicate.ensures.grows hl) c.args.found.cell it.6.cell_is.known;
-      holds = known_kept h l hl c.in_ok-holds.holds
-          (c.in_ok-holds.ensures.predicate it.0 (pooled_kept it.0 it.1 g it.5 it.4)).known;
+      cell = ∥∥₁_elim c.requires.narrowed (hlevel props)
+          (λ it.
+          known_kept g l (grows_then g h l c.predicate.ensures.grows hl) c.args.found.cell it.6.cell_is.known);
+      holds = ∥∥₁_elim c.requires.narrowed (hlevel props)
+          (λ it.
+          known_kept h l hl c.in_ok-holds.holds
+          (c.in_ok-holds.ensures.predicate it.0 (pooled_kept it.0 it.1 g it.5 it.4)).known);
     }
 
 pub narrow_off-requires : goal.narrow_off-requires
 narrow_off-requires c =
-    let it = c.requires.narrowed in
     let g = c.args.game.now in
     let h = c.predicate.new.game in
     let l = c.least.new.self in
     let hl = grows_then h c.and.new.self l c.and.ensures.grows c.least.ensures.grows in
     record {
-      cell = known_kept g l (grows_then g h l c.predicate.ensures.grows hl) c.args.found.cell it.6.cell_is.known;
-      holds = known_kept h l hl c.in_ok-holds.holds
-          (c.in_ok-holds.ensures.predicate it.0 (pooled_kept it.0 it.1 g it.5 it.4)).known;
+      cell = ∥∥₁_elim c.requires.narrowed (hlevel props)
+          (λ it.
+          known_kept g l (grows_then g h l c.predicate.ensures.grows hl) c.args.found.cell it.6.cell_is.known);
+      holds = ∥∥₁_elim c.requires.narrowed (hlevel props)
+          (λ it.
+          known_kept h l hl c.in_ok-holds.holds
+          (c.in_ok-holds.ensures.predicate it.0 (pooled_kept it.0 it.1 g it.5 it.4)).known);
     }
 
 pub returns-in_err-met-clause-grows : goal.returns-in_err-met-clause-grows

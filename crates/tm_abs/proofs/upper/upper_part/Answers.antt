@@ -1,4 +1,6 @@
 use Rattle.std.proofs.Common.{◌≡◌, inl, ℕ, Bool, true, ◌&&◌, List, All, length, sym, ap, ◌∙◌, subst, arith}
+use Rattle.std.proofs.Math.Logic.{∥∥₁_elim}
+use Rattle.std.proofs.Props.{props}
 use Rattle.std.specs.Prelude.{slice_index_or, vec_len}
 use Rattle.std.proofs.lemmas.Bool.{eqb-true}
 use Rattle.std.proofs.lemmas.List.Elements.{All-contains, Contains-get_or}
@@ -25,8 +27,6 @@ use Rattle.tm_abs.proofs.upper.upper_part.Goals as goal
 
 pub reached-requires : goal.reached-requires
 reached-requires c =
-    let d = c.requires.pool.0 in
-    let pooled = c.requires.pool.1 in
     let g = c.args.game.now in
     let h = c.read_tracked.new.game in
     let read = c.in_ok-tracked.ensures in
@@ -47,9 +47,11 @@ reached-requires c =
           (λ k a below.
           All-contains (IsAtom (length g.order) h.diagrams.table) all (slice_index_or joined k a) read.atoms
           ((joining.all (slice_index_or joined k a)).1 (inl (Contains-get_or joined k a below))));
-      apart = λ a b first second.
-          atoms_apart d g h.diagrams.table (tracked_of d c.args.numbers.now) free all (read.tracked d pooled) a b
-          ((joining.all a).1 (inl first)) ((joining.all b).1 (inl second));
+      apart = λ a b first second same.
+          ∥∥₁_elim c.requires.pool (hlevel props)
+          (λ x.
+          atoms_apart x.0 g h.diagrams.table (tracked_of x.0 c.args.numbers.now) free all (read.tracked x.0 x.1) a b
+          ((joining.all a).1 (inl first)) ((joining.all b).1 (inl second)) same);
       count = joining.count ∙ read.count ∙ order;
       listed = joining.listed;
     }
@@ -61,7 +63,8 @@ and-requires c =
     record {
       f = known_kept g k
           (grows_then g c.read_tracked.new.game k c.read_tracked.ensures.grows c.reached.ensures.grows)
-          c.valid-valid.result (c.valid-valid.ensures.states c.requires.pool.0 c.requires.pool.1.of).known;
+          c.valid-valid.result
+          (∥∥₁_elim c.requires.pool (hlevel props) (λ x. (c.valid-valid.ensures.states x.0 x.1.of).known));
       g = c.in_ok-reached.ensures.reached.known;
     }
 

@@ -6,7 +6,7 @@ use Rattle.tm_commands.specs.Words.{command_of}
 use Rattle.tm_commands.specs.World.{files_data}
 use Rattle.tm_report.specs.Output.{sink_data}
 use Rattle.tm_commands.proofs.Accepting.{accepts_good, accepts_lost}
-use Rattle.tm_commands.proofs.Finding.{always_decides, finds_good, finds_lost}
+use Rattle.tm_commands.proofs.Finding.{always_decides, finds_good, finds_lost, traces_honestly}
 use Rattle.tm_commands.proofs.Reporting.{Keeps, keeps_whole, keeps_cut}
 use Rattle.tm_commands.proofs.obeying.obey_and_report.Goals as goal
 
@@ -29,6 +29,8 @@ returns-in-Ok g c =
           (files_data g.F.Files c.obey_words-outcome.new.files) (sink_data g.O.Sink c.args.out.now)
           (sink_data g.O.Sink c.put_outcome.new.out) (command_of (map string_bytes c.args.words.now)) _ kept.cause
           kept.fault;
+      traced = traces_honestly (command_of (map string_bytes c.args.words.now)) (files_data g.F.Files c.args.files.now)
+          (files_data g.F.Files c.obey_words-outcome.new.files) _ kept.possible kept.files kept.cause;
       good = accepts_good (command_of (map string_bytes c.args.words.now)) (files_data g.F.Files c.args.files.now) _
           kept.cause kept.possible;
       lost = accepts_lost (command_of (map string_bytes c.args.words.now)) (files_data g.F.Files c.args.files.now) _
@@ -63,6 +65,8 @@ returns-in-Err g c =
           (files_data g.F.Files c.obey_words-outcome.new.files) (sink_data g.O.Sink c.args.out.now)
           (sink_data g.O.Sink c.put_outcome.new.out) (command_of (map string_bytes c.args.words.now)) _ kept.cause
           kept.fault;
+      traced = traces_honestly (command_of (map string_bytes c.args.words.now)) (files_data g.F.Files c.args.files.now)
+          (files_data g.F.Files c.obey_words-outcome.new.files) _ kept.possible kept.files kept.cause;
       good = accepts_good (command_of (map string_bytes c.args.words.now)) (files_data g.F.Files c.args.files.now) _
           kept.cause kept.possible;
       lost = accepts_lost (command_of (map string_bytes c.args.words.now)) (files_data g.F.Files c.args.files.now) _

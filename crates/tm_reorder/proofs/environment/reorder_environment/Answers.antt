@@ -1,42 +1,25 @@
-use Rattle.std.proofs.Common.{sym, ap, ◌∙◌, subst}
-use Rattle.tm_cert.specs.Cert.{EnvData}
-use Rattle.tm_dd.specs.Reduced.{IsReduced}
-use Rattle.tm_dd.specs.Table.{Table}
-use Rattle.tm_reorder.proofs.Reordered.{levels_given, moved_given, nodes_given, places_given}
+use Rattle.std.proofs.Common.{length}
+use Rattle.std.proofs.lemmas.Result.{IfOk-weaker}
+use Rattle.tm_reorder.proofs.Agreed.{levels_same}
+use Rattle.tm_reorder.proofs.Reordered.{environment_fits}
+use Rattle.tm_reorder.proofs.Within.{no_places}
 use Rattle.tm_reorder.proofs.environment.reorder_environment.Goals as goal
 
-pub load_moved-requires-clause-nodes : goal.load_moved-requires-clause-nodes
-load_moved-requires-clause-nodes c =
-    nodes_given c.args.order.now c.args.cert.now.order c.requires.order c.requires.fits.2.order c.as_slice-2.result.now
-    c.as_slice-3.result.now (c.as_slice-2.ensures.value ∙ ap (λ (x : EnvData). x.order) c.cert.view_is)
-    (c.as_slice-3.ensures.value ∙ c.in_ok-levels.ensures) c.args.cert.now.nodes c.as_slice.result.now
-    (c.as_slice.ensures.value ∙ ap (λ (x : EnvData). x.nodes) c.cert.view_is) c.requires.fits.2.nodes
+pub move_environment-requires-clause-places : goal.move_environment-requires-clause-places
+move_environment-requires-clause-places c = no_places (length c.args.order.now)
 
-pub load_moved-requires-clause-places : goal.load_moved-requires-clause-places
-load_moved-requires-clause-places c =
-    places_given c.args.order.now c.args.cert.now.order c.requires.order c.requires.fits.2.order c.as_slice-2.result.now
-    c.as_slice-3.result.now (c.as_slice-2.ensures.value ∙ ap (λ (x : EnvData). x.order) c.cert.view_is)
-    (c.as_slice-3.ensures.value ∙ c.in_ok-levels.ensures)
+pub returns-clause-order : goal.returns-clause-order
+returns-clause-order c = IfOk-weaker c.move_environment.result _ _ (λ moved m. m.2.order) c.move_environment.ensures
 
-pub load_moved-requires-clause-levels : goal.load_moved-requires-clause-levels
-load_moved-requires-clause-levels c =
-    levels_given c.args.order.now c.args.cert.now.order c.requires.order c.requires.fits.2.order c.as_slice-2.result.now
-    c.as_slice-3.result.now (c.as_slice-2.ensures.value ∙ ap (λ (x : EnvData). x.order) c.cert.view_is)
-    (c.as_slice-3.ensures.value ∙ c.in_ok-levels.ensures) c.args.dd.now.table.levels c.requires.levels
+pub returns-clause-sets : goal.returns-clause-sets
+returns-clause-sets c =
+    IfOk-weaker c.move_environment.result _ _
+    (λ moved m d. levels_same d c.args.order.now c.requires.order m.0 c.requires.fits.0 c.requires.fits.1
+    c.args.cert.now moved c.requires.fits.2 m.2 m.1)
+    c.move_environment.ensures
 
-pub renumber_environment-requires-clause-reduced : goal.renumber_environment-requires-clause-reduced
-renumber_environment-requires-clause-reduced c =
-    subst IsReduced (sym c.store.ensures.value) c.store.ensures.manager.reduced
-
-pub renumber_environment-requires-clause-levels : goal.renumber_environment-requires-clause-levels
-renumber_environment-requires-clause-levels c =
-    ap (λ (s : Table). s.levels) c.store.ensures.value ∙ c.load_moved.ensures.extends.same_levels ∙ c.requires.levels
-
-pub renumber_environment-requires-clause-moved : goal.renumber_environment-requires-clause-moved
-renumber_environment-requires-clause-moved c =
-    moved_given c.args.order.now c.args.cert.now.order c.requires.order c.requires.fits.2.order c.as_slice-2.result.now
-    c.as_slice-3.result.now (c.as_slice-2.ensures.value ∙ ap (λ (x : EnvData). x.order) c.cert.view_is)
-    (c.as_slice-3.ensures.value ∙ c.in_ok-levels.ensures) c.load_moved.new.dd.table c.store.result.now
-    c.args.cert.now.nodes c.as_slice.result.now c.in_ok-ids.ids.items c.as_slice-4.result.now c.store.ensures.value
-    (c.as_slice.ensures.value ∙ ap (λ (x : EnvData). x.nodes) c.cert.view_is) c.as_slice-4.ensures.value
-    c.in_ok-ids.ensures.loaded
+pub returns-clause-fits : goal.returns-clause-fits
+returns-clause-fits c =
+    IfOk-weaker c.move_environment.result _ _
+    (λ moved m. environment_fits c.args.order.now c.requires.order m.0 c.args.cert.now moved m.2)
+    c.move_environment.ensures

@@ -1,6 +1,8 @@
 use Rattle.std.proofs.Common.{List, ℕ, ◌&&◌, IfOk, sym, subst}
+use Rattle.std.proofs.Math.Logic.{∥∥₁_elim}
+use Rattle.std.proofs.Props.{props}
 use Rattle.std.proofs.lemmas.Result.{IfOk-weaker}
-use Rattle.tm_abs.proofs.ValidParts.{complement_set, in_pool_kept, left_set, lower_made, pooled_kept, valid_only, valid_set}
+use Rattle.tm_abs.proofs.ValidParts.{complement_set, in_pool_kept, left_set, lower_made, pooled_kept, set_prop, some_kept, valid_only, valid_set}
 use Rattle.tm_abs.specs.Tracked.{IsPooled, tracked_of}
 use Rattle.tm_dd.specs.declared.node.NodeId.{NodeId}
 use Rattle.tm_dd.specs.NodeId.{complement}
@@ -26,18 +28,22 @@ upper_part-requires c =
     let h = c.valid_part.new.game in
     let part = c.in_ok-outside.ensures in
     let outside = c.in_ok-outside.outside in
-    let d = c.requires.pool.0 in
-    let pooled = c.requires.pool.1 in
-    let valid = part.valid d pooled.of in
     let set = complement_set g c.args.c c.requires.set in
     let is = subst (λ (x : NodeId). IsFunction h.diagrams.table outside
     (λ v. means h.diagrams.table g.valid v && means h.diagrams.table x v)) c.complement.ensures.value part.part in
     record {
       tracked = in_pool_kept g h part.grows c.deref.result.now c.args.self.now.tracked.items c.deref.ensures.value
           c.requires.tracked;
-      pool = (d, pooled_kept d g h part.grows pooled);
-      set = valid_set d g h part.grows pooled.of part.order valid (complement c.args.c) outside set is;
-      valid = valid_only d g h part.grows pooled.of part.order valid (complement c.args.c) outside set is;
+      pool = some_kept g h part.grows c.requires.pool;
+      set = ∥∥₁_elim c.requires.pool (set_prop h outside)
+          (λ x.
+          valid_set x.0 g h part.grows x.1.of part.order (part.valid x.0 x.1.of) (complement c.args.c) outside set
+          is);
+      valid = λ v here.
+          ∥∥₁_elim c.requires.pool (hlevel props)
+          (λ x.
+          valid_only x.0 g h part.grows x.1.of part.order (part.valid x.0 x.1.of) (complement c.args.c) outside set
+          is v here);
     }
 
 pub valid_part-requires-2 : goal.valid_part-requires-2
@@ -49,19 +55,19 @@ valid_part-requires-2 c =
     let outside = c.in_ok-outside.outside in
     let left = c.in_ok-left.left in
     let numbers = c.args.self.now.tracked.items in
-    let d = c.requires.pool.0 in
-    let pooled = c.requires.pool.1 in
     let is = subst (λ (x : NodeId). IsFunction h.diagrams.table outside
     (λ v. means h.diagrams.table g.valid v && means h.diagrams.table x v)) c.complement.ensures.value part.part in
-    let upper = subst (λ (ks : List ℕ). IsStates d h.order k.diagrams.table
-    (IsInUpper d (tracked_of d ks) (test_of d h outside)) left) c.deref.ensures.value
-    (c.in_ok-left.ensures.part d (pooled_kept d g h part.grows pooled)) in
     record {
-      pool = (d, pooled_kept d g k (grows_then g h k part.grows c.in_ok-left.ensures.grows) pooled);
+      pool = some_kept g k (grows_then g h k part.grows c.in_ok-left.ensures.grows) c.requires.pool;
       set = subst (IsSet k) (sym c.complement-2.ensures.value)
           (complement_set k left
-          (left_set d g h k part.grows c.in_ok-left.ensures.grows pooled part.order (part.valid d pooled.of)
-          (tracked_of d numbers) c.args.c outside left c.requires.set is upper));
+          (∥∥₁_elim c.requires.pool (set_prop k left)
+          (λ x.
+          left_set x.0 g h k part.grows c.in_ok-left.ensures.grows x.1 part.order (part.valid x.0 x.1.of)
+          (tracked_of x.0 numbers) c.args.c outside left c.requires.set is
+          (subst (λ (ks : List ℕ). IsStates x.0 h.order k.diagrams.table
+          (IsInUpper x.0 (tracked_of x.0 ks) (test_of x.0 h outside)) left) c.deref.ensures.value
+          (c.in_ok-left.ensures.part x.0 (pooled_kept x.0 g h part.grows x.1))))));
     }
 
 pub returns-in_err-left-clause-grows : goal.returns-in_err-left-clause-grows

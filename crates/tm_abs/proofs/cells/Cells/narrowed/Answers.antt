@@ -1,5 +1,6 @@
 use Rattle.std.proofs.Common.{ℕ, ◌<◌, ◌≤◌, List, [], ◌∷◌, ◌++◌, length, take, sym, ◌∙◌, ap, subst}
 use Rattle.std.specs.Prelude.{slice_index_or}
+use Rattle.std.proofs.Math.Logic.{∥∥₁_elim}
 use Rattle.std.proofs.lemmas.List.{take_all, take_more}
 use Rattle.tm_abs.proofs.Tracking.{predicates_at-append}
 use Rattle.tm_abs.proofs.ValidParts.{in_pool_kept}
@@ -17,7 +18,6 @@ loop-number-init c = record {
 
 pub narrow-requires : goal.narrow-requires
 narrow-requires c =
-    let it = c.requires.narrowed in
     let g = c.args.game.now in
     let before = c.loop-number.invariant in
     let numbers = c.args.self.now.tracked.items in
@@ -26,15 +26,16 @@ narrow-requires c =
     record {
       number = in_pool_kept g c.loop-number.game before.grows items numbers c.deref-number-items.ensures.value
           c.requires.tracked index 0 c.loop-number-test.true;
-      narrowed = (
-        it.0,
-        it.1,
-        it.2,
-        tracked_of it.0 (take index numbers),
-        it.3,
-        grows_then it.1 g c.loop-number.game it.4 before.grows,
-        before.narrowed it.0 it.1 it.2 it.3 it.4 it.5,
-      );
+      narrowed = ∥∥₁_elim c.requires.narrowed (squash₁)
+          (λ it. ∣ (
+            it.0,
+            it.1,
+            it.2,
+            tracked_of it.0 (take index numbers),
+            it.3,
+            grows_then it.1 g c.loop-number.game it.4 before.grows,
+            before.narrowed it.0 it.1 it.2 it.3 it.4 it.5,
+          ) ∣₁);
     }
 
 pub returns-in_err-found-clause-grows : goal.returns-in_err-found-clause-grows

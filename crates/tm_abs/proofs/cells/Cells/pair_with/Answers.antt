@@ -1,7 +1,9 @@
 use Rattle.std.proofs.Common.{[], sym, subst}
+use Rattle.std.proofs.Math.Logic.{∥∥₁_elim}
+use Rattle.std.proofs.Props.{props}
 use Rattle.tm_abs.proofs.Cutting.{inside_set, is_cut, some_inside}
 use Rattle.tm_abs.proofs.Narrows.{order_before}
-use Rattle.tm_abs.proofs.ValidParts.{pooled_kept}
+use Rattle.tm_abs.proofs.ValidParts.{pooled_kept, set_prop}
 use Rattle.tm_abs.specs.Inner.Narrowed.{IsNarrowed}
 use Rattle.tm_abs.specs.Tracked.{tracked_of}
 use Rattle.tm_dd.specs.declared.node.NodeId.{NodeId}
@@ -15,18 +17,18 @@ pub narrowed-requires : goal.narrowed-requires
 narrowed-requires c =
     let l = c.args.game.now in
     let cut = c.args.cut in
-    let it = c.requires.cut in
     record {
       tracked = c.requires.tracked;
-      narrowed = (
-        it.0,
-        l,
-        cut,
-        pooled_kept it.0 it.1 l it.3 it.2,
-        grows_none l,
-        subst (λ (id : NodeId). IsNarrowed it.0 l l.diagrams.table cut [] c.args.state id cut)
-            (sym c.valid.ensures.value) it.6,
-      );
+      narrowed = ∥∥₁_elim c.requires.cut (squash₁)
+          (λ it. ∣ (
+            it.0,
+            l,
+            cut,
+            pooled_kept it.0 it.1 l it.3 it.2,
+            grows_none l,
+            subst (λ (id : NodeId). IsNarrowed it.0 l l.diagrams.table cut [] c.args.state id cut)
+                (sym c.valid.ensures.value) it.6,
+          ) ∣₁);
     }
 
 pub and-requires : goal.and-requires
@@ -34,14 +36,16 @@ and-requires c =
     let l = c.args.game.now in
     let m = c.narrowed.new.game in
     let cut = c.args.cut in
-    let it = c.requires.cut in
-    let start = subst (λ (id : NodeId). IsNarrowed it.0 l l.diagrams.table cut [] c.args.state id cut)
-    (sym c.valid.ensures.value) it.6 in
-    let found =
-    c.in_ok-found.ensures.narrowed it.0 l cut (pooled_kept it.0 it.1 l it.3 it.2) (grows_none l) start in
     record {
-      f = found.cell_is.known;
-      g = known_kept it.1 m (grows_then it.1 l m it.3 c.narrowed.ensures.grows) c.args.c it.4.known;
+      f = ∥∥₁_elim c.requires.cut (hlevel props)
+          (λ it.
+          let start = subst (λ (id : NodeId). IsNarrowed it.0 l l.diagrams.table cut [] c.args.state id cut)
+          (sym c.valid.ensures.value) it.6 in
+          let found =
+          c.in_ok-found.ensures.narrowed it.0 l cut (pooled_kept it.0 it.1 l it.3 it.2) (grows_none l) start in
+          found.cell_is.known);
+      g = ∥∥₁_elim c.requires.cut (hlevel props)
+          (λ it. known_kept it.1 m (grows_then it.1 l m it.3 c.narrowed.ensures.grows) c.args.c it.4.known);
     }
 
 pub least-requires : goal.least-requires
@@ -51,14 +55,15 @@ least-requires c =
     let n = c.and.new.self in
     let cut = c.args.cut in
     let found = c.in_ok-found.found in
-    let it = c.requires.cut in
+    ∥∥₁_elim c.requires.cut (set_prop n c.in_ok-inside.inside)
+    (λ it.
     let start = subst (λ (id : NodeId). IsNarrowed it.0 l l.diagrams.table cut [] c.args.state id cut)
     (sym c.valid.ensures.value) it.6 in
     inside_set it.0 it.1 l m n it.3 c.narrowed.ensures.grows c.and.ensures.grows it.2.of
     (order_before it.1 l it.3 c.order-order.ensures.places) (tracked_of it.0 c.args.self.now.tracked.items) c.args.c
     cut it.4 it.5 found.state found.cell found.sought c.in_ok-inside.inside
     (c.in_ok-found.ensures.narrowed it.0 l cut (pooled_kept it.0 it.1 l it.3 it.2) (grows_none l) start)
-    c.in_ok-inside.ensures.answer
+    c.in_ok-inside.ensures.answer)
 
 pub unreachable-requires : goal.unreachable-requires
 unreachable-requires c =
@@ -67,19 +72,20 @@ unreachable-requires c =
     let n = c.and.new.self in
     let cut = c.args.cut in
     let found = c.in_ok-found.found in
-    let it = c.requires.cut in
+    let inside = c.in_ok-inside.inside in
+    ∥∥₁_elim c.requires.cut (hlevel props)
+    (λ it.
     let gl = it.3 in
     let whole = grows_then it.1 m n (grows_then it.1 l m gl c.narrowed.ensures.grows) c.and.ensures.grows in
     let start = subst (λ (id : NodeId). IsNarrowed it.0 l l.diagrams.table cut [] c.args.state id cut)
     (sym c.valid.ensures.value) it.6 in
-    let inside = c.in_ok-inside.inside in
     some_inside it.0 it.1 l m n gl c.narrowed.ensures.grows c.and.ensures.grows it.2.of
     (order_before it.1 l gl c.order-order.ensures.places) (tracked_of it.0 c.args.self.now.tracked.items) c.args.c
     cut it.4 it.5 found.state found.cell found.sought inside
     (c.in_ok-found.ensures.narrowed it.0 l cut (pooled_kept it.0 it.1 l gl it.2) (grows_none l) start)
     c.in_ok-inside.ensures.answer
     (found_none (HoldsNowhere it.0 (test_of it.0 n inside)) (IsLeast it.0 (test_of it.0 n inside)) _ c.in-None.is
-    (c.in_ok-first.ensures.least it.0 (of_kept it.1 n whole it.0 it.2.of)))
+    (c.in_ok-first.ensures.least it.0 (of_kept it.1 n whole it.0 it.2.of))))
 
 pub returns-in_err-inside-clause-grows : goal.returns-in_err-inside-clause-grows
 returns-in_err-inside-clause-grows c =

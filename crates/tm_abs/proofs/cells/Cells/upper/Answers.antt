@@ -1,6 +1,8 @@
 use Rattle.std.proofs.Common.{List, ℕ, IfOk, subst}
+use Rattle.std.proofs.Math.Logic.{∥∥₁_elim}
+use Rattle.std.proofs.Props.{props}
 use Rattle.std.proofs.lemmas.Result.{IfOk-weaker}
-use Rattle.tm_abs.proofs.ValidParts.{in_pool_kept, pooled_kept, upper_valid, valid_only, valid_set}
+use Rattle.tm_abs.proofs.ValidParts.{in_pool_kept, pooled_kept, set_prop, some_kept, upper_valid, valid_only, valid_set}
 use Rattle.tm_abs.specs.Tracked.{IsPooled, tracked_of}
 use Rattle.tm_dd.specs.declared.node.NodeId.{NodeId}
 use Rattle.tm_flat_pool.specs.Cells.{IsInUpper}
@@ -16,15 +18,19 @@ upper_part-requires c =
     let h = c.valid_part.new.game in
     let part = c.in_ok-inside.ensures in
     let inside = c.in_ok-inside.inside in
-    let d = c.requires.pool.0 in
-    let pooled = c.requires.pool.1 in
-    let valid = part.valid d pooled.of in
     record {
       tracked = in_pool_kept g h part.grows c.deref.result.now c.args.self.now.tracked.items c.deref.ensures.value
           c.requires.tracked;
-      pool = (d, pooled_kept d g h part.grows pooled);
-      set = valid_set d g h part.grows pooled.of part.order valid c.args.c inside c.requires.set part.part;
-      valid = valid_only d g h part.grows pooled.of part.order valid c.args.c inside c.requires.set part.part;
+      pool = some_kept g h part.grows c.requires.pool;
+      set = ∥∥₁_elim c.requires.pool (set_prop h inside)
+          (λ x.
+          valid_set x.0 g h part.grows x.1.of part.order (part.valid x.0 x.1.of) c.args.c inside c.requires.set
+          part.part);
+      valid = λ v here.
+          ∥∥₁_elim c.requires.pool (hlevel props)
+          (λ x.
+          valid_only x.0 g h part.grows x.1.of part.order (part.valid x.0 x.1.of) c.args.c inside c.requires.set
+          part.part v here);
     }
 
 pub returns-clause-grows : goal.returns-clause-grows

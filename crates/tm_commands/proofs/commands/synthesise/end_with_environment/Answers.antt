@@ -2,6 +2,7 @@ use Rattle.std.proofs.Common.{Some, ap, ◌∙◌}
 use Rattle.tm_report.specs.Output.{sink_data}
 use Rattle.tm_report.specs.Report.{environment_found_text}
 use Rattle.tm_report.specs.declared.ending.Ending.TheVariants.{Environment}
+use Rattle.tm_syntax.specs.Design.View.{design_tree}
 use Rattle.tm_commands.specs.Inner.Synthesising.{finds_none}
 use Rattle.tm_commands.specs.Synthesise.{driver_name}
 use Rattle.tm_commands.specs.World.{files_data}
@@ -11,17 +12,18 @@ use Rattle.tm_commands.proofs.commands.synthesise.end_with_environment.Goals as 
 
 pub returns-in-Err : goal.returns-in-Err
 returns-in-Err g c =
-    λ d found. loss_unwritten_synthesises d c.args.name.now (files_data g.F.Files c.args.files.now)
-    (files_data g.F.Files c.write_with.new.files) (sink_data g.O.Sink c.args.out.now) c.in-Err.unwritten found.lost
+    λ budget. loss_unwritten_synthesises (design_tree c.args.design.now) budget c.args.name.now (files_data g.F.Files c.args.files.now)
+    (files_data g.F.Files c.write_with.new.files) (sink_data g.O.Sink c.args.out.now) c.in-Err.unwritten c.requires.lost
     c.write_with.ensures.files c.in-Err.ensures.failure
 
 pub returns-in-Ok-put_environment : goal.returns-in-Ok-put_environment
 returns-in-Ok-put_environment g c =
-    λ d found. put_synthesises d c.args.name.now (files_data g.F.Files c.args.files.now)
+    λ budget. put_synthesises (design_tree c.args.design.now) budget c.args.name.now (files_data g.F.Files c.args.files.now)
     (files_data g.F.Files c.write_with.new.files)
-    (environment_found_text c.args.made.now.levels c.args.made.now.conditions c.args.made.now.chain)
-    (Environment c.args.made.now.levels c.args.made.now.conditions c.args.made.now.chain)
-    (finds_none c.args.made.now.levels c.args.made.now.conditions c.args.made.now.chain found
+    (environment_found_text (design_tree c.args.design.now) c.args.made.levels c.args.made.conditions
+    c.args.made.chain c.args.made.trace)
+    (Environment c.args.made.levels c.args.made.conditions c.args.made.chain c.args.made.trace)
+    (finds_none c.args.made.levels c.args.made.conditions c.args.made.chain c.args.made.trace c.requires
     (λ tells. c.in-Ok.ensures.written tells ∙ ap Some c.deref.ensures.value)
     (c.write_with.ensures.files.same_others (driver_name c.args.name.now) (names_differ c.args.name.now)))
     (touches_cert c.args.name.now (files_data g.F.Files c.args.files.now) (files_data g.F.Files c.write_with.new.files)
@@ -31,11 +33,12 @@ returns-in-Ok-put_environment g c =
 
 pub returns-in-Err-put_environment : goal.returns-in-Err-put_environment
 returns-in-Err-put_environment g c =
-    λ d found. cut_synthesises d c.args.name.now (files_data g.F.Files c.args.files.now)
+    λ budget. cut_synthesises (design_tree c.args.design.now) budget c.args.name.now (files_data g.F.Files c.args.files.now)
     (files_data g.F.Files c.write_with.new.files)
-    (environment_found_text c.args.made.now.levels c.args.made.now.conditions c.args.made.now.chain)
-    (Environment c.args.made.now.levels c.args.made.now.conditions c.args.made.now.chain)
-    (finds_none c.args.made.now.levels c.args.made.now.conditions c.args.made.now.chain found
+    (environment_found_text (design_tree c.args.design.now) c.args.made.levels c.args.made.conditions
+    c.args.made.chain c.args.made.trace)
+    (Environment c.args.made.levels c.args.made.conditions c.args.made.chain c.args.made.trace)
+    (finds_none c.args.made.levels c.args.made.conditions c.args.made.chain c.args.made.trace c.requires
     (λ tells. c.in-Ok.ensures.written tells ∙ ap Some c.deref.ensures.value)
     (c.write_with.ensures.files.same_others (driver_name c.args.name.now) (names_differ c.args.name.now)))
     (touches_cert c.args.name.now (files_data g.F.Files c.args.files.now) (files_data g.F.Files c.write_with.new.files)

@@ -9,7 +9,7 @@ use Rattle.tm_commands.proofs.commands.synthesise.synthesise.Goals as goal
 
 pub returns-in-Err-clause-obeys : goal.returns-in-Err-clause-obeys
 returns-in-Err-clause-obeys g c =
-    stopped_synthesising c.args.spec.now c.args.name.now (files_data g.F.Files c.args.files.now)
+    stopped_synthesising c.args.spec.now c.args.name.now c.args.budget (files_data g.F.Files c.args.files.now)
     (files_data g.F.Files c.load_specification.new.files) (sink_data g.O.Sink c.args.out.now) c.in-Err.stop
     c.outcome.result c.outcome.ensures c.load_specification.ensures.files
     (stops_later g.F.Files c.args.files.now c.args.files.now c.load_specification.new.files
@@ -25,13 +25,13 @@ end_with-requires g c = record { sound = c.in-Ok.ensures.read.is.sound; found = 
 
 pub returns-in-Ok-synthesise-clause-obeys : goal.returns-in-Ok-synthesise-clause-obeys
 returns-in-Ok-synthesise-clause-obeys g c =
-    synthesised_obeys c.args.spec.now c.args.name.now g.F.Files c.args.files.now c.load_specification.new.files
+    synthesised_obeys c.args.spec.now c.args.name.now c.args.budget g.F.Files c.args.files.now c.load_specification.new.files
     c.end_with.new.files g.O.Sink c.args.out.now c.end_with.new.out (design_tree c.in-Ok.design)
     c.load_specification.ensures.files c.in-Ok.ensures.read c.end_with.result c.end_with.ensures
 
 pub returns-clause-obeys : goal.returns-clause-obeys
 returns-clause-obeys g c =
-    wanting_synthesising c.args.spec.now c.args.name.now (files_data g.F.Files c.args.files.now)
+    wanting_synthesising c.args.spec.now c.args.name.now c.args.budget (files_data g.F.Files c.args.files.now)
     (files_data g.F.Files c.load_specification.new.files) (sink_data g.O.Sink c.args.out.now)
     c.load_specification.ensures.files
 

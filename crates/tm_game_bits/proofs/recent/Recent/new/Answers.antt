@@ -6,4 +6,4 @@ use Rattle.tm_game_bits.proofs.recent.Recent.new.Goals as goal
 
 pub returns : goal.returns
 returns c = λ s g.
-    All-replicate (IsAnswer s g) 4 (record { set = FALSE; stays = FALSE }) (empty_is s g)
+    All-replicate (IsAnswer s g) 256 (record { set = FALSE; stays = FALSE }) (empty_is s g)
