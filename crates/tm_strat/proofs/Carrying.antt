@@ -1,6 +1,6 @@
 -- What is left of a game where it has grown, and of the sets in which moves are to end.
 use Rattle.std.proofs.Common.{◌≡◌, ◌⊎◌, inl, inr, ℕ, zero, suc, ◌+◌, ◌<◌, get_or, sym, ◌∙◌, List, [], ◌∷◌, ◌++◌, Option}
-use Rattle.std.proofs.Common.{None, Some, map, length, slice_get, take, refl, ap, subst, arith}
+use Rattle.std.proofs.Common.{None, Some, map, length, slice_get, take, ap, subst}
 use Rattle.tm_check.proofs.Pushed.{pushed_at}
 use Rattle.std.proofs.lemmas.Option.{slice_get-get_or}
 use Rattle.std.proofs.lemmas.List.Elements.{All-contains, All-get_or, All-map, All-more}

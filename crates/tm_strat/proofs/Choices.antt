@@ -1,5 +1,5 @@
 -- What is left of what blocks are chosen from where the game has grown.
-use Rattle.std.proofs.Common.{◌≡◌, ℕ, ◌+◌, true, false, List, Option, length, refl, sym, ap, ◌∙◌, subst}
+use Rattle.std.proofs.Common.{◌≡◌, ℕ, ◌+◌, true, false, List, Option, length, sym, ap, ◌∙◌, subst}
 use Rattle.std.proofs.Math.Logic.{∥∥₁_elim}
 use Rattle.std.proofs.Props.{props}
 use Rattle.std.proofs.lemmas.Bool.{true≢false}
@@ -15,7 +15,6 @@ use Rattle.tm_game_bits.proofs.Extended.{Knows-Extends, means-Extends}
 use Rattle.tm_game_bits.specs.Functions.{Assignment}
 use Rattle.tm_game_bits.specs.States.{AreOneState, ReadsState}
 use Rattle.tm_solve.specs.Ids.{Extends}
-use Rattle.tm_solve.specs.Sets.{StateSet}
 use Rattle.tm_solve_exact.specs.Coding.{coding_in}
 use Rattle.tm_solve_exact.specs.Exact.{HasDesign, IsStateSet, exact_game, exact_ids, exact_side, set_of, valid_set}
 use Rattle.tm_solve_exact.proofs.Growing.{game_kept, kept_exact, kept_set, same_told, same_valid}
@@ -25,7 +24,7 @@ use Rattle.tm_strat.specs.Choice.{AreGoalMoves, IsChoice, IsPairs, PairAt, candi
 use Rattle.tm_strat.specs.Choice.{good_in, id_in, pairs_of, setting_of}
 use Rattle.tm_strat.specs.declared.choosing.GoalMoves.{GoalMoves}
 use Rattle.tm_strat_drafts.specs.Growth.{Carried, Follows}
-use Rattle.tm_strat_drafts.specs.Moves.{Game, IsTold}
+use Rattle.tm_strat_drafts.specs.Moves.{IsTold}
 use Rattle.tm_strat_drafts.specs.declared.drafts.MoveChoice.{MoveChoice}
 use Rattle.tm_strat_drafts.specs.declared.drafts.MoveChoice.TheVariants.{Candidate, Constant}
 

@@ -1,6 +1,6 @@
 -- Moves with constant arguments: the least pair of a set tells one that is good at a state of it.
-use Rattle.std.proofs.Common.{◌≡◌, ◌⊎◌, inl, inr, ℕ, zero, suc, ◌+◌, ◌-◌, ◌<◌, ◌≤◌, Bool, true, false, ◌&&◌, List, []}
-use Rattle.std.proofs.Common.{◌∷◌, Option, None, Some, length, nat_eq, nat_lt, get_or, slice_get, refl, sym, ap, ◌∙◌}
+use Rattle.std.proofs.Common.{◌≡◌, inl, inr, ℕ, zero, suc, ◌+◌, ◌-◌, ◌<◌, Bool, true, false, ◌&&◌, List}
+use Rattle.std.proofs.Common.{Option, None, Some, length, nat_eq, nat_lt, get_or, slice_get, refl, sym, ap, ◌∙◌}
 use Rattle.std.proofs.Common.{subst, arith}
 use Rattle.std.proofs.Math.Logic.{∥∥₁_elim}
 use Rattle.std.proofs.Props.{props}
@@ -11,26 +11,26 @@ use Rattle.std.specs.Prelude.{if◌then◌else◌}
 use Rattle.tm_base.specs.Bits.{bits_of}
 use Rattle.tm_dd.specs.declared.node.NodeId.{NodeId}
 use Rattle.tm_dd.specs.declared.node.TheConstants.{FALSE}
-use Rattle.tm_dd.specs.Table.{Knows, assignment, means}
+use Rattle.tm_dd.specs.Table.{assignment, means}
 use Rattle.tm_dd.proofs.CallerLaws.{means-FALSE}
 use Rattle.tm_ddops.specs.Manager.{IsFunction}
 use Rattle.tm_flat.specs.Inputs.{room}
-use Rattle.tm_game.specs.Game.{GameData, Grows}
+use Rattle.tm_game.specs.Game.{GameData}
 use Rattle.tm_game_bits.proofs.Extended.{means-Extends}
 use Rattle.tm_game_bits.specs.Functions.{Assignment}
 use Rattle.tm_game_bits.specs.States.{AreOneState}
 use Rattle.tm_sem.specs.State.{StateData}
 use Rattle.tm_solve.specs.Sets.{IsAmong, StateSet}
 use Rattle.tm_solve_exact.specs.Exact.{HasDesign, IsExactOf, IsStateSet, coding, exact_game, exact_ids, first_values}
-use Rattle.tm_solve_exact.specs.Exact.{set_of, states_of, valid_set}
+use Rattle.tm_solve_exact.specs.Exact.{set_of, valid_set}
 use Rattle.tm_solve_exact.specs.Listed.{and_both, and_parts, listed}
 use Rattle.tm_solve_exact.proofs.Growing.{coding_told}
 use Rattle.tm_syntax.specs.Design.{DesignTree}
 use Rattle.tm_strat.proofs.Carrying.{grown}
 use Rattle.tm_strat.proofs.Choices.{constant_kept, game_same, means_kept}
-use Rattle.tm_strat.specs.Choice.{AreGoalMoves, IsChoice, IsPairs, PairAt, care_in, choice, constant_set, id_in}
+use Rattle.tm_strat.specs.Choice.{IsChoice, IsPairs, PairAt, choice, constant_set, id_in}
 use Rattle.tm_strat.specs.Choice.{pairs_of, with_bits}
-use Rattle.tm_strat.specs.Constants.{AreApart, AreBitsFrom, BitsOrNone, ConstantOrNone, HasBits, IsConstant, NoneBelow}
+use Rattle.tm_strat.specs.Constants.{AreApart, AreBitsFrom, ConstantOrNone, HasBits, IsConstant, NoneBelow}
 use Rattle.tm_strat.specs.Constants.{met_by}
 use Rattle.tm_strat.specs.declared.choosing.GoalMoves.{GoalMoves}
 use Rattle.tm_strat_drafts.specs.Growth.{Carried}

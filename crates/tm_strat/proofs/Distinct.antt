@@ -1,6 +1,6 @@
 -- Valid states that no bit tells apart are one.
 use Rattle.std.proofs.Common.{◌≡◌, inl, inr, ℕ, zero, suc, ◌+◌, ◌-◌, ◌/◌, ◌%◌, ◌^◌, ◌<◌, ◌≤◌, ◌==◌, Bool, true, false}
-use Rattle.std.proofs.Common.{not, ◌||◌, List, [], ◌∷◌, ◌++◌, Some, length, get_or, map, nat_lt, refl, sym, ap, ◌∙◌}
+use Rattle.std.proofs.Common.{not, ◌||◌, List, [], ◌∷◌, ◌++◌, Some, length, get_or, nat_lt, refl, sym, ap, ◌∙◌}
 use Rattle.std.proofs.Common.{subst, arith}
 use Rattle.std.proofs.Math.Nat.{div-one}
 use Rattle.std.proofs.lemmas.Bool.{cases_lt}
@@ -18,7 +18,7 @@ use Rattle.tm_base.specs.Bits.{bits_of}
 use Rattle.tm_base.specs.declared.shift_operator.ShiftOperator.TheVariants.{Right}
 use Rattle.tm_dd.specs.declared.node.NodeId.{NodeId}
 use Rattle.tm_game.specs.Game.{GameData}
-use Rattle.tm_game_bits.specs.AssignedStates.{assignment_of, coding_of, state_of}
+use Rattle.tm_game_bits.specs.AssignedStates.{coding_of, state_of}
 use Rattle.tm_game_bits.specs.Coding.{IsCoding}
 use Rattle.tm_game_bits.proofs.Coded.{is_coding}
 use Rattle.tm_sem.specs.State.{StateData}
@@ -34,7 +34,6 @@ use Rattle.tm_strat.specs.Fitting.{FitsCounts}
 use Rattle.tm_strat.specs.Tested.{AreTestSets, HasAllBits}
 use Rattle.tm_strat.specs.Trees.{lowered_tree, number_in, number_tree, predicate_tree}
 use Rattle.tm_strat.specs.declared.numbers.Counts.{Counts}
-use Rattle.tm_strat.specs.declared.numbers.Number.{Number}
 use Rattle.tm_strat.specs.declared.numbers.Number.TheVariants as numbers
 use Rattle.tm_strat.specs.declared.predicates.Predicate.{Predicate}
 use Rattle.tm_strat.specs.declared.predicates.Predicate.TheVariants.{Bit}

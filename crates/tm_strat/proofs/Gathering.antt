@@ -1,6 +1,6 @@
 -- The pairs of all shapes, and the states at which some move is good.
 use Rattle.std.proofs.Common.{◌≡◌, ◌⊎◌, inl, inr, ℕ, ◌+◌, ◌-◌, ◌<◌, ◌≤◌, Bool, true, false, ◌||◌, List, [], ◌∷◌, ◌++◌}
-use Rattle.std.proofs.Common.{Option, None, Some, length, nat_lt, refl, sym, ap, ◌∙◌, subst, arith}
+use Rattle.std.proofs.Common.{Option, Some, length, nat_lt, refl, sym, ap, ◌∙◌, subst, arith}
 use Rattle.std.proofs.lemmas.Bool.{cases_lt, true≢false}
 use Rattle.std.proofs.lemmas.Bool.Decides.{nat_tests}
 use Rattle.std.proofs.lemmas.List.{get_or_append_left, get_or_at, get_or_past, length_push}
@@ -14,12 +14,9 @@ use Rattle.tm_dd.proofs.CallerLaws.{means-FALSE}
 use Rattle.tm_ddops.specs.Manager.{IsFunction}
 use Rattle.tm_ddops.specs.Quantified.{AgreeElsewhere, IsExists}
 use Rattle.tm_flat.specs.Inputs.{room}
-use Rattle.tm_game.specs.Game.{GameData, Grows, IsSet, in_set}
-use Rattle.tm_game.specs.Moves.{HasTask, move_at}
+use Rattle.tm_game.specs.Game.{GameData, Grows, IsSet}
 use Rattle.tm_game.specs.declared.moves.MoveShape.{MoveShape}
 use Rattle.tm_game.proofs.MadeSets.{false_set}
-use Rattle.tm_game_bits.specs.AssignedStates.{state_of}
-use Rattle.tm_game_bits.specs.Diagrams.{IsSetOf}
 use Rattle.tm_game_bits.specs.Functions.{Assignment}
 use Rattle.tm_game_bits.specs.States.{AreOneState, ReadsState}
 use Rattle.tm_game_bits.proofs.Bits.{range_within}
@@ -27,7 +24,7 @@ use Rattle.tm_game_bits.proofs.Extended.{IsSetOf-Extends, Knows-Extends, means-E
 use Rattle.tm_game_bits.proofs.Sets.{some_true, true_first, true_second}
 use Rattle.tm_strat.specs.Choice.{HasPair, id_in}
 use Rattle.tm_strat.specs.Targets.{AreSets}
-use Rattle.tm_strat.specs.Zoned.{AreArgumentLevels, AreShapePairs, AreZonePairs, IsCareOf, IsMoveFrom, IsZonePair}
+use Rattle.tm_strat.specs.Zoned.{AreArgumentLevels, AreShapePairs, AreZonePairs, IsCareOf, IsZonePair}
 use Rattle.tm_syntax.specs.Design.{DesignTree}
 
 -- ---- lists

@@ -1,8 +1,8 @@
 -- The arguments of candidates, as replies give them.
 use Rattle.std.proofs.Common.{◌≡◌, ◌⊎◌, inl, inr, ℕ, ◌+◌, ◌<◌, ◌≤◌, List, [], ◌∷◌, ◌++◌, Vec, Some, length, get_or, map}
-use Rattle.std.proofs.Common.{slice_get, take, refl, sym, ap, ◌∙◌, subst, arith}
+use Rattle.std.proofs.Common.{slice_get, take, sym, ap, ◌∙◌, subst, arith}
 use Rattle.std.proofs.lemmas.List.{get_or-map, length-map, length_push, map-append, take_all, take_more}
-use Rattle.std.proofs.lemmas.Option.{get_or_from_slice_get, slice_get-get_or, slice_get_within}
+use Rattle.std.proofs.lemmas.Option.{get_or_from_slice_get, slice_get_within}
 use Rattle.std.specs.Prelude.{All}
 use Rattle.std.specs.declared.alloc.Global.{Global}
 use Rattle.tm_check.proofs.Pushed.{pushed_at, stays_at}
@@ -23,8 +23,7 @@ use Rattle.tm_game.specs.Moves.{HasTask}
 use Rattle.tm_game.specs.declared.moves.MoveShape.{MoveShape}
 use Rattle.tm_game.specs.declared.moves.MoveShape.TheVariants.{Idle}
 use Rattle.tm_game_bits.specs.AssignedStates.{state_of}
-use Rattle.tm_strat.proofs.Carrying.{some_same}
-use Rattle.tm_strat.specs.Served.{AreGivenFor, IsGivenFor, IsGivenMove, candidate_trees}
+use Rattle.tm_strat.specs.Served.{AreGivenFor, IsGivenFor, candidate_trees}
 use Rattle.tm_strat.specs.Trees.{candidate_tree, shape_in}
 use Rattle.tm_strat.specs.declared.candidates.Candidate.{Candidate}
 use Rattle.tm_strat.specs.declared.numbers.Counts.{Counts}

@@ -1,15 +1,14 @@
 -- What is left of a goal's good moves where the game has grown, and what they are over it.
-use Rattle.std.proofs.Common.{◌≡◌, inl, inr, ℕ, ◌+◌, ◌<◌, ◌≤◌, true, List, length, refl, sym, ap, ◌∙◌, subst, arith}
+use Rattle.std.proofs.Common.{◌≡◌, inl, inr, ℕ, ◌<◌, true, List, length, sym, ap, ◌∙◌, subst, arith}
 use Rattle.std.proofs.lemmas.Bool.{cases_lt, true≢false}
 use Rattle.std.proofs.lemmas.List.{get_or_past}
 use Rattle.std.proofs.lemmas.Option.{slice_get-get_or}
-use Rattle.std.specs.Prelude.{slice_get, slice_index_or}
+use Rattle.std.specs.Prelude.{slice_index_or}
 use Rattle.tm_dd.specs.declared.node.NodeId.{NodeId}
 use Rattle.tm_dd.specs.declared.node.TheConstants.{FALSE}
-use Rattle.tm_dd.specs.Table.{Knows, Table, means}
+use Rattle.tm_dd.specs.Table.{Table, means}
 use Rattle.tm_dd.proofs.CallerLaws.{means-FALSE}
-use Rattle.tm_flat.specs.Inputs.{room}
-use Rattle.tm_game.specs.Game.{GameData, Grows, IsSet, in_set}
+use Rattle.tm_game.specs.Game.{GameData, Grows, in_set}
 use Rattle.tm_game.specs.Moves.{HasTask, move_at}
 use Rattle.tm_game.specs.declared.moves.MoveShape.{MoveShape}
 use Rattle.tm_game.specs.declared.moves.MoveShape.TheVariants.{Idle}

@@ -1,17 +1,14 @@
 -- Good moves of goals, with those of candidates, where the game grows.
-use Rattle.std.proofs.Common.{◌≡◌, ◌⊎◌, inl, inr, ℕ, ◌+◌, ◌<◌, ◌≤◌, true, List, [], ◌∷◌, ◌++◌, Option, None, Some}
-use Rattle.std.proofs.Common.{length, get_or, slice_get, refl, sym, ap, ◌∙◌, subst, arith}
+use Rattle.std.proofs.Common.{◌≡◌, ◌⊎◌, inl, inr, ℕ, ◌+◌, ◌<◌, ◌≤◌, List, [], ◌∷◌, ◌++◌, Some}
+use Rattle.std.proofs.Common.{length, get_or, slice_get, sym, ap, ◌∙◌, subst, arith}
 use Rattle.std.proofs.lemmas.Bool.{cases_lt}
-use Rattle.std.proofs.lemmas.List.{length_push}
 use Rattle.std.proofs.lemmas.Option.{slice_get-get_or, slice_get_within}
-use Rattle.std.specs.Prelude.{All}
 use Rattle.tm_check.proofs.KeepingReplies.{move_kept}
 use Rattle.tm_check.proofs.Pushed.{pushed_at}
 use Rattle.tm_check.specs.Replies.{move_of, shape_of}
 use Rattle.tm_cir.specs.Tree.{BlockTree}
 use Rattle.tm_dd.specs.declared.node.NodeId.{NodeId}
-use Rattle.tm_dd.specs.Table.{Knows}
-use Rattle.tm_game.specs.Game.{GameData, Grows, in_set}
+use Rattle.tm_game.specs.Game.{GameData, Grows}
 use Rattle.tm_game.specs.Moves.{HasTask}
 use Rattle.tm_game.specs.declared.moves.MoveShape.{MoveShape}
 use Rattle.tm_game_bits.proofs.Extended.{Knows-Extends}
@@ -33,7 +30,7 @@ use Rattle.tm_strat.specs.Served.{AreGivenFor, AreMadeFor, AreServed, IsGivenFor
 use Rattle.tm_strat.specs.Served.{ServesFrom, ServesOne, candidate_trees}
 use Rattle.tm_strat.specs.Targets.{AreSets}
 use Rattle.tm_strat.specs.Trees.{shape_in}
-use Rattle.tm_strat.specs.Zoned.{AreShapePairs, AreZonePairs}
+use Rattle.tm_strat.specs.Zoned.{AreShapePairs}
 use Rattle.tm_strat.specs.declared.candidates.Candidate.{Candidate}
 use Rattle.tm_strat.specs.declared.choosing.GoalMoves.{GoalMoves}
 use Rattle.tm_strat.specs.declared.good.GoodMoves.{GoodMoves}

@@ -18,7 +18,7 @@ use Rattle.tm_dd.proofs.CallerLaws.{means-FALSE, means-TRUE}
 use Rattle.tm_ddops.specs.Manager.{IsFunction}
 use Rattle.tm_ddops.specs.Operation.{substituted}
 use Rattle.tm_flat.specs.Inputs.{room}
-use Rattle.tm_game.specs.Game.{GameData, Grows}
+use Rattle.tm_game.specs.Game.{GameData}
 use Rattle.tm_game_bits.proofs.Extended.{means-Extends}
 use Rattle.tm_game_bits.specs.Functions.{Assignment}
 use Rattle.tm_game_bits.specs.States.{AreOneState, ReadsState}

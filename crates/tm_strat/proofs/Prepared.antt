@@ -1,7 +1,6 @@
 -- What was prepared is something to choose blocks from.
-use Rattle.std.proofs.Common.{◌≡◌, inl, inr, ℕ, zero, suc, ◌+◌, ◌<◌, ◌≤◌, true, List, [], ◌∷◌, Option, None, Some}
-use Rattle.std.proofs.Common.{length, get_or, slice_get, refl, sym, ap, ◌∙◌, subst, arith}
-use Rattle.std.proofs.Math.Logic.{∥∥₁_elim}
+use Rattle.std.proofs.Common.{◌≡◌, inl, inr, ℕ, zero, suc, ◌<◌, ◌≤◌, true, List, [], ◌∷◌, None, Some}
+use Rattle.std.proofs.Common.{length, slice_get, refl, sym, ◌∙◌, subst, arith}
 use Rattle.std.proofs.lemmas.Bool.{cases_lt, true≢false}
 use Rattle.std.proofs.lemmas.List.{get_or_past}
 use Rattle.std.specs.Prelude.{All}
@@ -9,9 +8,8 @@ use Rattle.tm_cir.specs.Meaning.{holds}
 use Rattle.tm_cir.specs.Tree.{BlockTree}
 use Rattle.tm_dd.specs.declared.node.NodeId.{NodeId}
 use Rattle.tm_dd.specs.declared.node.TheConstants.{FALSE}
-use Rattle.tm_dd.specs.Table.{means}
 use Rattle.tm_dd.proofs.CallerLaws.{means-FALSE}
-use Rattle.tm_game.specs.Game.{GameData, Grows}
+use Rattle.tm_game.specs.Game.{GameData}
 use Rattle.tm_game.specs.declared.moves.MoveShape.{MoveShape}
 use Rattle.tm_sem.specs.State.{StateData}
 use Rattle.tm_sem.specs.StateBits.{state_widths}

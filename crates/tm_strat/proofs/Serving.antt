@@ -1,9 +1,9 @@
 -- The states that a candidate serves, from the pairs of its shape and from its arguments.
-use Rattle.std.proofs.Common.{◌≡◌, ◌⊎◌, inl, inr, ℕ, ◌+◌, ◌<◌, ◌≤◌, Bool, true, false, ◌&&◌, List, length, map, refl}
-use Rattle.std.proofs.Common.{sym, ap, ◌∙◌, subst, arith}
+use Rattle.std.proofs.Common.{◌≡◌, inl, inr, ℕ, Bool, true, false, ◌&&◌, List, length, map, refl}
+use Rattle.std.proofs.Common.{sym, ap, ◌∙◌, subst}
 use Rattle.std.proofs.lemmas.Bool.{true≢false}
 use Rattle.std.specs.Prelude.{All, Contains}
-use Rattle.tm_check.specs.Replies.{IsMove, move_of, shape_of}
+use Rattle.tm_check.specs.Replies.{move_of, shape_of}
 use Rattle.tm_check.proofs.Growth.{substituted_kept}
 use Rattle.tm_cir.specs.Tree.{BlockTree}
 use Rattle.tm_dd.specs.declared.node.NodeId.{NodeId}
@@ -13,7 +13,6 @@ use Rattle.tm_dd.proofs.CallerLaws.{means-FALSE}
 use Rattle.tm_ddops.specs.Manager.{IsFunction}
 use Rattle.tm_ddops.specs.Operation.{substituted}
 use Rattle.tm_game.specs.Game.{GameData, Grows, in_set}
-use Rattle.tm_game.specs.Moves.{move_at}
 use Rattle.tm_game.specs.declared.moves.MoveShape.{MoveShape}
 use Rattle.tm_game.proofs.Growing.{grows_then}
 use Rattle.tm_game_bits.specs.AssignedStates.{assignment_of, coding_of, state_of}
@@ -26,7 +25,7 @@ use Rattle.tm_game_bits.proofs.Sets.{both_true}
 use Rattle.tm_sem.specs.State.{StateData}
 use Rattle.tm_sem.specs.Step.{IsState}
 use Rattle.tm_sem.specs.declared.state.Move.{Move}
-use Rattle.tm_solve_exact.specs.Exact.{IsExactOf, IsStateSet, valid_set}
+use Rattle.tm_solve_exact.specs.Exact.{IsExactOf, valid_set}
 use Rattle.tm_solve_exact.specs.Listed.{and_both}
 use Rattle.tm_solve_exact.proofs.Growing.{kept_exact, order_told, valid_told}
 use Rattle.tm_solve_exact.proofs.Staying.{iff_same}

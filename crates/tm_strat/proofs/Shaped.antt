@@ -1,10 +1,10 @@
 -- Pairs of one zone more, and of one shape more, while the game grows: from g, at the start, over m, at a turn of the
 -- loop, to h, behind it.
-use Rattle.std.proofs.Common.{◌≡◌, ℕ, ◌+◌, ◌<◌, ◌≤◌, ◌||◌, List, [], ◌∷◌, ◌++◌, Some, length, get_or, slice_get, refl}
-use Rattle.std.proofs.Common.{sym, ap, ◌∙◌, subst, arith}
+use Rattle.std.proofs.Common.{◌≡◌, ℕ, ◌+◌, ◌<◌, ◌||◌, List, [], ◌∷◌, ◌++◌, Some, length, get_or, slice_get}
+use Rattle.std.proofs.Common.{subst, arith}
 use Rattle.std.proofs.lemmas.Option.{slice_get-get_or}
 use Rattle.tm_dd.specs.declared.node.NodeId.{NodeId}
-use Rattle.tm_dd.specs.Table.{Knows, Table, means}
+use Rattle.tm_dd.specs.Table.{Knows, means}
 use Rattle.tm_ddops.specs.Manager.{IsFunction}
 use Rattle.tm_ddops.specs.Quantified.{IsExists}
 use Rattle.tm_game.specs.Game.{GameData, Grows}

@@ -1,10 +1,10 @@
 -- Tests as functions and as sets, where more are put behind them and the game grows.
-use Rattle.std.proofs.Common.{◌≡◌, ◌⊎◌, inl, inr, ℕ, ◌+◌, ◌-◌, ◌<◌, ◌≤◌, Bool, true, ◌&&◌, List, [], ◌∷◌, ◌++◌, Some}
+use Rattle.std.proofs.Common.{◌≡◌, ◌⊎◌, inl, inr, ℕ, ◌+◌, ◌-◌, ◌<◌, ◌≤◌, true, ◌&&◌, List, [], ◌∷◌, ◌++◌, Some}
 use Rattle.std.proofs.Common.{length, get_or, take, refl, sym, ap, ◌∙◌, subst, arith}
 use Rattle.std.proofs.lemmas.Bool.{cases_lt}
 use Rattle.std.proofs.lemmas.List.{get_or_append_left, get_or-append-add, get_or_at, length-append, length-take-le}
 use Rattle.std.proofs.lemmas.List.{length_push, append_assoc, take_more}
-use Rattle.std.proofs.lemmas.Option.{get_or_from_slice_get, slice_get-get_or, slice_get_within}
+use Rattle.std.proofs.lemmas.Option.{slice_get-get_or, slice_get_within}
 use Rattle.std.specs.Prelude.{Contains, slice_get}
 use Rattle.tm_check.proofs.Pushed.{pushed_at}
 use Rattle.tm_check.specs.Replies.{AreReplies, IsReply}
@@ -22,7 +22,6 @@ use Rattle.tm_game_bits.specs.AssignedStates.{state_of}
 use Rattle.tm_game_bits.specs.Functions.{Assignment}
 use Rattle.tm_game_bits.proofs.Extended.{Knows-Extends, means-Extends}
 use Rattle.tm_game_bits.proofs.Sets.{both_true}
-use Rattle.tm_sem.specs.State.{StateData}
 use Rattle.tm_sem.specs.Step.{IsState}
 use Rattle.tm_solve_exact.specs.Exact.{IsExactOf}
 use Rattle.tm_solve_exact.specs.Listed.{and_both}

@@ -1,5 +1,5 @@
 -- The pairs of states and of arguments at which moves are good from zones: how they are found, and what they read.
-use Rattle.std.proofs.Common.{◌≡◌, ◌⊎◌, inl, inr, ℕ, ◌+◌, ◌<◌, ◌≤◌, Bool, true, false, ◌&&◌, ◌||◌, List, length, refl}
+use Rattle.std.proofs.Common.{◌≡◌, ◌⊎◌, inl, inr, ℕ, ◌+◌, ◌<◌, ◌≤◌, true, false, ◌&&◌, ◌||◌, List, length, refl}
 use Rattle.std.proofs.Common.{sym, ap, ◌∙◌, subst, arith}
 use Rattle.std.proofs.lemmas.Bool.{cases_lt, true≢false}
 use Rattle.std.specs.Option.{option_map_or}
@@ -8,7 +8,6 @@ use Rattle.tm_dd.specs.declared.node.TheConstants.{FALSE}
 use Rattle.tm_dd.specs.Table.{Knows, Table, means}
 use Rattle.tm_dd.proofs.CallerLaws.{means-FALSE}
 use Rattle.tm_ddops.specs.Manager.{IsFunction}
-use Rattle.tm_flat.specs.Flat.{FlatTerms}
 use Rattle.tm_flat.specs.Inputs.{arguments_in, room}
 use Rattle.tm_game.specs.Game.{GameData, Grows, IsSet, in_set}
 use Rattle.tm_game.specs.Moves.{AreMoves, HasTask, IsGoodMove, move_at}
@@ -30,14 +29,12 @@ use Rattle.tm_sem.specs.declared.state.Move.{Move}
 use Rattle.tm_sem.specs.declared.state.Move.TheVariants as moves
 use Rattle.tm_syntax.specs.Design.{DesignTree}
 use Rattle.tm_syntax.specs.Design.Cells.{Called}
-use Rattle.tm_solve_exact.specs.Exact.{IsExactOf, IsStateSet, valid_set}
+use Rattle.tm_solve_exact.specs.Exact.{IsExactOf}
 use Rattle.tm_solve_exact.specs.Listed.{and_both}
 use Rattle.tm_solve_exact.proofs.Growing.{order_told}
 use Rattle.tm_solve_exact.proofs.Staying.{iff_same}
-use Rattle.tm_strat.proofs.Carrying.{grown}
-use Rattle.tm_strat.specs.Choice.{IsPairs, id_in}
-use Rattle.tm_strat.specs.Zoned.{AreZonePairs, IsMoveFrom, IsPairFrom, IsZoneMove, IsZonePair}
-use Rattle.tm_strat_drafts.specs.Growth.{Carried}
+use Rattle.tm_strat.specs.Choice.{id_in}
+use Rattle.tm_strat.specs.Zoned.{AreZonePairs, IsPairFrom, IsZoneMove, IsZonePair}
 
 -- ---- one zone
 -- from no zone is a move good where one is empty, or the task is not there

@@ -1,18 +1,18 @@
 -- Zones and targets are sets of a game, and stay what they are where it grows.
-use Rattle.std.proofs.Common.{◌≡◌, inl, inr, ℕ, zero, suc, ◌+◌, ◌<◌, ◌≤◌, Bool, true, false, ◌&&◌, ◌||◌, not, List, []}
+use Rattle.std.proofs.Common.{◌≡◌, inl, inr, ℕ, zero, suc, ◌<◌, true, ◌&&◌, ◌||◌, not, List, []}
 use Rattle.std.proofs.Common.{◌∷◌, Some, length, get_or, map, slice_get, take, refl, sym, ap, ◌∙◌, subst, arith}
 use Rattle.std.proofs.lemmas.Bool.{cases_lt}
 use Rattle.std.proofs.lemmas.List.{get_or-map, get_or_past, length-map}
-use Rattle.std.proofs.lemmas.Option.{get_or_from_slice_get, slice_get-get_or, slice_get_within}
+use Rattle.std.proofs.lemmas.Option.{get_or_from_slice_get, slice_get_within}
 use Rattle.std.specs.List.{list_any}
 use Rattle.tm_dd.specs.declared.node.NodeId.{NodeId}
 use Rattle.tm_dd.specs.declared.node.TheConstants.{FALSE}
-use Rattle.tm_dd.specs.Table.{Knows, Table, means}
+use Rattle.tm_dd.specs.Table.{means}
 use Rattle.tm_ddops.specs.Manager.{IsFunction}
 use Rattle.tm_game.specs.Game.{GameData, Grows, IsSet}
 use Rattle.tm_game.proofs.Growing.{grows_then, set_kept}
 use Rattle.tm_game.proofs.MadeSets.{false_set}
-use Rattle.tm_game_bits.proofs.Extended.{Knows-Extends, means-Extends}
+use Rattle.tm_game_bits.proofs.Extended.{means-Extends}
 use Rattle.tm_game_bits.specs.Functions.{Assignment, Function}
 use Rattle.tm_game_bits.specs.States.{AreOneState, ReadsState}
 use Rattle.tm_sem.specs.Fairness.{IsFair}

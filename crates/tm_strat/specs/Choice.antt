@@ -1,6 +1,6 @@
 -- What blocks are chosen from over a game. In all files g is a game, tests are ids of sets of states, goals are each
 -- goal's good moves, o are those of one goal where there is one, and v and w are values of levels.
-use Rattle.std.specs.Prelude.{◌≡◌, ℕ, ◌+◌, ◌-◌, ◌<◌, ◌≤◌, true, false, List, [], Option, None, Some, length, nat_lt}
+use Rattle.std.specs.Prelude.{◌≡◌, ℕ, ◌+◌, ◌-◌, ◌<◌, ◌≤◌, true, List, [], Option, None, Some, length, nat_lt}
 use Rattle.std.specs.Prelude.{slice_get, slice_index_or, if◌then◌else◌}
 use Rattle.tm_base.specs.Bits.{bits_of}
 use Rattle.tm_dd.specs.declared.node.NodeId.{NodeId}

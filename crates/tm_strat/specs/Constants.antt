@@ -6,10 +6,8 @@ use Rattle.tm_base.specs.Bits.{bits_of}
 use Rattle.tm_dd.specs.declared.node.NodeId.{NodeId}
 use Rattle.tm_dd.specs.declared.node.TheConstants.{FALSE, TRUE}
 use Rattle.tm_dd.specs.Table.{assignment, means}
-use Rattle.tm_flat.specs.Inputs.{room}
 use Rattle.tm_game.specs.Game.{GameData}
 use Rattle.tm_game_bits.specs.Functions.{Assignment}
-use Rattle.tm_sem.specs.State.{StateData}
 use Rattle.tm_solve.specs.Sets.{StateSet}
 use Rattle.tm_solve_exact.specs.Exact.{exact_game, set_of}
 use Rattle.tm_strat.specs.Choice.{constant_set, id_in}

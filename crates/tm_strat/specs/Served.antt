@@ -1,6 +1,6 @@
 -- The states that candidate moves serve. In this file g is a game of a design d, shapes are those of all moves, and
 -- blocks are those of the candidates.
-use Rattle.std.specs.Prelude.{◌≡◌, ◌⊎◌, ℕ, ◌<◌, true, All, List, Some, length, map, slice_get}
+use Rattle.std.specs.Prelude.{◌≡◌, ◌⊎◌, ℕ, ◌<◌, All, List, Some, length, map, slice_get}
 use Rattle.tm_check.specs.Replies.{IsMove, move_of, shape_of}
 use Rattle.tm_cir.specs.Tree.{BlockTree}
 use Rattle.tm_dd.specs.declared.node.NodeId.{NodeId}

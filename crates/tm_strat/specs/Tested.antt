@@ -1,14 +1,16 @@
 -- Tests of states, in C and as sets. In this file g is a game of a design d, c are its numbers of variables and
 -- processes, and ids are those of tests.
 use Rattle.std.specs.Prelude.{◌≡◌, ℕ, ◌+◌, ◌<◌, ◌≤◌, true, List, Contains, Some, length, slice_get, sum}
+use Rattle.tm_check.specs.Reads.{IsSized}
 use Rattle.tm_cir.specs.Meaning.{holds}
 use Rattle.tm_dd.specs.declared.node.NodeId.{NodeId}
 use Rattle.tm_ddops.specs.Manager.{IsFunction}
 use Rattle.tm_game.specs.Game.{GameData, IsStates}
 use Rattle.tm_game_bits.specs.AssignedStates.{state_of}
-use Rattle.tm_sem.specs.State.{StateData}
 use Rattle.tm_sem.specs.StateBits.{state_widths}
+use Rattle.tm_solve_exact.specs.Exact.{IsExactOf}
 use Rattle.tm_strat.specs.Choice.{id_in}
+use Rattle.tm_strat.specs.Fitting.{FitsCounts}
 use Rattle.tm_strat.specs.Trees.{number_in, predicate_tree}
 use Rattle.tm_strat.specs.declared.numbers.Counts.{Counts}
 use Rattle.tm_strat.specs.declared.numbers.Number.{Number}
@@ -57,3 +59,11 @@ StayFew olds news = length olds ≤ 65536 → length news ≤ 65536
 -- there are at most 65,536 tests more than a state of the design has bits
 pub record AreFewTests (d : DesignTree) (tests : List Predicate) : Type 0 where
   pub few : length tests ≤ 65536 + sum (state_widths d)
+
+-- they are the sets of tests of the exact game of a design, behind which more tests may be put
+pub record AreTestsSoFar (d : DesignTree) (g : GameData) (c : Counts) (tests : List Predicate) (ids : List NodeId) :
+    Type 0 where
+  pub exact : IsExactOf d g
+  pub sized : IsSized g
+  pub counts : FitsCounts d c
+  pub sets : AreTestSets d g c tests ids

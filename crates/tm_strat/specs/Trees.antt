@@ -1,5 +1,5 @@
 -- What tests of a state and moves are in C, as plain data. In this file c are the numbers of variables and processes.
-use Rattle.std.specs.Prelude.{ℕ, ◌==◌, ◌^◌, ◌-◌, ◌||◌, ◌&&◌, Bool, true, false, List, length, map, nat_lt, nat_le}
+use Rattle.std.specs.Prelude.{ℕ, ◌==◌, ◌^◌, ◌-◌, ◌||◌, ◌&&◌, Bool, false, List, length, map, nat_lt, nat_le}
 use Rattle.std.specs.Prelude.{slice_index_or, if◌then◌else◌}
 use Rattle.std.specs.Option.{option_map_or}
 use Rattle.tm_base.specs.declared.shift_operator.ShiftOperator.TheVariants.{Right}

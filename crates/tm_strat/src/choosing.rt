@@ -16,7 +16,7 @@ use crate::numbers::narrow;
 use crate::sets::{both, chosen, least, placed, rest};
 use crate::splits::{Contest, best_test, contest_over};
 use std::alloc::{AllocError, Global};
-use tm_dd::{FALSE, NodeId, TRUE};
+use tm_dd::{FALSE, NodeId};
 use tm_game::Game;
 use tm_strat_drafts::{MoveChoice, Moves};
 
@@ -29,12 +29,12 @@ pub(crate) struct GoalMoves {
     pub(crate) care: NodeId,
 }
 
-/// The tests of states, in three tiers: those of a later tier are tried only where none of an earlier one splits a set.
+/// The tests of states in tiers, with the number behind the last test of each tier: those of a later tier are tried
+/// only where none of an earlier one splits a set.
 #[derive(Drop)]
 pub(crate) struct TestTable {
     pub(crate) holds: Vec<NodeId>,
-    pub(crate) first_tier: usize,
-    pub(crate) second_tier: usize,
+    pub(crate) ends: Vec<usize>,
 }
 
 /// A game with tests of its states and good moves, while one goal is pending. Behind the tests of states come those
@@ -149,21 +149,67 @@ fn constant_states(
     Ok(states)
 }
 
-// The first candidate that is good at all of a set, or else the first one.
+// Of the candidates that are good at all of a set while a goal is pending, the first one that is so for most goals, or
+// the first candidate where there is none: a move that serves other goals, too, comes before one that lets them wait.
 fn likely_candidate(
     game: &mut Game,
-    candidates: &[NodeId],
+    goals: &[GoalMoves],
+    pending: usize,
     set: NodeId,
 ) -> Result<MoveChoice, AllocError>
     ensures { Carried game.old game.new }
 {
-    for number in 0..candidates.len() {
-        let left = rest(game, set, candidates[number])?;
-        if left == FALSE {
+    let mut best = 0;
+    let mut most = 0;
+    for number in 0..candidates_of(goals, pending).len() {
+        let served = goals_served(game, goals, pending, number, set)?;
+        if served >= goals.len() {
             return Ok(MoveChoice::Candidate(narrow(number)));
         }
+        if served > most {
+            most = served;
+            best = number;
+        }
     }
-    Ok(MoveChoice::Candidate(0))
+    Ok(MoveChoice::Candidate(narrow(best)))
+}
+
+// For how many goals a candidate is good at all of a set, none where it is not while a goal is pending.
+fn goals_served(
+    game: &mut Game,
+    goals: &[GoalMoves],
+    pending: usize,
+    number: usize,
+    set: NodeId,
+) -> Result<usize, AllocError>
+    ensures { Carried game.old game.new }
+{
+    let candidates = candidates_of(goals, pending);
+    let left = rest(game, set, id_at(candidates, number))?;
+    if left != FALSE {
+        return Ok(0);
+    }
+    count_served(game, goals, number, set)
+}
+
+// For how many goals a candidate is good at all states of a set at which some move is.
+fn count_served(
+    game: &mut Game,
+    goals: &[GoalMoves],
+    number: usize,
+    set: NodeId,
+) -> Result<usize, AllocError>
+    ensures { Carried game.old game.new }
+{
+    let mut served: usize = 0;
+    for goal in goals {
+        let asked = both(game, set, goal.care)?;
+        let left = rest(game, asked, id_at(&goal.candidates, number))?;
+        if left == FALSE {
+            served = served.saturating_add(1);
+        }
+    }
+    Ok(served)
 }
 
 // The best test for what is to be told apart, of the first tier that has one.
@@ -176,17 +222,15 @@ fn tiered_test(
     ensures { Carried game.old game.new }
 {
     let holds = tests.holds.as_slice();
-    let first = best_test(game, masses, holds, 0, tests.first_tier, contest)?;
-    if first.is_some() {
-        return Ok(first);
+    let mut first = 0;
+    for end in &tests.ends {
+        let found = best_test(game, masses, holds, first, *end, contest)?;
+        if found.is_some() {
+            return Ok(found);
+        }
+        first = *end;
     }
-    let (start, end) = (tests.first_tier, tests.second_tier);
-    let second = best_test(game, masses, holds, start, end, contest)?;
-    if second.is_some() {
-        return Ok(second);
-    }
-    let third = best_test(game, masses, holds, end, holds.len(), contest)?;
-    Ok(third)
+    Ok(None)
 }
 
 // A number below another one, or else 0.
@@ -300,8 +344,7 @@ impl Moves for Choosing {
     }
 
     fn likely_move(&mut self, set: NodeId) -> Result<MoveChoice, AllocError> {
-        let candidates = candidates_of(&self.goals, self.pending);
-        likely_candidate(&mut self.game, candidates, set)
+        likely_candidate(&mut self.game, &self.goals, self.pending, set)
     }
 
     fn likely_test(&mut self, set: NodeId, tests: u32) -> Result<u32, AllocError> {

@@ -62,11 +62,12 @@ pub struct Driven {
 /// The blocks of a driver that makes a good move for the ranked sets of a solution wherever there is one, whatever goal
 /// is pending.
 ///
-/// A set of states is served by a block that is there where one is good at all of it, else by a candidate move, else it
-/// is split by the test that leaves the least mixture of candidates on its two sides. The game is taken and given back,
-/// since what builds the blocks owns it; its ids mean what they meant. Where the design is that of a text and the
-/// ranked sets are a certificate of some strategy, they are one of these blocks. `AllocError` is want of memory; no
-/// driver has 2^32 blocks.
+/// A set of states is served by a block that is there where one is good at all of it, else by a candidate move, the
+/// first of those that serve most goals, else it is split by the test that leaves the least mixture of candidates on
+/// its two sides, unless what serves one side serves the other one, too. The game is taken and given back, since what
+/// builds the blocks owns it; its ids mean what they meant. Where the design is that of a text and the ranked sets are
+/// a certificate of some strategy, they are one of these blocks. `AllocError` is want of memory; no driver has 2^32
+/// blocks.
 pub fn driver(
     alloc: Global,
     mut game: Game,

@@ -61,8 +61,9 @@ fn parameters(
     Ok(found)
 }
 
-// The expressions that are tried for a parameter: variables of its type, constants, and for a number also narrower
-// numbers and aligned parts of wider ones.
+// The expressions that are tried for a parameter. For a bool or an enum, constants, which say what is meant, and then
+// variables of its type; for a number, variables of its type, constants, narrower numbers and aligned parts of wider
+// ones.
 fn options(
     alloc: Global,
     vars: &[Var],
@@ -71,12 +72,15 @@ fn options(
     width: u8,
 ) -> Result<Vec<Expression>, AllocError> {
     let mut options = Vec::new(alloc);
-    push_variables(&mut options, vars, declared, width)?;
     let numbers = literals(alloc, terms, width)?;
-    push_constants(&mut options, &numbers)?;
-    if is_uint(declared) {
-        push_others(&mut options, vars, width)?;
+    if !is_uint(declared) {
+        push_constants(&mut options, &numbers)?;
+        push_variables(&mut options, vars, declared, width)?;
+        return Ok(options);
     }
+    push_variables(&mut options, vars, declared, width)?;
+    push_constants(&mut options, &numbers)?;
+    push_others(&mut options, vars, width)?;
     Ok(options)
 }
 

@@ -212,36 +212,40 @@ fn score(
     if one == FALSE || one == contest.set {
         return Ok(f64::INFINITY);
     }
-    let first = mixture(game, masses, contest, one)?;
+    let first = mixture(game, masses, contest, one, least)?;
     if first >= least {
         return Ok(f64::INFINITY);
     }
     let other = rest(game, contest.set, test)?;
-    let second = mixture(game, masses, contest, other)?;
+    let second = mixture(game, masses, contest, other, least - first)?;
     Ok(first + second)
 }
 
 // How mixed a set is: its mass, times one less the sum of the squares of the shares of candidates, each of which takes
 // what those before it leave, the largest first (the Gini impurity of decision trees; Breiman, Friedman, Olshen and
-// Stone 1984).
+// Stone 1984). Where that is above a bound, it is some number above the bound: the shares that are left are no larger
+// than the last one, and together no larger than what is not shared out.
 fn mixture(
     game: &mut Game,
     masses: &mut Masses,
     contest: &Contest,
     set: NodeId,
+    bound: f64,
 ) -> Result<f64, AllocError>
     ensures { Carried game.old game.new }
 {
     let whole = masses.of(game.manager().store(), set)?;
     let mut waiting = Vec::from_slice(contest.alloc, &contest.shares)?;
     let mut left = set;
+    let mut open = 1.0;
     let mut squares = 0.0;
     'sharing: for _taken in 0..MOST_SHARES {
         let share = largest(game, masses, &mut waiting, left)?;
         let part = share.mass / whole;
+        open -= part;
         squares += part * part;
         left = rest(game, left, share.states)?;
-        if left == FALSE {
+        if left == FALSE || whole * (1.0 - squares - open * part) > bound {
             break;
         }
     }

@@ -5,7 +5,8 @@ ghost use Rattle.tm_game.specs.Game.{IsOf};
 ghost use Rattle.tm_sem.specs.StateBits.{state_widths as design_widths};
 ghost use Rattle.tm_solve_exact.specs.Exact.{IsExactOf};
 ghost use Rattle.tm_strat.specs.Fitting.{FitsCounts};
-ghost use Rattle.tm_strat.specs.Tested.{AreFewTests, AreTestSets, AreTestsOf, HasAllBits, IsTestOf, StayFew};
+ghost use Rattle.tm_strat.specs.Tested.{AreFewTests, AreTestSets, AreTestsOf, AreTestsSoFar, HasAllBits, IsTestOf};
+ghost use Rattle.tm_strat.specs.Tested.{StayFew};
 ghost use Rattle.tm_strat.specs.declared.numbers.Counts.{Counts as CountsData};
 ghost use Rattle.tm_strat_drafts.specs.Growth.{Carried};
 ghost use Rattle.tm_syntax.specs.Design.{DesignTree};
@@ -17,7 +18,7 @@ use crate::numbers::Counts;
 use crate::predicates::Predicate;
 use crate::reading::read_tests;
 use crate::sets::{both, either, rest};
-use crate::tests::{bits, predicates};
+use crate::tests::{bits, low_predicates, predicates};
 use indexmap::IndexSet;
 use std::alloc::{AllocError, Global};
 use tm_dd::{FALSE, NodeId};
@@ -41,8 +42,16 @@ pub(crate) struct AllTests {
     pub(crate) table: TestTable,
 }
 
+// States that tests are to tell apart, and the sets of those of them at which earlier tests hold.
+#[derive(Drop)]
+struct Told {
+    care: NodeId,
+    seen: IndexSet<NodeId>,
+}
+
 /// The tests that are tried: each of the first ones once that tells some states apart at which a move is good, at most
-/// 65,536 of them, and then the bits of a state, those of who moved last in a tier of their own.
+/// 65,536 of them, those on low bits in a tier of their own, and then the bits of a state, those of who moved last in
+/// one, too.
 pub(crate) fn all_tests(
     alloc: Global,
     game: &mut Game,
@@ -63,21 +72,22 @@ pub(crate) fn all_tests(
         predicates: Vec::new(alloc),
         holds: Vec::new(alloc),
     };
-    push_first(alloc, game, design, counts, goods, &mut tests)?;
-    let first_tier = tests.holds.len();
+    let first = push_first(alloc, game, design, counts, goods, &mut tests)?;
+    let low = tests.holds.len();
     let last = push_bits(alloc, game, design, counts, &mut tests)?;
-    let second_tier = tests.holds.len().saturating_sub(last);
+    let all = tests.holds.len();
+    let ends = Vec::from_slice(alloc, &[first, low, all.saturating_sub(last), all])?;
     Ok(AllTests {
         predicates: tests.predicates,
         table: TestTable {
             holds: tests.holds,
-            first_tier,
-            second_tier,
+            ends,
         },
     })
 }
 
-// Puts the tests that are tried first behind others.
+// Puts the tests that are tried before the bits of a state behind others, and answers how many tests there are with the
+// first ones.
 fn push_first(
     alloc: Global,
     game: &mut Game,
@@ -85,32 +95,56 @@ fn push_first(
     counts: Counts,
     goods: &[GoodMoves],
     tests: &mut Tests,
+) -> Result<usize, AllocError>
+    requires { AreTestsSoFar (design_tree design.now) game.old counts tests.old.predicates.items
+        tests.old.holds.items }
+    ensures grows { Carried game.old game.new }
+    ensures sets { IfOk result (λ first. AreTestSets (design_tree design.now) game.new counts
+        tests.new.predicates.items tests.new.holds.items) }
+    ensures few { IfOk result (λ first. StayFew tests.old.predicates.items tests.new.predicates.items) }
+{
+    let care = all_care(game, goods)?;
+    let mut told = Told {
+        care,
+        seen: IndexSet::new(alloc),
+    };
+    let firsts = predicates(alloc, game, design, counts)?;
+    push_read(alloc, game, design, counts, &firsts, &mut told, tests)?;
+    let first = tests.holds.len();
+    let lows = low_predicates(alloc, design)?;
+    push_read(alloc, game, design, counts, &lows, &mut told, tests)?;
+    Ok(first)
+}
+
+// Puts those of some tests behind others that tell states apart as no earlier one does.
+fn push_read(
+    alloc: Global,
+    game: &mut Game,
+    design: &Design,
+    counts: Counts,
+    all: &[Predicate],
+    told: &mut Told,
+    tests: &mut Tests,
 ) -> Result<(), AllocError>
-    requires exact { IsExactOf (design_tree design.now) game.old }
-    requires sized { IsSized game.old }
-    requires counts { FitsCounts (design_tree design.now) counts }
-    requires tests { AreTestSets (design_tree design.now) game.old counts tests.old.predicates.items
+    requires { AreTestsSoFar (design_tree design.now) game.old counts tests.old.predicates.items
         tests.old.holds.items }
     ensures grows { Carried game.old game.new }
     ensures sets { IfOk result (λ done. AreTestSets (design_tree design.now) game.new counts
         tests.new.predicates.items tests.new.holds.items) }
     ensures few { IfOk result (λ done. StayFew tests.old.predicates.items tests.new.predicates.items) }
 {
-    let all = predicates(alloc, game, design, counts)?;
-    let holds = read_tests(alloc, design, game, counts, &all)?;
-    let care = all_care(game, goods)?;
-    push_telling(alloc, game, tests, &all, &holds, care)?;
+    let holds = read_tests(alloc, design, game, counts, all)?;
+    push_telling(game, tests, told, all, &holds)?;
     Ok(())
 }
 
-// Puts those of some tests behind others that tell states of a set apart.
+// Puts those of some tests behind others that tell states apart as no earlier one does, with the sets where they hold.
 fn push_telling(
-    alloc: Global,
     game: &mut Game,
     tests: &mut Tests,
+    told: &mut Told,
     all: &[Predicate],
     holds: &[NodeId],
-    care: NodeId,
 ) -> Result<(), AllocError>
     ensures grows { Carried game.old game.new }
     ensures sets { IfOk result (λ done. (d : DesignTree) (c : CountsData) → IsExactOf d game.old
@@ -119,22 +153,20 @@ fn push_telling(
         → AreTestSets d game.new c tests.new.predicates.items tests.new.holds.items) }
     ensures few { IfOk result (λ done. StayFew tests.old.predicates.items tests.new.predicates.items) }
 {
-    let mut seen = IndexSet::new(alloc);
     for index in 0..all.len() {
         let there = id_at(holds, index);
-        push_test(game, tests, &mut seen, all[index], there, care)?;
+        push_test(game, tests, told, all[index], there)?;
     }
     Ok(())
 }
 
-// Puts a test behind others where it tells states of a set apart as no earlier one does and there is room for it.
+// Puts a test behind others where it tells states apart as no earlier one does and there is room for it.
 fn push_test(
     game: &mut Game,
     tests: &mut Tests,
-    seen: &mut IndexSet<NodeId>,
+    told: &mut Told,
     predicate: Predicate,
     holds: NodeId,
-    care: NodeId,
 ) -> Result<(), AllocError>
     ensures grows { Carried game.old game.new }
     ensures sets { IfOk result (λ done. (d : DesignTree) (c : CountsData) → IsExactOf d game.old
@@ -146,7 +178,7 @@ fn push_test(
     if tests.predicates.len() >= MOST_FIRST {
         return Ok(());
     }
-    let is_new = tells_apart(game, seen, holds, care)?;
+    let is_new = tells_apart(game, told, holds)?;
     if !is_new {
         return Ok(());
     }
@@ -154,17 +186,14 @@ fn push_test(
     Ok(())
 }
 
-// Whether a test tells states of a set apart that no earlier one tells apart alike.
-fn tells_apart(
-    game: &mut Game,
-    seen: &mut IndexSet<NodeId>,
-    holds: NodeId,
-    care: NodeId,
-) -> Result<bool, AllocError>
+// Whether a test tells states apart that no earlier one tells apart alike.
+fn tells_apart(game: &mut Game, told: &mut Told, holds: NodeId) -> Result<bool, AllocError>
     ensures { Carried game.old game.new }
 {
+    let care = told.care;
     let here = both(game, holds, care)?;
     let others = rest(game, care, holds)?;
+    let seen = &mut told.seen;
     if here == FALSE || others == FALSE || seen.contains(&here) || seen.contains(&others) {
         return Ok(false);
     }
@@ -212,10 +241,7 @@ fn push_bits(
     counts: Counts,
     tests: &mut Tests,
 ) -> Result<usize, AllocError>
-    requires exact { IsExactOf (design_tree design.now) game.old }
-    requires sized { IsSized game.old }
-    requires counts { FitsCounts (design_tree design.now) counts }
-    requires tests { AreTestSets (design_tree design.now) game.old counts tests.old.predicates.items
+    requires { AreTestsSoFar (design_tree design.now) game.old counts tests.old.predicates.items
         tests.old.holds.items }
     ensures grows { Carried game.old game.new }
     ensures sets { IfOk result (λ done. AreTestSets (design_tree design.now) game.new counts

@@ -27,7 +27,7 @@ const MOST_LOW: u8 = 3;
 const MOST_OF_SORT: usize = 256;
 
 /// The tests that are tried first: the atoms of the specification, bool variables, locations, values of narrow numbers,
-/// comparisons of two numbers of a width, and low bits.
+/// and comparisons of two numbers of a width.
 pub(crate) fn predicates(
     alloc: Global,
     game: &Game,
@@ -40,6 +40,12 @@ pub(crate) fn predicates(
     push_locations(&mut found, game)?;
     push_all(&mut found, &values(alloc, design)?)?;
     push_all(&mut found, &pairs(alloc, design)?)?;
+    Ok(found)
+}
+
+/// The tests that are tried where none of the first ones splits a set: low bits of numbers.
+pub(crate) fn low_predicates(alloc: Global, design: &Design) -> Result<Vec<Predicate>, AllocError> {
+    let mut found = Vec::new(alloc);
     push_all(&mut found, &lows(alloc, design)?)?;
     Ok(found)
 }

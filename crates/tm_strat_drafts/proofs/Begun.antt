@@ -3,7 +3,7 @@ use Rattle.std.proofs.Common.{◌≡◌, ℕ, List, sym, subst}
 use Rattle.tm_solve.specs.Sets.{StateSet}
 use Rattle.tm_strat_drafts.specs.Sets.{chosen}
 use Rattle.tm_strat_drafts.specs.Moves.{Game, passes}
-use Rattle.tm_solve.specs.Ids.{Ids}
+use Rattle.tm_solve.specs.Ids.{Extends, Ids}
 use Rattle.tm_strat_drafts.specs.Drafts.{blocks_of, Stay, IsMade, Makes}
 use Rattle.tm_strat_drafts.specs.Splits.{IsSplit}
 use Rattle.tm_strat_drafts.specs.Begun.{Begins}
@@ -12,7 +12,7 @@ use Rattle.tm_strat_drafts.specs.declared.drafts.Draft.{Draft}
 use Rattle.tm_strat_drafts.specs.declared.building.Begun.{Begun}
 use Rattle.tm_strat_drafts.specs.declared.building.Begun.TheVariants.{Made, Parts}
 use Rattle.tm_strat_drafts.specs.declared.splitting.Split.{Split}
-use Rattle.tm_strat_drafts.proofs.Making.{stay_then, good_within}
+use Rattle.tm_strat_drafts.proofs.Making.{drafts_kept, good_within, makes_at, stay_then}
 use Rattle.tm_strat_drafts.proofs.Parting.{parts_cover}
 
 -- what was begun, by its variant
@@ -50,6 +50,22 @@ pub made_at : {g h : Game} {ds : List Draft} {at : ℕ} {a b : StateSet} → h �
     IsMade h ds at b
 made_at {g = g} {ds = ds} {at = at} {b = b} game same made =
     subst (λ (q : Game). IsMade q ds at b) (sym game) (subst (λ (x : StateSet). IsMade g ds at x) same made)
+
+-- a draft of other drafts that are the same
+pub made_of : {g : Game} {xs ds : List Draft} {at : ℕ} {set : StateSet} → xs ≡ ds → IsMade g xs at set →
+    IsMade g ds at set
+made_of {g = g} {at = at} {set = set} same made = subst (λ (l : List Draft). IsMade g l at set) same made
+
+-- the whole, from a draft of one part that serves it
+pub served_made : {g h k : Game} {ids later : Ids} {at : ℕ} {part a b : StateSet} (old d0 d1 : List Draft) → h ≡ g →
+    k ≡ h → d0 ≡ old → a ≡ b → Extends ids later → Makes h ids d0 d1 at part → IsMade k d1 at a →
+    Makes g later old d1 at b
+served_made old d0 d1 game after same means extends made whole =
+    makes_at game (record {
+      drafts = drafts_kept extends made.drafts;
+      stay = stay_from old d0 same made.stay;
+      made = made_at (sym after) means whole;
+    })
 
 -- what was begun at the game that stays, over the same drafts
 pub begins_at : {g h : Game} (ids : Ids) {a b : StateSet} (old new later : List Draft) (r : Begun) → h ≡ g → new ≡ old →

@@ -1,5 +1,5 @@
 //! Drafts, from the leaves upwards.
-ghost use Rattle.std.specs.Prelude.{◌≡◌, ◌<◌, ◌++◌, ◌∷◌, [], ◌≤◌, IfOk, Some, length, slice_get};
+ghost use Rattle.std.specs.Prelude.{◌≡◌, ◌<◌, ◌++◌, ◌∷◌, [], ◌≤◌, true, IfOk, Some, length, slice_get};
 ghost use Rattle.tm_solve.specs.Sets.{StateSet};
 ghost use Rattle.tm_strat_drafts.specs.Begun.{Begins};
 ghost use Rattle.tm_strat_drafts.specs.Drafts.{AreDrafts, blocks_of, drafted, FoundOrNot, IsMade, Makes, MakesOrNot};
@@ -26,7 +26,8 @@ pub(crate) enum Begun {
     Parts(Split),
 }
 
-// A draft that ends well at each state of a set. Each test that is made splits the set, so no path has a test twice.
+// A draft that ends well at each state of a set. Each test that is made splits the set, so no path has a test twice;
+// where the draft of one side serves the other one, too, none is made.
 pub(crate) fn build<M: Moves>(
     moves: &mut M,
     drafts: &mut Vec<Draft>,
@@ -45,6 +46,9 @@ pub(crate) fn build<M: Moves>(
         Begun::Made(at) => Ok(at),
         Begun::Parts(parts) => {
             let first = build(moves, drafts, parts.first, tests)?;
+            if serves(moves, drafts.as_slice(), first, care)? {
+                return Ok(first);
+            }
             let second = build(moves, drafts, parts.second, tests)?;
             let at = join(moves, drafts, parts.test, first, second)?;
             Ok(at)
@@ -125,12 +129,30 @@ fn known<M: Moves>(moves: &mut M, drafts: &[Draft], care: NodeId) -> Result<Opti
     ensures follows { Follows (M.setting moves.old) (M.setting moves.new) }
 {
     for at in 0..drafts.len() {
-        let good = good_of(drafts, at as u32);
-        if lies_in(moves, care, good)? {
+        if serves(moves, drafts, at as u32, care)? {
             return Ok(Some(at as u32));
         }
     }
     Ok(None)
+}
+
+// Whether a draft is known to end well at each state of a set.
+fn serves<M: Moves>(
+    moves: &mut M,
+    drafts: &[Draft],
+    at: u32,
+    care: NodeId,
+) -> Result<bool, AllocError>
+    requires known { (M.setting moves.old).ids.knows care }
+    requires at { at < length drafts.now }
+    requires drafts { AreDrafts (M.setting moves.old).game (M.setting moves.old).ids drafts.now }
+    ensures made { IfOk result (λ r. r ≡ true → IsMade (M.setting moves.old).game drafts.now at
+        ((M.setting moves.old).ids.means care)) }
+    ensures follows { Follows (M.setting moves.old) (M.setting moves.new) }
+{
+    let good = good_of(drafts, at);
+    let within = lies_in(moves, care, good)?;
+    Ok(within)
 }
 
 // A move that is good at all states of a set, where the one that is tried is.

@@ -1,4 +1,4 @@
-use Rattle.std.proofs.Common.{◌≡◌, ℕ, ◌+◌, ◌*◌, ◌^◌, ◌<◌, ◌≤◌, ap, ◌∙◌, arith}
+use Rattle.std.proofs.Common.{ℕ, ◌+◌, ◌*◌, ap, arith}
 use Rattle.tm_strat.proofs.Bits.{bits_all, bits_below, bits_more, bits_none, byte_is, byte_small}
 use Rattle.tm_strat.proofs.choosing.bits_from.Goals as goal
 

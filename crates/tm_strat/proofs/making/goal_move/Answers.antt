@@ -1,5 +1,4 @@
-use Rattle.std.proofs.Common.{List, sym, ◌∙◌, subst}
-use Rattle.tm_dd.specs.declared.node.NodeId.{NodeId}
+use Rattle.std.proofs.Common.{◌∙◌}
 use Rattle.tm_strat.proofs.Carrying.{grown}
 use Rattle.tm_strat.proofs.Made.{move_made, served_of}
 use Rattle.tm_strat.proofs.making.goal_move.Goals as goal

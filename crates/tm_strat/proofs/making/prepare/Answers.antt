@@ -1,5 +1,4 @@
-use Rattle.std.proofs.Common.{List, length, sym, ap, ◌∙◌, subst}
-use Rattle.tm_game.proofs.Growing.{grows_then}
+use Rattle.std.proofs.Common.{List, length, sym, ap, ◌∙◌}
 use Rattle.tm_solve_exact.proofs.Growing.{kept_exact}
 use Rattle.tm_strat.proofs.Carrying.{grown, sized_stays}
 use Rattle.tm_strat.proofs.Made.{all_good_kept, good_read, made_read}

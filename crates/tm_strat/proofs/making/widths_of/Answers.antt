@@ -1,4 +1,4 @@
-use Rattle.std.proofs.Common.{◌≡◌, ℕ, ◌+◌, List, Vec, length, map, take, sym, ap, ◌∙◌, arith}
+use Rattle.std.proofs.Common.{ℕ, Vec, map, ap, ◌∙◌}
 use Rattle.std.proofs.lemmas.List.{take_all}
 use Rattle.std.specs.declared.alloc.Global.{Global}
 use Rattle.tm_flat.specs.Flat.{FlatTerms}

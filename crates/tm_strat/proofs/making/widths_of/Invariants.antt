@@ -1,5 +1,4 @@
-use Rattle.std.proofs.Common.{◌≡◌, List, Vec, map, take}
-use Rattle.std.specs.declared.alloc.Global.{Global}
+use Rattle.std.proofs.Common.{◌≡◌, map, take}
 use Rattle.tm_strat.proofs.making.widths_of.Given as goal
 
 abbrev pub invariant-loop-index : goal.invariant-loop-index

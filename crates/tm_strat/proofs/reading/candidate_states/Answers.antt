@@ -1,8 +1,6 @@
-use Rattle.std.proofs.Common.{ℕ, ◌+◌, List, Some, length, sym, ap, ◌∙◌, subst, arith}
+use Rattle.std.proofs.Common.{ℕ, Some, sym, ap, ◌∙◌, subst, arith}
 use Rattle.std.proofs.lemmas.Option.{slice_get-get_or}
-use Rattle.tm_cir.specs.Tree.{BlockTree}
 use Rattle.tm_dd.specs.declared.node.NodeId.{NodeId}
-use Rattle.tm_game.proofs.Growing.{set_kept}
 use Rattle.tm_solve_exact.proofs.Growing.{kept_exact}
 use Rattle.tm_strat.proofs.Carrying.{grown, sets_stay}
 use Rattle.tm_strat.proofs.Made.{served_more, served_none, serves_one}

@@ -1,4 +1,4 @@
-use Rattle.std.proofs.Common.{ℕ, List, length, subst, arith}
+use Rattle.std.proofs.Common.{ℕ, subst, arith}
 use Rattle.std.proofs.lemmas.List.{get_or_default}
 use Rattle.tm_strat.proofs.Carrying.{grown, of_stays, sized_stays}
 use Rattle.tm_strat.proofs.Testing.{tests_of_more, tests_of_none}

@@ -1,4 +1,4 @@
-use Rattle.std.proofs.Common.{List, sym, subst}
+use Rattle.std.proofs.Common.{List, subst}
 use Rattle.tm_check.specs.Replies.{AreReplies}
 use Rattle.tm_cir.specs.Tree.{BlockTree}
 use Rattle.tm_strat.proofs.reading.replies_of.Goals as goal

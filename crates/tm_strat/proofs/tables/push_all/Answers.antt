@@ -1,7 +1,5 @@
-use Rattle.std.proofs.Common.{◌≡◌, ℕ, ◌+◌, List, ◌∷◌, ◌++◌, Some, length, get_or, take, sym, ap, ◌∙◌, subst, arith}
+use Rattle.std.proofs.Common.{◌+◌, List, ◌++◌, length, sym, ap, ◌∙◌}
 use Rattle.std.proofs.lemmas.List.{append-nil, get_or_default, take_all}
-use Rattle.std.proofs.lemmas.Option.{slice_get-get_or}
-use Rattle.tm_dd.specs.declared.node.NodeId.{NodeId}
 use Rattle.tm_solve_exact.proofs.Growing.{kept_exact}
 use Rattle.tm_strat.proofs.Carrying.{grown}
 use Rattle.tm_strat.proofs.Testing.{pushed_more, test_there}

@@ -15,6 +15,12 @@ use Rattle.tm_syntax.specs.Design.View.{design_tree}
 pub read_tests-requires-clause-of : goal.read_tests-requires-clause-of
 read_tests-requires-clause-of c = c.requires.exact.ordered.of
 
+pub read_tests-requires-clause-sized : goal.read_tests-requires-clause-sized
+read_tests-requires-clause-sized c = c.requires.sized
+
+pub read_tests-requires-clause-counts : goal.read_tests-requires-clause-counts
+read_tests-requires-clause-counts c = c.requires.counts
+
 pub returns-clause-sets : goal.returns-clause-sets
 returns-clause-sets c =
     let d = design_tree c.args.design.now in
@@ -26,7 +32,7 @@ returns-clause-sets c =
     c.in_ok-holds.holds.items c.deref-4.result.now
     (c.deref-3.ensures.value ∙ sym c.deref-2.ensures.value) c.deref-4.ensures.value c.in_ok-holds.ensures.tests)
     (sets_kept d c.args.game.now c.read_tests.new.game c.requires.exact to_r c.args.counts
-    c.args.tests.now.predicates.items c.args.tests.now.holds.items c.requires.tests)
+    c.args.tests.now.predicates.items c.args.tests.now.holds.items c.requires.sets)
 
 pub returns-clause-bits : goal.returns-clause-bits
 returns-clause-bits c =

@@ -1,38 +1,50 @@
-use Rattle.std.proofs.Common.{sym, ◌∙◌}
-use Rattle.tm_game.proofs.Growing.{grows_then}
 use Rattle.tm_solve_exact.proofs.Growing.{kept_exact}
-use Rattle.tm_strat.proofs.Carrying.{grown}
-use Rattle.tm_strat.proofs.Testing.{sets_kept, tests_read}
+use Rattle.tm_strat.proofs.Carrying.{grown, sized_stays}
+use Rattle.tm_strat.proofs.Testing.{sets_kept}
 use Rattle.tm_strat.proofs.tables.push_first.Goals as goal
 use Rattle.tm_syntax.specs.Design.View.{design_tree}
 
-pub read_tests-requires-clause-of : goal.read_tests-requires-clause-of
-read_tests-requires-clause-of c = c.requires.exact.ordered.of
+pub push_read-requires : goal.push_read-requires
+push_read-requires c =
+    let d = design_tree c.args.design.now in
+    let to = grown c.args.game.now c.all_care.new.game c.all_care.ensures in
+    record {
+      exact = kept_exact d c.args.game.now c.requires.exact c.all_care.new.game to;
+      sized = sized_stays c.args.game.now c.all_care.new.game c.all_care.ensures c.requires.sized;
+      counts = c.requires.counts;
+      sets = sets_kept d c.args.game.now c.all_care.new.game c.requires.exact to c.args.counts
+          c.args.tests.now.predicates.items c.args.tests.now.holds.items c.requires.sets;
+    }
+
+pub push_read-requires-2 : goal.push_read-requires-2
+push_read-requires-2 c =
+    let d = design_tree c.args.design.now in
+    let to = grown c.args.game.now c.push_read.new.game
+    (λ base b. c.push_read.ensures.grows base (c.all_care.ensures base b)) in
+    record {
+      exact = kept_exact d c.args.game.now c.requires.exact c.push_read.new.game to;
+      sized = sized_stays c.args.game.now c.push_read.new.game
+          (λ base b. c.push_read.ensures.grows base (c.all_care.ensures base b)) c.requires.sized;
+      counts = c.requires.counts;
+      sets = c.in_ok-push_read.ensures.sets;
+    }
 
 pub returns-clause-sets : goal.returns-clause-sets
-returns-clause-sets c =
-    let d = design_tree c.args.design.now in
-    let to_r = grown c.args.game.now c.read_tests.new.game c.read_tests.ensures.grows in
-    let to_m = grown c.read_tests.new.game c.all_care.new.game c.all_care.ensures in
-    let to = grows_then c.args.game.now c.read_tests.new.game c.all_care.new.game to_r to_m in
-    c.in_ok-push_telling.ensures.sets d c.args.counts
-    (kept_exact d c.args.game.now c.requires.exact c.all_care.new.game to)
-    (tests_read d c.read_tests.new.game c.all_care.new.game to_m c.args.counts c.deref.result.now c.deref-2.result.now
-    c.in_ok-holds.holds.items c.deref-3.result.now (c.deref-2.ensures.value ∙ sym c.deref.ensures.value)
-    c.deref-3.ensures.value c.in_ok-holds.ensures.tests)
-    (sets_kept d c.args.game.now c.all_care.new.game c.requires.exact to c.args.counts
-    c.args.tests.now.predicates.items c.args.tests.now.holds.items c.requires.tests)
+returns-clause-sets c = c.in_ok-push_read-2.ensures.sets
 
-pub returns-in_err-care-clause-grows : goal.returns-in_err-care-clause-grows
-returns-in_err-care-clause-grows c = λ base b. c.all_care.ensures base (c.read_tests.ensures.grows base b)
-
-pub returns-in_err-push_telling-clause-grows : goal.returns-in_err-push_telling-clause-grows
-returns-in_err-push_telling-clause-grows c =
-    λ base b. c.push_telling.ensures.grows base (c.all_care.ensures base (c.read_tests.ensures.grows base b))
+pub returns-clause-few : goal.returns-clause-few
+returns-clause-few c = λ small. c.in_ok-push_read-2.ensures.few (c.in_ok-push_read.ensures.few small)
 
 pub returns-clause-grows : goal.returns-clause-grows
 returns-clause-grows c =
-    λ base b. c.push_telling.ensures.grows base (c.all_care.ensures base (c.read_tests.ensures.grows base b))
+    λ base b. c.push_read-2.ensures.grows base (c.push_read.ensures.grows base (c.all_care.ensures base b))
 
-pub returns-clause-few : goal.returns-clause-few
-returns-clause-few c = c.in_ok-push_telling.ensures.few
+pub returns-in_err-push_read-clause-grows : goal.returns-in_err-push_read-clause-grows
+returns-in_err-push_read-clause-grows c = λ base b. c.push_read.ensures.grows base (c.all_care.ensures base b)
+
+pub returns-in_err-lows-clause-grows : goal.returns-in_err-lows-clause-grows
+returns-in_err-lows-clause-grows c = λ base b. c.push_read.ensures.grows base (c.all_care.ensures base b)
+
+pub returns-in_err-push_read-2-clause-grows : goal.returns-in_err-push_read-2-clause-grows
+returns-in_err-push_read-2-clause-grows c =
+    λ base b. c.push_read-2.ensures.grows base (c.push_read.ensures.grows base (c.all_care.ensures base b))
