@@ -6,7 +6,7 @@ use Rattle.serde_json.specs.Data.{Data}
 use Rattle.tm_agreement.specs.Agreement.{DriversAgree, LevelAgrees, LevelsAgree}
 use Rattle.tm_agreement.proofs.Agreeing.{zip_length}
 use Rattle.tm_agreement.proofs.DriversAgreeing as drivers
-use Rattle.tm_agreement.proofs.LevelsAgreeing as levels
+use Rattle.tm_agreement.proofs.LevelsAgreeing as level_laws
 use Rattle.tm_cert.specs.Cert.{DriverData, EnvData}
 use Rattle.tm_cert.specs.CertValue.{IsCert, IsCertText}
 use Rattle.tm_cert.specs.Written.{driver_data, environment_data}
@@ -119,7 +119,7 @@ module _ (d : DesignTree) (c : EnvData) (shown : IsEnvironmentShown d c) where
         certificate = written.certificate;
         certifies = written.certifies;
         order = written.order;
-        meets = levels.meets d (levels_of d c) (levels_of d written.certificate) back shown.meets;
+        meets = level_laws.meets d (levels_of d c) (levels_of d written.certificate) back shown.meets;
         levels_are = levels_are ∙ sym (length-map c.levels (level_sets d c.order c.nodes))
             ∙ zip_length (LevelAgrees d) (levels_of d c) (levels_of d written.certificate) back
             ∙ length-map written.certificate.levels
@@ -134,7 +134,7 @@ module _ (d : DesignTree) (c : EnvData) (shown : IsEnvironmentShown d c) where
       }
     where
       back : LevelsAgree d (levels_of d c) (levels_of d written.certificate)
-      back = levels.flipped d (levels_of d written.certificate) (levels_of d c) written.sets
+      back = level_laws.flipped d (levels_of d written.certificate) (levels_of d c) written.sets
 
       within : steps levels fairs chain
       within =

@@ -11,8 +11,8 @@ clamp_driver-moved-requires-clause-fields c = (
   c.requires.bits,
 )
 
-pub returns-in-Ok-dd-clause-sets : goal.returns-in-Ok-dd-clause-sets
-returns-in-Ok-dd-clause-sets c =
+pub returns-clause-sets : goal.returns-clause-sets
+returns-clause-sets c =
     let d = design_tree c.args.design.now in
     IfOk-weaker c.clamp_driver-moved.result _ _
     (λ moved sets. sets d (subst (AreFields d) (sym c.as_slice.ensures.value) c.in-Ok.ensures))
