@@ -1,7 +1,7 @@
 #!/bin/bash
 # Proves and builds termite, and prints for each model what `synth` finds, how many blocks and bytes its C has, how many
-# nodes the certificate has, and the seconds and the peak memory that it takes. bench/models names the models. What the
-# prover says goes to standard error.
+# nodes the certificate has, how many predicates were tracked at the end and how many of them were added, and the seconds
+# and the peak memory that it takes. bench/models names the models. What the prover says goes to standard error.
 # Other models than these may be given, generated ones by their numbers: bench/synth.sh 8 my.spec
 set -e
 cd "$(dirname "$0")/.."
@@ -17,7 +17,10 @@ line() {
     if [ "$found" = driver ]; then
         sizes=", $(grep -c '^L[0-9]*:' "$folder/out.c") blocks, $(wc -c < "$folder/out.c") bytes"
     fi
-    echo "$1: $found$sizes, $(tail -n 1 "$folder/report")  $taken"
+    first=$(sed -n 's/^track //p' "$folder/report")
+    added=$(grep -c '^add ' "$folder/report" || true)
+    tracked="$((first + added)) predicates, $added added"
+    echo "$1: $found$sizes, $(tail -n 1 "$folder/report"), $tracked  $taken"
 }
 
 for_each_model "$@"
