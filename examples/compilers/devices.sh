@@ -7,9 +7,11 @@ flags="-std=c11 -Wall -Wextra -Werror -Wno-unused-label -Wno-parentheses-equalit
 if [ $# -eq 0 ]; then
     for header in "$here"/../*/termite.h; do
         folder="$(dirname "$header")"
-        if [ -e "$folder/driver.c" ]; then
-            set -- "$@" "$folder/driver.c"
-        fi
+        for driver in "$folder/driver.c" "$folder/structured.c"; do
+            if [ -e "$driver" ]; then
+                set -- "$@" "$driver"
+            fi
+        done
     done
 fi
 for compiler in gcc clang; do

@@ -7,11 +7,12 @@ use tm_base::{DiskFiles, Files, MemFiles, MemSink, Sink, StdSink};
 use tm_commands::obey_and_report;
 
 /// The files in memory, and those of the folder that they hold.
-const EXAMPLE: [[&str; 2]; 6] = [
+const EXAMPLE: [[&str; 2]; 7] = [
     ["s", "flag/spec"],
     ["d", "flag/driver"],
     ["c", "flag/played"],
     ["k", "flag/certificate"],
+    ["t", "flag/structured"],
     ["lost", "lost/spec"],
     ["loss", "flag/loss"],
 ];

@@ -4,10 +4,10 @@
 //!
 //! - `show NAME` writes what a file holds, and `fill NAME N` makes a file of N blanks;
 //! - `lines N WORDS` obeys the words, and writes the first N lines of the report alone;
-//! - `fail CALL PUT WORDS` obeys the words over files in memory (`s`, `d`, `c` and `k` hold the specification, the
-//!   driver, the played choices and the certificate of `flag`, `lost` and `loss` a specification that is lost and its
-//!   certificate), where the call of the files and the put of these numbers fail (0 is none), and tells also which of
-//!   the files `o`, `o.c` and `o.cert` there are afterwards;
+//! - `fail CALL PUT WORDS` obeys the words over files in memory (`s`, `d`, `c`, `k` and `t` hold the specification, the
+//!   driver, the played choices, the certificate and the structured driver of `flag`, `lost` and `loss` a specification
+//!   that is lost and its certificate), where the call of the files and the put of these numbers fail (0 is none), and
+//!   tells also which of the files `o`, `o.c` and `o.cert` there are afterwards;
 //! - `disk CALLS` calls the files of the system and standard output, and `memory NUMBERS; NUMBERS; CALLS` files and an
 //!   output in memory, whose calls and puts of these numbers fail, as the module `files` tells;
 //! - `names FIRST SECOND` compares two names, `places LINE COLUMN, LINE COLUMN` two places in a text, and `steps N`

@@ -36,6 +36,7 @@ use Rattle.tm_commands.specs.Inputs.{NoSpecification, faulty_spec, NoBlocks, lon
 use Rattle.tm_commands.specs.Inputs.{bad_cert, RefusesSpecification, refuses_specification, RefusesBlocks}
 use Rattle.tm_commands.specs.Inputs.{refuses_long_driver, refuses_bad_driver, RefusesScript, refuses_long_choices}
 use Rattle.tm_commands.specs.Inputs.{refuses_bad_choices, RefusesCert, refuses_long_cert, refuses_bad_cert}
+use Rattle.tm_commands.specs.Inputs.{RefusesStructured, refuses_long_struct, refuses_bad_struct}
 use Rattle.tm_commands.specs.Migrate.{MigrateMayEnd, may_be_refused, may_migrate, refuses_spec}
 use Rattle.tm_commands.specs.Migrate.{refuses_cert}
 use Rattle.tm_commands.specs.Run as runs
@@ -43,7 +44,10 @@ use Rattle.tm_commands.specs.Run.{RunMayEnd}
 use Rattle.tm_commands.specs.Synthesis.{TellsGood, TellsLost, AcceptsGood, AcceptsLost}
 use Rattle.tm_commands.specs.Synthesise.{SynthesiseMayEnd, may_have_driver, may_have_none, may_have_spent}
 use Rattle.tm_commands.specs.Synthesise.{may_not_be_specified}
+use Rattle.tm_commands.specs.Structure as structs
+use Rattle.tm_commands.specs.Structure.{StructureMayEnd, UnstructureMayEnd, refuses_driver, refuses_struct}
 use Rattle.tm_commands.specs.Words.{Command, run, synthesise, check_driver, check_environment, generate, migrate}
+use Rattle.tm_commands.specs.Words.{structure, unstructure}
 use Rattle.tm_commands.specs.World.{FilesData}
 use Rattle.tm_commands.proofs.CheckingLevels.{end_on}
 use Rattle.tm_commands.proofs.Running.{are_told}
@@ -76,6 +80,10 @@ refused_cert : {cert : List ℕ} {ending : Ending} → RefusesCert cert ending �
 refused_cert refuses_long_cert = (λ is. is, λ is. is)
 refused_cert refuses_bad_cert = (λ is. is, λ is. is)
 
+refused_struct : {struct : List ℕ} {ending : Ending} → RefusesStructured struct ending → IsRefusing ending
+refused_struct refuses_long_struct = (λ is. is, λ is. is)
+refused_struct refuses_bad_struct = (λ is. is, λ is. is)
+
 refusing_spec : {contents : List ℕ → Option (List ℕ)} {spec : List ℕ} {ending : Ending} →
     NoSpecification contents spec ending → IsRefusing ending
 refusing_spec (faulty_spec fault) = (λ is. is, λ is. is)
@@ -105,6 +113,16 @@ refusing_migration : {cert : List ℕ} {ending : Ending} → MigrateMayEnd cert 
 refusing_migration (may_be_refused (refuses_spec refused)) = refused_spec refused
 refusing_migration (may_be_refused (refuses_cert refused)) = refused_cert refused
 refusing_migration may_migrate = (λ is. is, λ is. is)
+
+refusing_structure : {driver : List ℕ} {ending : Ending} → StructureMayEnd driver ending → IsRefusing ending
+refusing_structure (structs.may_be_refused (structs.refuses_spec refused)) = refused_spec refused
+refusing_structure (structs.may_be_refused (refuses_driver refused)) = refused_blocks refused
+refusing_structure structs.may_structure = (λ is. is, λ is. is)
+
+refusing_unstructure : {struct : List ℕ} {ending : Ending} → UnstructureMayEnd struct ending → IsRefusing ending
+refusing_unstructure (structs.may_not_be_read (structs.refuses_specification refused)) = refused_spec refused
+refusing_unstructure (structs.may_not_be_read (refuses_struct refused)) = refused_struct refused
+refusing_unstructure structs.may_unstructure = (λ is. is, λ is. is)
 
 refusing_run : {driver choices : List ℕ} {ending : Ending} → RunMayEnd driver choices ending → IsRefusing ending
 refusing_run (runs.may_refuse_design refused) = refused_spec refused
@@ -228,6 +246,10 @@ module _ (contents : List ℕ → Option (List ℕ)) where
       let none : Generated registers ≡ Accepted ranks = sym may ∙ is in absurd (cc)
   good_command (Some (migrate spec cert out)) ranks text ending may ends is =
       absurd ((refusing_migration may).0 (good_end ranks ending is))
+  good_command (Some (structure spec driver out)) ranks text ending may ends is =
+      absurd ((refusing_structure may).0 (good_end ranks ending is))
+  good_command (Some (unstructure spec struct out)) ranks text ending may ends is =
+      absurd ((refusing_unstructure may).0 (good_end ranks ending is))
 
   lost_command : (command : Option Command) (levels many chain : ℕ) (text : List ℕ) (ending : Ending) →
       MayEnd command ending → CommandEnds contents command text ending →
@@ -248,6 +270,10 @@ module _ (contents : List ℕ → Option (List ℕ)) where
       let none : Generated registers ≡ AcceptedEnvironment levels many chain = sym may ∙ is in absurd (cc)
   lost_command (Some (migrate spec cert out)) levels many chain text ending may ends is =
       absurd ((refusing_migration may).1 (lost_end levels many chain ending is))
+  lost_command (Some (structure spec driver out)) levels many chain text ending may ends is =
+      absurd ((refusing_structure may).1 (lost_end levels many chain ending is))
+  lost_command (Some (unstructure spec struct out)) levels many chain text ending may ends is =
+      absurd ((refusing_unstructure may).1 (lost_end levels many chain ending is))
 
 module _ (command : Option Command) (old : FilesData) where
   -- a driver that is accepted is good

@@ -6,9 +6,9 @@ use Rattle.std.specs.Option.{option_and_then}
 use Rattle.std.specs.Bool.{then_some}
 use Rattle.std.proofs.lemmas.List.{append-nil}
 use Rattle.std.proofs.lemmas.List.Folds.{list_all-append}
-use Rattle.tm_commands.specs.Words.{Arguments, Split, arguments_as, arguments_of, arguments_with, budget_before, greatest_budget}
-use Rattle.tm_commands.specs.Words.{is_filled}
-use Rattle.tm_commands.specs.Words.{number_of, one_budget, split_words, with_budget, with_word}
+use Rattle.tm_commands.specs.Words.{Arguments, Split, arguments_as, arguments_of, arguments_with, budget_before}
+use Rattle.tm_commands.specs.Words.{greatest_budget, is_filled, number_of, one_budget, split_words, with_budget}
+use Rattle.tm_commands.specs.Words.{with_word}
 use Rattle.tm_commands.specs.Inner.Splitting.{asked, arguments_found}
 
 abbrev pub Text : Type 0
@@ -32,7 +32,8 @@ budget_with (Some word) numbers = budget_only (number_of greatest_budget word) n
 -- words that were used, a budget that was found, words that are pending, and the others, split
 abbrev pub from_split : List Text → Option Text → List Text → Split → Option Arguments
 from_split used budget pending s = option_and_then
-    (λ b. then_some (list_all is_filled (pending ++ s.positional)) (arguments_with (used ++ (pending ++ s.positional)) b))
+    (λ b. then_some (list_all is_filled (pending ++ s.positional))
+    (arguments_with (used ++ (pending ++ s.positional)) b))
     (budget_with budget s.budgets)
 
 abbrev pub from : List Text → Option Text → List Text → Option Split → Option Arguments

@@ -1,5 +1,5 @@
--- What `synth` finds, from what it leaves in the files, and that it finds a driver or that there is none, unless a budget
--- is spent.
+-- What `synth` finds, from what it leaves in the files, and that it finds a driver or that there is none, unless a
+-- budget is spent.
 use Rattle.std.proofs.Common.{◌≡◌, ◌∙◌, ℕ, Option, None, Some, Result, Ok, Err, List, [], ◌∷◌, ap, arith, length, map}
 use Rattle.std.proofs.Common.{refl, subst, sym}
 use Rattle.std.specs.Prelude.{IfErr, IfOk, IsTrue}
@@ -28,6 +28,7 @@ use Rattle.tm_commands.specs.Inputs.{faulty_spec}
 use Rattle.tm_commands.specs.Inputs.{RefusesSpecification, refuses_specification, RefusesBlocks, refuses_long_driver}
 use Rattle.tm_commands.specs.Inputs.{refuses_bad_driver, RefusesScript, refuses_long_choices, refuses_bad_choices}
 use Rattle.tm_commands.specs.Inputs.{RefusesCert, TellsSpecification, refuses_long_cert, refuses_bad_cert}
+use Rattle.tm_commands.specs.Inputs.{RefusesStructured, refuses_long_struct, refuses_bad_struct}
 use Rattle.tm_commands.specs.Migrate.{MigrateMayEnd, may_be_refused, may_migrate, refuses_spec, refuses_cert}
 use Rattle.tm_commands.specs.Run as runs
 use Rattle.tm_commands.specs.Run.{RunMayEnd}
@@ -38,7 +39,10 @@ use Rattle.tm_commands.specs.Synthesis.{found_none, wants_memory}
 use Rattle.tm_commands.specs.Synthesise.{HoldsDriver, HoldsEnvironment, SynthesiseEnds, SynthesiseLeaves}
 use Rattle.tm_commands.specs.Synthesise.{SynthesiseMayEnd, has_driver, has_none, has_spent, may_have_driver}
 use Rattle.tm_commands.specs.Synthesise.{may_have_none, may_have_spent, may_not_be_specified, not_specified}
+use Rattle.tm_commands.specs.Structure as structs
+use Rattle.tm_commands.specs.Structure.{StructureMayEnd, UnstructureMayEnd, refuses_driver, refuses_struct}
 use Rattle.tm_commands.specs.Words.{Command, run, synthesise, check_driver, check_environment, generate, migrate}
+use Rattle.tm_commands.specs.Words.{structure, unstructure}
 use Rattle.tm_commands.specs.World.{FilesData}
 use Rattle.tm_commands.proofs.Telling.{specification_read, told_specification}
 
@@ -65,6 +69,10 @@ finding_cert : {cert : List ℕ} {ending : Ending} → RefusesCert cert ending �
 finding_cert refuses_long_cert is = is
 finding_cert refuses_bad_cert is = is
 
+finding_struct : {struct : List ℕ} {ending : Ending} → RefusesStructured struct ending → IsFinding ending → ⊥
+finding_struct refuses_long_struct is = is
+finding_struct refuses_bad_struct is = is
+
 finding_run : {driver choices : List ℕ} {ending : Ending} → RunMayEnd driver choices ending → IsFinding ending → ⊥
 finding_run (runs.may_refuse_design refused) is = finding_spec refused is
 finding_run (runs.may_refuse_blocks refused) is = finding_blocks refused is
@@ -90,6 +98,16 @@ finding_migration (may_be_refused (refuses_spec refused)) is = finding_spec refu
 finding_migration (may_be_refused (refuses_cert refused)) is = finding_cert refused is
 finding_migration may_migrate is = is
 
+finding_structure : {driver : List ℕ} {ending : Ending} → StructureMayEnd driver ending → IsFinding ending → ⊥
+finding_structure (structs.may_be_refused (structs.refuses_spec refused)) is = finding_spec refused is
+finding_structure (structs.may_be_refused (refuses_driver refused)) is = finding_blocks refused is
+finding_structure structs.may_structure is = is
+
+finding_unstructure : {struct : List ℕ} {ending : Ending} → UnstructureMayEnd struct ending → IsFinding ending → ⊥
+finding_unstructure (structs.may_not_be_read (structs.refuses_specification refused)) is = finding_spec refused is
+finding_unstructure (structs.may_not_be_read (refuses_struct refused)) is = finding_struct refused is
+finding_unstructure structs.may_unstructure is = is
+
 -- what is found is found by `synth`
 synth_finds : (command : Option Command) (ending : Ending) → MayEnd command ending → IsFinding ending →
     (spec : List ℕ) × (out : List ℕ) × (budget : Option ℕ) × (command ≡ Some (synthesise spec out budget))
@@ -101,6 +119,8 @@ synth_finds (Some (check_driver spec driver cert)) ending may is = absurd (findi
 synth_finds (Some (check_environment spec cert)) ending may is = absurd (finding_levels may is)
 synth_finds (Some (generate registers out)) ending may is = absurd (subst IsFinding may is)
 synth_finds (Some (migrate spec cert out)) ending may is = absurd (finding_migration may is)
+synth_finds (Some (structure spec driver out)) ending may is = absurd (finding_structure may is)
+synth_finds (Some (unstructure spec struct out)) ending may is = absurd (finding_unstructure may is)
 
 -- the budget that is spent is the one that was given
 budget_given : (budget : Option ℕ) (n : ℕ) (trace : Trace) → SynthesiseMayEnd budget (Budget n trace) →

@@ -17,8 +17,10 @@ mod Rows
 mod Specifying
 mod Spelling
 mod Splits
+mod Structuring
 mod Synthesising
 mod Telling
 mod Texts
+mod Unstructuring
 mod Walking
 mod Writing

@@ -59,7 +59,8 @@ module _ (how : Reading) where
   same_has vs [] = refl
   same_has vs (r ∷ rows) = go (same_has vs rows) (bytes_eq r.id (codes "words")) refl
     where
-      go : has_row (codes "budget") (with_words vs rows) ≡ has_row (codes "budget") rows → (t : Bool) → bytes_eq r.id (codes "words") ≡ t →
+      go : has_row (codes "budget") (with_words vs rows) ≡ has_row (codes "budget") rows → (t : Bool) →
+          bytes_eq r.id (codes "words") ≡ t →
           has_row (codes "budget") (with_words vs (r ∷ rows)) ≡ has_row (codes "budget") (r ∷ rows)
       go others true is = rw (is) refl
       go others false is = rw (is) (ap (λ (t : Bool). bytes_eq r.id (codes "budget") || t) others)
@@ -135,7 +136,8 @@ module _ (how : Reading) where
   has_budget word [] = refl
   has_budget word (r ∷ rows) = go (has_budget word rows) (bytes_eq r.id (codes "budget"))
     where
-      go : has_row (codes "budget") (rows ++ budget_row word ∷ []) ≡ true → (t : Bool) → t || has_row (codes "budget") (rows ++ budget_row word ∷ []) ≡ true
+      go : has_row (codes "budget") (rows ++ budget_row word ∷ []) ≡ true → (t : Bool) →
+          t || has_row (codes "budget") (rows ++ budget_row word ∷ []) ≡ true
       go others true = refl
       go others false = others
 

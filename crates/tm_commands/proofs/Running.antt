@@ -15,6 +15,7 @@ use Rattle.tm_commands.specs.declared.stop.Stop.TheVariants as stops_at
 use Rattle.tm_report.specs.declared.ending.Failure.TheVariants.{ReadFault, WriteFault, Memory}
 use Rattle.tm_play.specs.Script.{ScriptData}
 use Rattle.tm_commands.specs.Words.{Command, run, synthesise, check_driver, check_environment, generate, migrate}
+use Rattle.tm_commands.specs.Words.{structure, unstructure}
 use Rattle.tm_commands.specs.World.{FilesData, OnlyReads, OnlyTouches}
 use Rattle.tm_report.specs.Output.{SinkData}
 use Rattle.tm_play.specs.declared.ending.PlayEnd.{PlayEnd}
@@ -43,6 +44,8 @@ nothing_put contents (Some (check_driver spec driver cert)) = inl refl
 nothing_put contents (Some (check_environment spec cert)) = inl refl
 nothing_put contents (Some (generate registers out)) = refl
 nothing_put contents (Some (migrate spec cert out)) = refl
+nothing_put contents (Some (structure spec driver out)) = refl
+nothing_put contents (Some (unstructure spec struct out)) = refl
 
 -- what is not done at all leaves everything
 pub touches_none : (reads writes : List (List ℕ)) (files : FilesData) → OnlyTouches reads writes files files

@@ -8,9 +8,11 @@ use Rattle.std.specs.Option.{option_map, option_and_then}
 use Rattle.std.specs.Str.{bytes_eq}
 use Rattle.std.proofs.lemmas.Bool.{ltb-false}
 use Rattle.tm_play.specs.Numbers.{digits_after}
-use Rattle.tm_commands.specs.Words.{Command, run, check_driver, check_environment, generate, migrate}
-use Rattle.tm_commands.specs.Words.{Arguments, arguments_as, arguments_of, arguments_with, is_filled, number_of, one_budget, split_words}
-use Rattle.tm_commands.specs.Words.{most_registers, run_of, check_of, generate_of, migrate_of, command_of}
+use Rattle.tm_commands.specs.Words.{Command, run, check_driver, check_environment, generate, migrate, structure}
+use Rattle.tm_commands.specs.Words.{unstructure}
+use Rattle.tm_commands.specs.Words.{Arguments, arguments_as, arguments_of, arguments_with, is_filled, number_of}
+use Rattle.tm_commands.specs.Words.{one_budget, split_words}
+use Rattle.tm_commands.specs.Words.{most_registers, of_three, check_of, generate_of, command_of}
 use Rattle.tm_commands.specs.Words.{command_with, plain_command_with, synthesise, synthesise_of}
 use Rattle.tm_commands.specs.Inner.Obeying.{IsSpelled}
 
@@ -22,6 +24,8 @@ IsFit (check_driver spec driver cert) = Unit {0}
 IsFit (check_environment spec cert) = Unit {0}
 IsFit (generate registers out) = (registers ≤ most_registers) × (out ≡ [] → ⊥)
 IsFit (migrate spec cert out) = out ≡ [] → ⊥
+IsFit (structure spec driver out) = out ≡ [] → ⊥
+IsFit (unstructure spec struct out) = out ≡ [] → ⊥
 
 -- a filled word is not empty
 filled : (word : List ℕ) → is_filled word ≡ true → word ≡ [] → ⊥
@@ -69,13 +73,6 @@ few_registers word n is =
     let passed = kept (is_filled word && not (nat_lt most_registers from.0)) from.0 n from.2 in
     subst (λ k. k ≤ most_registers) passed.1 (few (is_filled word) from.0 passed.0)
 
-run_fit : (words : List (List ℕ)) (c : Command) → run_of words ≡ Some c → IsFit c
-run_fit [] c is = absurd (cc)
-run_fit (s ∷ []) c is = absurd (cc)
-run_fit (s ∷ d ∷ []) c is = absurd (cc)
-run_fit (s ∷ d ∷ h ∷ []) c is = let same : run s d h ≡ c = cc in subst IsFit same tt
-run_fit (s ∷ d ∷ h ∷ w ∷ ws) c is = absurd (cc)
-
 synthesise_fit : (words : List (List ℕ)) (budget : Option ℕ) (c : Command) → synthesise_of words budget ≡ Some c →
     IsFit c
 synthesise_fit [] budget c is = absurd (cc)
@@ -104,27 +101,34 @@ generate_fit (n ∷ o ∷ []) c all is = by (number_of most_registers n) refl is
         (few_registers n k read, filled o (both (is_filled o) true (both (is_filled n) (is_filled o && true) all).1).0)
 generate_fit (n ∷ o ∷ w ∷ ws) c all is = absurd (cc)
 
-migrate_fit : (words : List (List ℕ)) (c : Command) → list_all is_filled words ≡ true →
-    migrate_of words ≡ Some c → IsFit c
-migrate_fit [] c all is = absurd (cc)
-migrate_fit (s ∷ []) c all is = absurd (cc)
-migrate_fit (s ∷ k ∷ []) c all is = absurd (cc)
-migrate_fit (s ∷ k ∷ o ∷ []) c all is =
-    let same : migrate s k o ≡ c = cc in
-    let behind = (both (is_filled s) (is_filled k && (is_filled o && true)) all).1 in
-    subst IsFit same
-    (filled o (both (is_filled o) true (both (is_filled k) (is_filled o && true) behind).1).0)
-migrate_fit (s ∷ k ∷ o ∷ w ∷ ws) c all is = absurd (cc)
+-- a command of three words is fit, where it is so once its last word has a name
+module _ (command : List ℕ → List ℕ → List ℕ → Command)
+    (fit : (s k o : List ℕ) → (o ≡ [] → ⊥) → IsFit (command s k o)) where
+  three_fit : (words : List (List ℕ)) (c : Command) → list_all is_filled words ≡ true →
+      of_three command words ≡ Some c → IsFit c
+  three_fit [] c all is = absurd (cc)
+  three_fit (s ∷ []) c all is = absurd (cc)
+  three_fit (s ∷ k ∷ []) c all is = absurd (cc)
+  three_fit (s ∷ k ∷ o ∷ []) c all is =
+      let same : command s k o ≡ c = cc in
+      let behind = (both (is_filled s) (is_filled k && (is_filled o && true)) all).1 in
+      subst IsFit same
+      (fit s k o (filled o (both (is_filled o) true (both (is_filled k) (is_filled o && true) behind).1).0))
+  three_fit (s ∷ k ∷ o ∷ w ∷ ws) c all is = absurd (cc)
 
 -- a command other than `synth`
-chosen : (r k g m : Bool) (words : List (List ℕ)) (c : Command) → list_all is_filled words ≡ true →
-    (if r then run_of words else if k then check_of words else if g then generate_of words
-    else if m then migrate_of words else None) ≡ Some c → IsFit c
-chosen true k g m words c all is = run_fit words c is
-chosen false true g m words c all is = check_fit words c is
-chosen false false true m words c all is = generate_fit words c all is
-chosen false false false true words c all is = migrate_fit words c all is
-chosen false false false false words c all is = absurd (cc)
+chosen : (r k g m t u : Bool) (words : List (List ℕ)) (c : Command) → list_all is_filled words ≡ true →
+    (if r then of_three run words else if k then check_of words else if g then generate_of words
+    else if m then of_three migrate words else if t then of_three structure words
+    else if u then of_three unstructure words else None) ≡ Some c → IsFit c
+chosen true k g m t u words c all is = three_fit run (λ s d h named. tt) words c all is
+chosen false true g m t u words c all is = check_fit words c is
+chosen false false true m t u words c all is = generate_fit words c all is
+chosen false false false true t u words c all is = three_fit migrate (λ s k o named. named) words c all is
+chosen false false false false true u words c all is = three_fit structure (λ s d o named. named) words c all is
+chosen false false false false false true words c all is =
+    three_fit unstructure (λ s d o named. named) words c all is
+chosen false false false false false false words c all is = absurd (cc)
 
 any_command : (s b : Bool) (command : List ℕ) (arguments : Arguments) (c : Command) →
     list_all is_filled arguments.positional ≡ true →
@@ -134,7 +138,8 @@ any_command true b command arguments c all is = synthesise_fit arguments.positio
 any_command false true command arguments c all is = absurd (cc)
 any_command false false command arguments c all is =
     chosen (bytes_eq command (codes "run")) (bytes_eq command (codes "check")) (bytes_eq command (codes "gen"))
-    (bytes_eq command (codes "migrate")) arguments.positional c all is
+    (bytes_eq command (codes "migrate")) (bytes_eq command (codes "structure"))
+    (bytes_eq command (codes "unstructure")) arguments.positional c all is
 
 -- a command that is spelled is fit
 pub spelled_fit : (c : Command) → IsSpelled c → IsFit c

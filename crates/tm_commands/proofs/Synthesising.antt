@@ -343,8 +343,8 @@ module _ (d : DesignTree) (budget : Option ℕ) (out : List ℕ) (old new : File
         fails (WriteFault (b ∷ bs)) failed part = let none : b ∷ bs ≡ [] = failed.0 in cc
 
 -- ---- all of it
-module _ (spec out : List ℕ) (budget : Option ℕ) {A : Type 0} (F : FilesGhosts A) (x y z : A) {B : Type 0} (O : SinkGhosts B) (a b : B)
-    (d : DesignTree) (left : OnlyReads (files_data F x) (files_data F y))
+module _ (spec out : List ℕ) (budget : Option ℕ) {A : Type 0} (F : FilesGhosts A) (x y z : A) {B : Type 0}
+    (O : SinkGhosts B) (a b : B) (d : DesignTree) (left : OnlyReads (files_data F x) (files_data F y))
     (read : IsRead F.tells (F.contents x) spec d) where
   as_it_ends : (text : List ℕ) (ending : Ending) →
       Finishes d budget out (files_data F y) (files_data F z) text ending → IsTrue F.tells →
@@ -374,10 +374,10 @@ module _ (spec out : List ℕ) (budget : Option ℕ) {A : Type 0} (F : FilesGhos
   as_it_leaves : (text : List ℕ) (ending : Ending) →
       Finishes d budget out (files_data F y) (files_data F z) text ending → IsTrue F.tells →
       SynthesiseLeaves (F.contents x) (F.contents z) spec out ending
-  as_it_leaves _ _ (finds_driver {driver = text} {cert = certificate} ranks trace nodes found driver cert) tells = record {
+  as_it_leaves _ _ (finds_driver {driver = text} {cert = bytes} ranks trace nodes found driver cert) tells = record {
     design = d;
     driver = text;
-    cert = certificate;
+    cert = bytes;
     specified = specified read tells;
     driver_told = driver tells;
     cert_told = cert tells;
@@ -411,7 +411,8 @@ module _ (spec out : List ℕ) (budget : Option ℕ) {A : Type 0} (F : FilesGhos
 
   shown_so : (failure : Failure) →
       FailsSo d budget out (files_data F y) (files_data F z) (sink_data O a) (sink_data O b) failure →
-      IsShown (Some (synthesise spec out budget)) (files_data F x) (files_data F z) (sink_data O a) (sink_data O b) failure
+      IsShown (Some (synthesise spec out budget)) (files_data F x) (files_data F z) (sink_data O a) (sink_data O b)
+      failure
   shown_so Memory failed = tt
   shown_so (ReadFault name) failed = elim failed [ ]
   shown_so (WriteFault []) failed = failed.0
@@ -471,7 +472,8 @@ module _ (spec out : List ℕ) (budget : Option ℕ) {A : Type 0} (F : FilesGhos
   -- what was found was written and told, or not all of it
   pub synthesised_obeys : (outcome : Result Ending Failure) →
       Synthesises d budget out (files_data F y) (files_data F z) (sink_data O a) (sink_data O b) outcome →
-      Obeys (Some (synthesise spec out budget)) (files_data F x) (files_data F z) (sink_data O a) (sink_data O b) outcome
+      Obeys (Some (synthesise spec out budget)) (files_data F x) (files_data F z) (sink_data O a) (sink_data O b)
+      outcome
   synthesised_obeys (Ok ending) s =
       let e = s.ended in
       record {

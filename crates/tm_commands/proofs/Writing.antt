@@ -13,15 +13,17 @@ use Rattle.tm_cert.specs.CertValue.{IsCert, IsCertText}
 use Rattle.tm_cert.specs.Written.{cert_text}
 use Rattle.tm_gen.specs.Generated.{generated_text}
 use Rattle.tm_judge.specs.Shape.{shape_of}
+use Rattle.tm_report.specs.declared.ending.Ending.{Ending}
 use Rattle.tm_report.specs.declared.ending.Ending.TheVariants.{Generated, Migrated}
 use Rattle.tm_report.specs.declared.ending.Failure.{Failure}
 use Rattle.tm_report.specs.declared.ending.Failure.TheVariants.{ReadFault, WriteFault, Memory}
 use Rattle.tm_commands.specs.Words.{Command, generate, migrate}
 use Rattle.tm_commands.specs.World.{FilesData, files_data, OnlyReads, OnlyWrites, OnlyTouches}
 use Rattle.tm_report.specs.Output.{SinkData}
-use Rattle.tm_commands.specs.Commands.{read_names, write_names, IsCommandPart, CommandBreaksOff}
+use Rattle.tm_commands.specs.Commands.{read_names, write_names, CommandEnds, CommandLeaves, IsAnswered, IsCommandPart}
+use Rattle.tm_commands.specs.Commands.{CommandBreaksOff, MayEnd}
 use Rattle.tm_commands.specs.Migrate.{migrates, may_migrate}
-use Rattle.tm_commands.specs.Headline.{IsShown, Leaves}
+use Rattle.tm_commands.specs.Headline.{AreTold, IsLongShown, IsShown, Leaves}
 use Rattle.tm_commands.specs.Order.{IsWriteDue}
 use Rattle.tm_commands.specs.Inner.Stopping.{IsWriteFailure}
 use Rattle.tm_commands.specs.Inner.Reading.{IsMigration}
@@ -32,7 +34,7 @@ use Rattle.tm_play.proofs.Putting.{cut_nothing}
 use Rattle.tm_commands.proofs.Running.{grows_none, nothing_put}
 
 -- a write behind reads changes no other file
-touches_written : (reads : List (List ℕ)) (name : List ℕ) (old mid new : FilesData) →
+pub touches_written : (reads : List (List ℕ)) (name : List ℕ) (old mid new : FilesData) →
     (reads ≡ [] → (mid.read_faults ≡ old.read_faults) × (mid.bytes_taken ≡ old.bytes_taken)) → OnlyReads old mid →
     OnlyWrites name mid new → OnlyTouches reads (name ∷ []) old new
 touches_written reads name old mid new none read wrote = record {
@@ -97,6 +99,27 @@ module _ (command : Option Command) (name : List ℕ) (named : name ≡ [] → �
     files = record { touched = touched; left = unwritten_leaves failure failed };
     no_fewer_faults = omega arith;
   }
+
+-- a command that reads files and then writes one came to an end
+pub written_obeys : (command : Option Command) (old new : FilesData) (out : SinkData) (ending : Ending) →
+    (AreTold old (read_names command) → CommandEnds old.contents command [] ending) →
+    (AreTold old (read_names command) → (text : List ℕ) (other : Ending) →
+    CommandEnds old.contents command text other → IsAnswered command ending other) →
+    MayEnd command ending → IsLongShown old new ending →
+    OnlyTouches (read_names command) (write_names command) old new →
+    (IsTrue old.tells → CommandLeaves old.contents new.contents command ending) →
+    Obeys command old new out out (Ok ending)
+written_obeys command old new out ending ends only may long touched leaves = record {
+  ends = λ told. ([], ends told, λ sink. sym (append-nil out.written));
+  complete = only;
+  cut = λ told sink. tt;
+  grows = λ sink. grows_none out.written;
+  may_end = may;
+  shown = tt;
+  long = long;
+  files = record { touched = touched; left = leaves };
+  no_fewer_faults = omega arith;
+}
 
 -- the specification of so many registers
 module _ (registers : ℕ) (name : List ℕ) {A : Type 0} (F : FilesGhosts A) (x z : A) (out : SinkData)

@@ -1,4 +1,4 @@
--- What files tell: a design, blocks, choices or a certificate, or why they tell none.
+-- What files tell: a design, blocks, a structured driver, choices or a certificate, or why they tell none.
 use Rattle.std.specs.Prelude.{◌≡◌, ℕ, ◌≤◌, Option, Some, Ok, Err, List, length}
 use Rattle.tm_base.specs.Files.{IsLonger}
 use Rattle.tm_syntax.specs.declared.fault.Faulty.{Faulty as Fault}
@@ -10,6 +10,9 @@ use Rattle.tm_inst.specs.Specification.{IsDesignText}
 use Rattle.tm_cir.specs.Tree.{BlockTree}
 use Rattle.tm_cparse.specs.declared.bad.BadDriver.{BadDriver}
 use Rattle.tm_cparse.specs.Faults.{IsDriverFile, HasFault}
+use Rattle.tm_struct.specs.Tree.{ProgramTree}
+use Rattle.tm_struct_parse.specs.declared.bad.BadStructured.{BadStructured}
+use Rattle.tm_struct_parse.specs.Faults.{IsStructuredFile, HasFault as HasStructuredFault}
 use Rattle.tm_cert.specs.declared.cert.Cert.{Cert as Certificate}
 use Rattle.tm_cert.specs.declared.refusal.BadCert.{BadCert}
 use Rattle.tm_cert.specs.declared.shape.Kind.{Kind}
@@ -18,7 +21,7 @@ use Rattle.tm_cert.specs.Judge.{judge_text}
 use Rattle.tm_judge.specs.Shape.{shape_of}
 use Rattle.tm_report.specs.declared.ending.Ending.{Ending}
 use Rattle.tm_report.specs.declared.ending.Ending.TheVariants.{Faulty, BadText}
-use Rattle.tm_report.specs.declared.ending.Bad.TheVariants.{TooLong, Driver, Cert, Choices}
+use Rattle.tm_report.specs.declared.ending.Bad.TheVariants.{TooLong, Driver, Structured, Cert, Choices}
 use Rattle.tm_play.specs.Script.{ScriptData}
 use Rattle.tm_play.specs.Choices.{reading_of}
 
@@ -53,6 +56,21 @@ pub record TellsBadDriver
   pub told : Tells contents driver text
   pub short : length text ≤ file_limit
   pub fault : HasFault d text bad
+
+-- STRUCT tells this structured driver over a design
+pub record TellsStructured
+    (contents : List ℕ → Option (List ℕ)) (struct : List ℕ) (d : DesignTree) (p : ProgramTree) : Type 0 where
+  pub text : List ℕ
+  pub told : Tells contents struct text
+  pub is : IsStructuredFile d text p
+
+-- STRUCT is within its limit, and has this fault over a design
+pub record TellsBadStructured
+    (contents : List ℕ → Option (List ℕ)) (struct : List ℕ) (d : DesignTree) (bad : BadStructured) : Type 0 where
+  pub text : List ℕ
+  pub told : Tells contents struct text
+  pub short : length text ≤ file_limit
+  pub fault : HasStructuredFault d text bad
 
 -- CHOICES tells this start line and these steps over a design
 pub record TellsScript
@@ -95,6 +113,11 @@ pub data RefusesBlocks (driver : List ℕ) : Ending → Type 0 where
   refuses_long_driver : RefusesBlocks driver (BadText driver TooLong)
   refuses_bad_driver : {bad : BadDriver} → RefusesBlocks driver (BadText driver (Driver bad))
 
+-- STRUCT is refused, whatever it holds
+pub data RefusesStructured (struct : List ℕ) : Ending → Type 0 where
+  refuses_long_struct : RefusesStructured struct (BadText struct TooLong)
+  refuses_bad_struct : {bad : BadStructured} → RefusesStructured struct (BadText struct (Structured bad))
+
 -- CHOICES is refused, whatever it holds
 pub data RefusesScript (choices : List ℕ) : Ending → Type 0 where
   refuses_long_choices : RefusesScript choices (BadText choices TooLong)
@@ -114,6 +137,12 @@ pub data NoBlocks (contents : List ℕ → Option (List ℕ)) (driver : List ℕ
   long_driver : IsLonger (contents driver) file_limit → NoBlocks contents driver d (BadText driver TooLong)
   bad_driver : {bad : BadDriver} → TellsBadDriver contents driver d bad →
       NoBlocks contents driver d (BadText driver (Driver bad))
+
+-- why STRUCT tells no structured driver over a design
+pub data NoStructured (contents : List ℕ → Option (List ℕ)) (struct : List ℕ) (d : DesignTree) : Ending → Type 0 where
+  long_struct : IsLonger (contents struct) file_limit → NoStructured contents struct d (BadText struct TooLong)
+  bad_struct : {bad : BadStructured} → TellsBadStructured contents struct d bad →
+      NoStructured contents struct d (BadText struct (Structured bad))
 
 -- why CHOICES tells no choices over a design
 pub data NoScript (contents : List ℕ → Option (List ℕ)) (choices : List ℕ) (d : DesignTree) : Ending → Type 0 where

@@ -7,6 +7,7 @@ pub mod Migrate
 pub mod Order
 pub mod Run
 pub mod Status
+pub mod Structure
 pub mod Synthesis
 pub mod Synthesise
 pub mod Words

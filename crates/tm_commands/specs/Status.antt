@@ -8,7 +8,7 @@ use Rattle.tm_commands.specs.declared.status.Status.{Status}
 use Rattle.tm_commands.specs.declared.status.Status.TheVariants.{Played, Usage, Faulty, ReadFault, WriteFault, Memory}
 use Rattle.tm_commands.specs.declared.status.Status.TheVariants.{BadText, Stopped, Generated, Migrated}
 use Rattle.tm_commands.specs.declared.status.Status.TheVariants.{Accepted, AcceptedEnvironment, Refused}
-use Rattle.tm_commands.specs.declared.status.Status.TheVariants.{Budget, Driver, Environment}
+use Rattle.tm_commands.specs.declared.status.Status.TheVariants.{Budget, Driver, Environment, Structured, Unstructured}
 use Rattle.tm_play.specs.declared.ending.PlayEnd.TheVariants as plays
 
 -- the end of a command, or the failure that came before it
@@ -25,6 +25,8 @@ outcome_of (AcceptedEnvironment levels conditions chain) = Ok (endings.AcceptedE
 outcome_of (Refused condition goal s) = Ok (endings.Refused condition goal s)
 outcome_of (Generated registers) = Ok (endings.Generated registers)
 outcome_of Migrated = Ok endings.Migrated
+outcome_of (Structured n) = Ok (endings.Structured n)
+outcome_of (Unstructured n) = Ok (endings.Unstructured n)
 outcome_of (BadText file why) = Ok (endings.BadText file why)
 outcome_of (ReadFault name) = Err (failures.ReadFault name)
 outcome_of (WriteFault name) = Err (failures.WriteFault name)
@@ -38,6 +40,8 @@ code_of (Accepted ranks) = 0
 code_of (AcceptedEnvironment levels conditions chain) = 0
 code_of (Generated registers) = 0
 code_of Migrated = 0
+code_of (Structured n) = 0
+code_of (Unstructured n) = 0
 code_of (Environment levels conditions chain trace) = 1
 code_of (Refused condition goal s) = 1
 code_of Usage = 2

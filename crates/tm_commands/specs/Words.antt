@@ -17,6 +17,8 @@ pub data Command : Type 0 where
   check_environment : (spec cert : List ℕ) → Command
   generate : (registers : ℕ) (out : List ℕ) → Command
   migrate : (spec cert out : List ℕ) → Command
+  structure : (spec driver out : List ℕ) → Command
+  unstructure : (spec struct out : List ℕ) → Command
 
 -- an option: a word that begins with `-` and is longer than that
 abbrev pub is_option : List ℕ → Bool
@@ -103,10 +105,10 @@ arguments_as s = option_and_then
 abbrev pub arguments_of : List (List ℕ) → Option Arguments
 arguments_of words = option_and_then arguments_as (split_words false words)
 
--- `run` with its positional words
-abbrev pub run_of : List (List ℕ) → Option Command
-run_of (spec ∷ driver ∷ choices ∷ []) = Some (run spec driver choices)
-run_of _ = None
+-- a command of three positional words
+abbrev pub of_three : (List ℕ → List ℕ → List ℕ → Command) → List (List ℕ) → Option Command
+of_three command (first ∷ second ∷ third ∷ []) = Some (command first second third)
+of_three command _ = None
 
 -- `synth` with its positional words, and its budget
 abbrev pub synthesise_of : List (List ℕ) → Option ℕ → Option Command
@@ -124,18 +126,15 @@ abbrev pub generate_of : List (List ℕ) → Option Command
 generate_of (registers ∷ out ∷ []) = option_map (λ n. generate n out) (number_of most_registers registers)
 generate_of _ = None
 
--- `migrate` with its positional words
-abbrev pub migrate_of : List (List ℕ) → Option Command
-migrate_of (spec ∷ cert ∷ out ∷ []) = Some (migrate spec cert out)
-migrate_of _ = None
-
 -- a command other than `synth`, with its positional words
 abbrev pub plain_command_with : List ℕ → List (List ℕ) → Option Command
 plain_command_with command words =
-    if bytes_eq command (codes "run") then run_of words
+    if bytes_eq command (codes "run") then of_three run words
     else if bytes_eq command (codes "check") then check_of words
     else if bytes_eq command (codes "gen") then generate_of words
-    else if bytes_eq command (codes "migrate") then migrate_of words
+    else if bytes_eq command (codes "migrate") then of_three migrate words
+    else if bytes_eq command (codes "structure") then of_three structure words
+    else if bytes_eq command (codes "unstructure") then of_three unstructure words
     else None
 
 -- the command that a first word begins, with its arguments: `synth` alone has a budget
@@ -158,3 +157,5 @@ command_view (words.CheckDriver spec driver cert) = check_driver spec.now driver
 command_view (words.CheckEnvironment spec cert) = check_environment spec.now cert.now
 command_view (words.Generate registers out) = generate registers out.now
 command_view (words.Migrate spec cert out) = migrate spec.now cert.now out.now
+command_view (words.Structure spec driver out) = structure spec.now driver.now out.now
+command_view (words.Unstructure spec struct out) = unstructure spec.now struct.now out.now

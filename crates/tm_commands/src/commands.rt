@@ -5,5 +5,7 @@ pub mod check_environment;
 pub mod generate;
 pub mod migrate;
 pub mod run;
+pub mod structure;
 pub mod synthesise;
+pub mod unstructure;
 pub mod write;

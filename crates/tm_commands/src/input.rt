@@ -7,3 +7,5 @@ pub mod file;
 pub mod load;
 pub mod migration;
 pub mod specification;
+pub mod structure;
+pub mod unstructure;

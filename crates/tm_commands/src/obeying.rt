@@ -18,7 +18,9 @@ use crate::commands::check_environment::check_environment;
 use crate::commands::generate::generate;
 use crate::commands::migrate::migrate;
 use crate::commands::run::run;
+use crate::commands::structure::structure;
 use crate::commands::synthesise::synthesise;
+use crate::commands::unstructure::unstructure;
 use crate::status::{Status, status_of};
 use crate::words::command::Command;
 use crate::words::reading::read_words;
@@ -66,6 +68,16 @@ fn obey<F: Files, O: Sink>(
             cert,
             out: name,
         } => migrate(alloc, files, out, spec, cert, name),
+        Command::Structure {
+            spec,
+            driver,
+            out: name,
+        } => structure(alloc, files, out, spec, driver, name),
+        Command::Unstructure {
+            spec,
+            structured,
+            out: name,
+        } => unstructure(alloc, files, out, spec, structured, name),
     }
 }
 
@@ -154,11 +166,11 @@ pub fn obey_and_report<F: Files, O: Sink>(
     ensures last_line { EndsWithLines
         (sink_data ⟦<O as Sink>⟧ out.old) (sink_data ⟦<O as Sink>⟧ out.new) (outcome_of result) }
 
-    // No file changes but those that the command writes. At `Driver`, `Environment`, `Generated` and `Migrated` what
-    // they hold is the driver with its certificate, the environment's certificate, the text or the certificate that was
-    // asked for; where a read failed, a text is refused or a budget is spent none of them has changed. After a failed
-    // write the other file stands that was written before. Where the output failed they are as the outcome says whose
-    // lines it did not take.
+    // No file changes but those that the command writes. At `Driver`, `Environment`, `Generated`, `Migrated`,
+    // `Structured` and `Unstructured` what they hold is the driver with its certificate, the environment's certificate,
+    // the text, the certificate or the driver that was asked for; where a read failed, a text is refused or a budget is
+    // spent none of them has changed. After a failed write the other file stands that was written before. Where the
+    // output failed they are as the outcome says whose lines it did not take.
     ensures files { KeepsFiles (command_of (map string_bytes words.now))
         (files_data ⟦<F as Files>⟧ files.old) (files_data ⟦<F as Files>⟧ files.new) (outcome_of result) }
 {

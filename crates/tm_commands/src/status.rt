@@ -55,6 +55,10 @@ pub enum Status {
     Generated(u32),
     /// The certificate was written in format 2.
     Migrated,
+    /// The structured driver was written: it has so many functions beside `driver_turn`.
+    Structured(u64),
+    /// The driver with `goto` was written: it has so many blocks.
+    Unstructured(u64),
     /// The words have no reading.
     Usage,
     /// The specification has this fault.
@@ -88,6 +92,8 @@ impl Status {
             Status::AcceptedEnvironment { .. } => 0,
             Status::Generated(_) => 0,
             Status::Migrated => 0,
+            Status::Structured(_) => 0,
+            Status::Unstructured(_) => 0,
             Status::Environment { .. } => 1,
             Status::Refused { .. } => 1,
             Status::Usage => 2,
@@ -161,6 +167,8 @@ pub fn status_of(outcome: Result<Ending, Failure>) -> Status
         },
         Ok(Ending::Generated(registers)) => Status::Generated(registers),
         Ok(Ending::Migrated) => Status::Migrated,
+        Ok(Ending::Structured(functions)) => Status::Structured(functions),
+        Ok(Ending::Unstructured(blocks)) => Status::Unstructured(blocks),
         Ok(Ending::BadText { file, why }) => Status::BadText { file, why },
         Err(Failure::ReadFault(name)) => Status::ReadFault(name),
         Err(Failure::WriteFault(name)) => Status::WriteFault(name),

@@ -12,10 +12,12 @@ use Rattle.tm_syntax.specs.declared.fault.Detail.TheVariants as detail
 use Rattle.tm_syntax.specs.declared.fault.Faulty.{Faulty as Fault}
 use Rattle.tm_cparse.specs.declared.bad.BadDriver.{BadDriver}
 use Rattle.tm_cparse.specs.declared.bad.BadDriver.TheVariants as driver
+use Rattle.tm_struct_parse.specs.declared.bad.BadStructured.{BadStructured}
+use Rattle.tm_struct_parse.specs.declared.bad.BadStructured.TheVariants as structs
 use Rattle.tm_cert.specs.declared.refusal.BadCert.{BadCert}
 use Rattle.tm_cert.specs.declared.refusal.BadCert.TheVariants as cert
 use Rattle.tm_report.specs.declared.ending.Bad.{Bad}
-use Rattle.tm_report.specs.declared.ending.Bad.TheVariants.{TooLong, Driver, Cert, Choices}
+use Rattle.tm_report.specs.declared.ending.Bad.TheVariants.{TooLong, Driver, Structured, Cert, Choices}
 use Rattle.tm_play.specs.Report.{end_text, path_at, state_text}
 use Rattle.tm_refine.specs.declared.trace.Added.{Added}
 use Rattle.tm_refine.specs.declared.trace.Trace.{Trace}
@@ -82,6 +84,13 @@ bad_driver_text (driver.Text n) = codes "text " ++ decimal n
 bad_driver_text (driver.UnknownName n) = codes "name " ++ decimal n
 bad_driver_text (driver.BackwardGoto n) = codes "backward " ++ decimal n
 
+-- why a text is no structured driver
+abbrev pub bad_structured_text : BadStructured → List ℕ
+bad_structured_text structs.TooLong = codes "too long"
+bad_structured_text (structs.Text n) = codes "text " ++ decimal n
+bad_structured_text (structs.UnknownName n) = codes "name " ++ decimal n
+bad_structured_text (structs.ForwardCall n) = codes "forward " ++ decimal n
+
 -- why a text is no certificate
 abbrev pub bad_cert_text : BadCert → List ℕ
 bad_cert_text cert.Json = codes "json"
@@ -93,6 +102,7 @@ bad_cert_text (cert.Node id) = codes "node " ++ decimal id
 abbrev pub bad_text : Bad → List ℕ
 bad_text TooLong = codes "too long"
 bad_text (Driver bad) = bad_driver_text bad
+bad_text (Structured bad) = bad_structured_text bad
 bad_text (Cert bad) = bad_cert_text bad
 bad_text (Choices n) = codes "line " ++ decimal n
 
@@ -170,6 +180,8 @@ usage_text =
     ++ codes "       termite run SPEC DRIVER CHOICES\n"
     ++ codes "       termite gen N OUT\n"
     ++ codes "       termite migrate SPEC CERT OUT\n"
+    ++ codes "       termite structure SPEC DRIVER OUT\n"
+    ++ codes "       termite unstructure SPEC STRUCT OUT\n"
 
 -- the lines that tell an end; those of `synth` and of `check` on a certificate, which speak of the design, are put on
 -- the way
@@ -185,6 +197,8 @@ ending_text (AcceptedEnvironment levels conditions chain) = []
 ending_text (Refused condition goal s) = []
 ending_text (Generated registers) = codes "generated " ++ decimal registers ++ codes "\n"
 ending_text Migrated = codes "migrated\n"
+ending_text (endings.Structured functions) = codes "structured " ++ decimal functions ++ codes "\n"
+ending_text (endings.Unstructured blocks) = codes "unstructured " ++ decimal blocks ++ codes "\n"
 ending_text (BadText file why) = codes "bad " ++ file ++ codes " " ++ bad_text why ++ codes "\n"
 
 -- the line that tells a failure, if it has one: none where the output or memory failed

@@ -8,6 +8,7 @@ use tm_cparse::BadDriver;
 use tm_play::PlayEnd;
 use tm_refine::Trace;
 use tm_sem::state::State;
+use tm_struct_parse::BadStructured;
 use tm_syntax::fault::Faulty;
 
 /// Why a text has no reading.
@@ -16,6 +17,8 @@ pub enum Bad {
     TooLong,
     /// The first fault of a text of a driver.
     Driver(BadDriver),
+    /// The first fault of a text of a structured driver.
+    Structured(BadStructured),
     /// The first fault of a text of a certificate.
     Cert(BadCert),
     /// The number of the first bad line of a text of choices.
@@ -86,6 +89,10 @@ pub enum Ending {
     Generated(u32),
     /// The certificate was written in format 2.
     Migrated,
+    /// The structured driver was written: it has so many functions beside `driver_turn`.
+    Structured(u64),
+    /// The driver with `goto` was written: it has so many blocks.
+    Unstructured(u64),
     BadText {
         file: Name,
         why: Bad,

@@ -3,8 +3,8 @@ ghost use Rattle.std.specs.Prelude.{◌≡◌, ◌≢◌, ◌≤◌, ◌++◌, �
 ghost use Rattle.std.specs.Fmt.{decimal};
 ghost use Rattle.std.specs.List.{flat_map};
 ghost use Rattle.tm_base.specs.Sink.{AppendsPrefix};
-ghost use Rattle.tm_report.specs.Report.{bad_cert_text, bad_driver_text, bad_text, usage_text};
-ghost use Rattle.tm_report.specs.Report.{ending_text, failure_text, outcome_text};
+ghost use Rattle.tm_report.specs.Report.{bad_cert_text, bad_driver_text, bad_structured_text, bad_text};
+ghost use Rattle.tm_report.specs.Report.{ending_text, failure_text, outcome_text, usage_text};
 ghost use Rattle.tm_report.specs.declared.ending.Failure.TheVariants.{Memory};
 ghost use Rattle.tm_report.specs.Output.{sink_data};
 ghost use Rattle.tm_report.specs.Putting.{IsSinkFailure};
@@ -17,15 +17,18 @@ use tm_base::{Name, Sink};
 use tm_cert::BadCert;
 use tm_cparse::BadDriver;
 use tm_play::{end_line, push, push_number};
+use tm_struct_parse::BadStructured;
 
 /// The usage text, line by line.
-const USAGE: [&str; 6] = [
+const USAGE: [&str; 8] = [
     "usage: termite synth SPEC OUT [--budget N]\n",
     "       termite check SPEC DRIVER CERT\n",
     "       termite check SPEC CERT\n",
     "       termite run SPEC DRIVER CHOICES\n",
     "       termite gen N OUT\n",
     "       termite migrate SPEC CERT OUT\n",
+    "       termite structure SPEC DRIVER OUT\n",
+    "       termite unstructure SPEC STRUCT OUT\n",
 ];
 
 /// A line of a word and a number.
@@ -70,6 +73,17 @@ fn push_bad_driver(line: &mut Vec<u8>, bad: BadDriver) -> Result<(), AllocError>
     }
 }
 
+fn push_bad_structured(line: &mut Vec<u8>, bad: BadStructured) -> Result<(), AllocError>
+    ensures { OnOk result (line.new.items ≡ line.old.items ++ bad_structured_text bad) }
+{
+    match bad {
+        BadStructured::TooLong => push(line, b"too long"),
+        BadStructured::Text(number) => push_counted(line, b"text ", number),
+        BadStructured::UnknownName(number) => push_counted(line, b"name ", number),
+        BadStructured::ForwardCall(number) => push_counted(line, b"forward ", number),
+    }
+}
+
 #[tactic(auto, using(tm_play::proofs::Appending::append_assoc))]
 fn push_path(line: &mut Vec<u8>, word: &[u8], path: &Name) -> Result<(), AllocError>
     ensures { OnOk result (line.new.items ≡ line.old.items ++ (word.now ++ path.now)) }
@@ -96,6 +110,7 @@ fn push_bad(line: &mut Vec<u8>, why: &Bad) -> Result<(), AllocError>
     match why {
         Bad::TooLong => push(line, b"too long"),
         Bad::Driver(bad) => push_bad_driver(line, *bad),
+        Bad::Structured(bad) => push_bad_structured(line, *bad),
         Bad::Cert(bad) => push_bad_cert(line, bad),
         Bad::Choices(number) => push_counted(line, b"line ", *number),
     }
@@ -173,6 +188,14 @@ fn put_ending<O: Sink>(alloc: Global, ending: &Ending, out: &mut O) -> Result<()
             put_line(alloc, out, &line)
         }
         Ending::Migrated => put_line(alloc, out, migrated_line()),
+        Ending::Structured(functions) => {
+            let line = counted_line(alloc, b"structured ", *functions)?;
+            put_line(alloc, out, &line)
+        }
+        Ending::Unstructured(blocks) => {
+            let line = counted_line(alloc, b"unstructured ", *blocks)?;
+            put_line(alloc, out, &line)
+        }
         Ending::BadText { file, why } => {
             let line = bad_line(alloc, file, why)?;
             put_line(alloc, out, &line)

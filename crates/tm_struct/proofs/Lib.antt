@@ -10,6 +10,7 @@ pub mod Laid
 pub mod Leading
 pub mod Listed
 pub mod Numbering
+pub mod OneShape
 pub mod Printed
 pub mod Pushed
 pub mod Putting

@@ -41,3 +41,9 @@ pub fn shapes_answer_as_their_blocks()
     ensures same { (d : DesignTree) (bs : List BlockTree) (p : ProgramTree) → FitBlocks d bs → IsShape bs p
         → (s : StateData) (goal : ℕ) (m : Move) → AnswersSo p s goal m ↔ Answers bs s goal m }
 {}
+
+/// Blocks that fit a design have one shape.
+pub fn blocks_have_one_shape()
+    ensures { (d : DesignTree) (bs : List BlockTree) (one other : ProgramTree) → FitBlocks d bs
+        → IsShape bs one → IsShape bs other → one ≡ other }
+{}

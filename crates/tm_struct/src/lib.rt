@@ -13,7 +13,7 @@ mod shaping;
 
 pub use answering::answer_structured;
 pub use laws::{
-    shapes_answer_as_their_blocks, structured_answers_are_determined,
+    blocks_have_one_shape, shapes_answer_as_their_blocks, structured_answers_are_determined,
     structured_drivers_always_answer, structured_texts_are_determined,
 };
 pub use laying::blocks_of;

@@ -11,13 +11,17 @@ use Rattle.tm_cert.specs.declared.refusal.ReadCertError.TheVariants.{Bad, Memory
 use Rattle.tm_cert.specs.declared.shape.CertShape.{CertShape}
 use Rattle.tm_cert.specs.declared.shape.Kind.TheVariants.{Either}
 use Rattle.tm_judge.specs.Shape.{shape_of}
+use Rattle.tm_cir.specs.Fit.{FitBlocks}
+use Rattle.tm_cir.specs.Tree.{BlockTree}
+use Rattle.tm_struct.specs.Fit.{FitsProgram}
+use Rattle.tm_struct.specs.Tree.{ProgramTree}
 use Rattle.tm_report.specs.declared.ending.Bad.TheVariants as bad_file
 use Rattle.tm_report.specs.declared.ending.Ending.{Ending}
 use Rattle.tm_report.specs.declared.ending.Ending.TheVariants as endings
 use Rattle.tm_report.specs.declared.ending.Failure.TheVariants as failures
 use Rattle.tm_commands.specs.declared.stop.Stop.{Stop}
 use Rattle.tm_commands.specs.declared.stop.Stop.TheVariants.{Ends, Fails}
-use Rattle.tm_commands.specs.Inputs.{Tells, TellsSpecification, TellsCert}
+use Rattle.tm_commands.specs.Inputs.{Tells, TellsSpecification, TellsBlocks, TellsCert, TellsStructured}
 
 -- a file was read as the text of this design; where the files tell, it is what they tell
 pub record IsRead (tells : Bool) (contents : List ℕ → Option (List ℕ)) (spec : List ℕ) (d : DesignTree)
@@ -34,6 +38,20 @@ pub record IsMigration (tells : Bool) (contents : List ℕ → Option (List ℕ)
   pub shaped : shape ≡ shape_of design Either
   pub specified : IsTrue tells → TellsSpecification contents spec design
   pub certified : IsTrue tells → TellsCert contents cert design Either c
+
+-- two files were read as a design and blocks that fit it; where the files tell, they are what they tell
+pub record IsStructureRead (tells : Bool) (contents : List ℕ → Option (List ℕ)) (spec driver : List ℕ)
+    (d : DesignTree) (bs : List BlockTree) : Type 0 where
+  pub fits : FitBlocks d bs
+  pub specified : IsTrue tells → TellsSpecification contents spec d
+  pub told : IsTrue tells → TellsBlocks contents driver d bs
+
+-- so as a design and a structured driver that is well made over it
+pub record IsUnstructureRead (tells : Bool) (contents : List ℕ → Option (List ℕ)) (spec struct : List ℕ)
+    (d : DesignTree) (p : ProgramTree) : Type 0 where
+  pub fits : FitsProgram d p
+  pub specified : IsTrue tells → TellsSpecification contents spec d
+  pub told : IsTrue tells → TellsStructured contents struct d p
 
 -- what stops a command at a text that is not read: its fault, or want of memory
 abbrev pub refusal_of : FrontError → Stop

@@ -1,5 +1,5 @@
--- What `synth` does once SPEC was read as a design d: it writes what was found within a budget, and puts its lines. Here
--- `old` and `new` are the files before and after that, `sink` and `after` the output.
+-- What `synth` does once SPEC was read as a design d: it writes what was found within a budget, and puts its lines.
+-- Here `old` and `new` are the files before and after that, `sink` and `after` the output.
 use Rattle.std.specs.Prelude.{◌≡◌, ◌⊎◌, ◌++◌, ◌≤◌, ℕ, Option, Some, Result, List, [], ◌∷◌, IsTrue, IfOk, IfErr}
 use Rattle.tm_base.specs.Sink.{AppendsPrefix}
 use Rattle.tm_report.specs.Output.{SinkData, HasFailedPut}

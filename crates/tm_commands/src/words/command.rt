@@ -31,4 +31,14 @@ pub enum Command<'a> {
         cert: &'a str,
         out: &'a str,
     },
+    Structure {
+        spec: &'a str,
+        driver: &'a str,
+        out: &'a str,
+    },
+    Unstructure {
+        spec: &'a str,
+        structured: &'a str,
+        out: &'a str,
+    },
 }

@@ -3,8 +3,8 @@ ghost use Rattle.std.specs.Prelude.{◌≡◌, map, IfOk};
 ghost use Rattle.std.specs.Option.{option_map};
 ghost use Rattle.std.specs.String.{string_bytes};
 ghost use Rattle.tm_commands.specs.Words.{check_of, command_of, command_view, command_with as command_given};
-ghost use Rattle.tm_commands.specs.Words.{generate_of, migrate_of, plain_command_with as plain_command_given};
-ghost use Rattle.tm_commands.specs.Words.{run_of, synthesise_of};
+ghost use Rattle.tm_commands.specs.Words.{generate_of, plain_command_with as plain_command_given, synthesise_of};
+ghost use Rattle.tm_commands.specs.Words.{of_three, migrate, run, structure, unstructure};
 ghost use Rattle.tm_commands.specs.Inner.Splitting.{arguments_view};
 
 use crate::words::command::Command;
@@ -17,7 +17,7 @@ const MOST_REGISTERS: u32 = 12;
 
 /// The command `run` with its positional words.
 fn run_with<'a>(words: &[&'a str]) -> Option<Command<'a>>
-    ensures { option_map command_view result ≡ run_of (map (λ w. w.now) words.now) }
+    ensures { option_map command_view result ≡ of_three run (map (λ w. w.now) words.now) }
 {
     let [spec, driver, choices] = words else {
         return None;
@@ -65,12 +65,36 @@ fn generate_with<'a>(words: &[&'a str]) -> Option<Command<'a>>
 
 /// The command `migrate` with its positional words.
 fn migrate_with<'a>(words: &[&'a str]) -> Option<Command<'a>>
-    ensures { option_map command_view result ≡ migrate_of (map (λ w. w.now) words.now) }
+    ensures { option_map command_view result ≡ of_three migrate (map (λ w. w.now) words.now) }
 {
     let [spec, cert, out] = words else {
         return None;
     };
     Some(Command::Migrate { spec, cert, out })
+}
+
+/// The command `structure` with its positional words.
+fn structure_with<'a>(words: &[&'a str]) -> Option<Command<'a>>
+    ensures { option_map command_view result ≡ of_three structure (map (λ w. w.now) words.now) }
+{
+    let [spec, driver, out] = words else {
+        return None;
+    };
+    Some(Command::Structure { spec, driver, out })
+}
+
+/// The command `unstructure` with its positional words.
+fn unstructure_with<'a>(words: &[&'a str]) -> Option<Command<'a>>
+    ensures { option_map command_view result ≡ of_three unstructure (map (λ w. w.now) words.now) }
+{
+    let [spec, structured, out] = words else {
+        return None;
+    };
+    Some(Command::Unstructure {
+        spec,
+        structured,
+        out,
+    })
 }
 
 /// A command other than `synth`, with its positional words.
@@ -82,6 +106,8 @@ fn plain_command_with<'a>(command: &str, words: &[&'a str]) -> Option<Command<'a
         "check" => check_with(words),
         "gen" => generate_with(words),
         "migrate" => migrate_with(words),
+        "structure" => structure_with(words),
+        "unstructure" => unstructure_with(words),
         _ => None,
     }
 }

@@ -28,3 +28,15 @@ returns-in-Migrate-clause-counts g c =
     subst (λ (k : Command). OnlyCounts (IsDue (g.F.Files.contents c.args.files.now) (Some (command_view k)))
     (files_data g.F.Files c.args.files.now) (files_data g.F.Files c.migrate.new.files)) (sym c.in-Migrate.is)
     c.migrate.ensures.counts
+
+pub returns-in-Structure-clause-counts : goal.returns-in-Structure-clause-counts
+returns-in-Structure-clause-counts g c =
+    subst (λ (k : Command). OnlyCounts (IsDue (g.F.Files.contents c.args.files.now) (Some (command_view k)))
+    (files_data g.F.Files c.args.files.now) (files_data g.F.Files c.structure.new.files)) (sym c.in-Structure.is)
+    c.structure.ensures.counts
+
+pub returns-in-Unstructure-clause-counts : goal.returns-in-Unstructure-clause-counts
+returns-in-Unstructure-clause-counts g c =
+    subst (λ (k : Command). OnlyCounts (IsDue (g.F.Files.contents c.args.files.now) (Some (command_view k)))
+    (files_data g.F.Files c.args.files.now) (files_data g.F.Files c.unstructure.new.files)) (sym c.in-Unstructure.is)
+    c.unstructure.ensures.counts

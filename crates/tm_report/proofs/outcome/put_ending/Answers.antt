@@ -29,3 +29,19 @@ returns-in-Migrated-clause-err g c =
     err_as c.put_line-in-Migrated.result (IsTrue g.O.Sink.tells) c.migrated_line.result.now
     (ending_text c.args.ending.now) (g.O.Sink.written c.args.out.now) (g.O.Sink.written c.put_line-in-Migrated.new.out)
     (rw c.in-Migrated.is c.migrated_line.ensures) c.put_line-in-Migrated.ensures.err
+
+pub returns-in_ok-line-in-Structured-clause-err : goal.returns-in_ok-line-in-Structured-clause-err
+returns-in_ok-line-in-Structured-clause-err g c =
+    err_as c.put_line-in-Structured.result (IsTrue g.O.Sink.tells) c.deref-in-Structured.result.now
+    (ending_text c.args.ending.now) (g.O.Sink.written c.args.out.now)
+    (g.O.Sink.written c.put_line-in-Structured.new.out)
+    (rw c.in-Structured.is (c.deref-in-Structured.ensures.value ∙ c.in_ok-line-in-Structured.ensures))
+    c.put_line-in-Structured.ensures.err
+
+pub returns-in_ok-line-in-Unstructured-clause-err : goal.returns-in_ok-line-in-Unstructured-clause-err
+returns-in_ok-line-in-Unstructured-clause-err g c =
+    err_as c.put_line-in-Unstructured.result (IsTrue g.O.Sink.tells) c.deref-in-Unstructured.result.now
+    (ending_text c.args.ending.now) (g.O.Sink.written c.args.out.now)
+    (g.O.Sink.written c.put_line-in-Unstructured.new.out)
+    (rw c.in-Unstructured.is (c.deref-in-Unstructured.ensures.value ∙ c.in_ok-line-in-Unstructured.ensures))
+    c.put_line-in-Unstructured.ensures.err

@@ -25,9 +25,10 @@ end_with-requires g c = record { sound = c.in-Ok.ensures.read.is.sound; found = 
 
 pub returns-in-Ok-synthesise-clause-obeys : goal.returns-in-Ok-synthesise-clause-obeys
 returns-in-Ok-synthesise-clause-obeys g c =
-    synthesised_obeys c.args.spec.now c.args.name.now c.args.budget g.F.Files c.args.files.now c.load_specification.new.files
-    c.end_with.new.files g.O.Sink c.args.out.now c.end_with.new.out (design_tree c.in-Ok.design)
-    c.load_specification.ensures.files c.in-Ok.ensures.read c.end_with.result c.end_with.ensures
+    synthesised_obeys c.args.spec.now c.args.name.now c.args.budget g.F.Files c.args.files.now
+    c.load_specification.new.files c.end_with.new.files g.O.Sink c.args.out.now c.end_with.new.out
+    (design_tree c.in-Ok.design) c.load_specification.ensures.files c.in-Ok.ensures.read c.end_with.result
+    c.end_with.ensures
 
 pub returns-clause-obeys : goal.returns-clause-obeys
 returns-clause-obeys g c =

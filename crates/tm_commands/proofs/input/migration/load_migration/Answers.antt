@@ -3,7 +3,7 @@ use Rattle.tm_cert.specs.declared.shape.Kind.TheVariants.{Either}
 use Rattle.tm_syntax.specs.Design.View.{design_tree}
 use Rattle.tm_commands.specs.Inputs.{TellsCert, NoCert}
 use Rattle.tm_commands.specs.Migrate.{no_spec, no_cert, refuses_spec, refuses_cert}
-use Rattle.tm_commands.specs.Order.{IsDueOfTwo, first_is_due, cert_is_due}
+use Rattle.tm_commands.specs.Order.{IsDueOfTwo, first_is_due, second_is_due}
 use Rattle.tm_commands.specs.World.{files_data}
 use Rattle.tm_commands.proofs.Loading.{counts_later, counts_none, reads_none, reads_on, stops_later}
 use Rattle.tm_commands.proofs.Specifying.{specified, text_of}
@@ -39,7 +39,7 @@ returns-clause-stopped g c =
     (c.args.spec.now ∷ c.args.cert.now ∷ [])
     (IsDueOfTwo (g.F.Files.contents c.args.files.now) c.args.spec.now c.args.cert.now) c.args.cert.now
     c.in-Err-load_cert.no_cert (1, omega arith, refl)
-    (λ told. cert_is_due (specified c.in-Ok.ensures.read told)) c.load_specification.ensures.files
+    (λ told. second_is_due (specified c.in-Ok.ensures.read told)) c.load_specification.ensures.files
     (λ e told none. no_cert (specified c.in-Ok.ensures.read told)
     (subst (λ (f : List ℕ → Option (List ℕ)). NoCert f c.args.cert.now (design_tree c.in-Ok.design) Either e)
     c.load_specification.ensures.files.same_contents none))
@@ -74,7 +74,7 @@ returns-in-Ok-load_cert-clause-counts g c =
     (IsDueOfTwo (g.F.Files.contents c.args.files.now) c.args.spec.now c.args.cert.now) c.args.spec.now
     (counts_none (IsDueOfTwo (g.F.Files.contents c.args.files.now) c.args.spec.now c.args.cert.now) (files_data
     g.F.Files c.args.files.now)) (λ told. first_is_due) c.load_specification.ensures.counts)
-    (λ told. cert_is_due (specified c.in-Ok.ensures.read told)) c.load_cert.ensures.counts
+    (λ told. second_is_due (specified c.in-Ok.ensures.read told)) c.load_cert.ensures.counts
 
 pub returns-clause-counts : goal.returns-clause-counts
 returns-clause-counts g c =
@@ -84,4 +84,4 @@ returns-clause-counts g c =
     (IsDueOfTwo (g.F.Files.contents c.args.files.now) c.args.spec.now c.args.cert.now) c.args.spec.now
     (counts_none (IsDueOfTwo (g.F.Files.contents c.args.files.now) c.args.spec.now c.args.cert.now) (files_data
     g.F.Files c.args.files.now)) (λ told. first_is_due) c.load_specification.ensures.counts)
-    (λ told. cert_is_due (specified c.in-Ok.ensures.read told)) c.load_cert.ensures.counts
+    (λ told. second_is_due (specified c.in-Ok.ensures.read told)) c.load_cert.ensures.counts
