@@ -132,8 +132,8 @@ refusing_run runs.may_play = (λ is. is, λ is. is)
 
 refusing_synthesis : {budget : Option ℕ} {ending : Ending} → SynthesiseMayEnd budget ending → IsRefusing ending
 refusing_synthesis (may_not_be_specified refused) = refused_spec refused
-refusing_synthesis (may_have_driver ranks trace nodes) = (λ is. is, λ is. is)
-refusing_synthesis (may_have_none levels many chain trace) = (λ is. is, λ is. is)
+refusing_synthesis (may_have_driver ranks trace nodes within) = (λ is. is, λ is. is)
+refusing_synthesis (may_have_none levels many chain trace within) = (λ is. is, λ is. is)
 refusing_synthesis (may_have_spent n trace given) = (λ is. is, λ is. is)
 
 -- a driver is no environment

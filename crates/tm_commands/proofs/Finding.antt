@@ -129,8 +129,8 @@ budget_given budget n trace may = given (Budget n trace) may refl
   where
     given : (ending : Ending) → SynthesiseMayEnd budget ending → ending ≡ Budget n trace → budget ≡ Some n
     given _ (may_not_be_specified refuses_specification) is = absurd (cc)
-    given _ (may_have_driver ranks track nodes) is = absurd (cc)
-    given _ (may_have_none levels many chain track) is = absurd (cc)
+    given _ (may_have_driver ranks track nodes within) is = absurd (cc)
+    given _ (may_have_none levels many chain track within) is = absurd (cc)
     given _ (may_have_spent m track was) is = let same : m ≡ n = cc in was ∙ ap (λ (k : ℕ). Some k) same
 
 -- ---- what is found

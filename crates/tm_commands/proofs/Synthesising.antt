@@ -349,41 +349,42 @@ module _ (spec out : List ℕ) (budget : Option ℕ) {A : Type 0} (F : FilesGhos
   as_it_ends : (text : List ℕ) (ending : Ending) →
       Finishes d budget out (files_data F y) (files_data F z) text ending → IsTrue F.tells →
       SynthesiseEnds (F.contents x) spec budget text ending
-  as_it_ends _ _ (finds_driver ranks trace nodes found driver cert) tells =
+  as_it_ends _ _ (finds_driver ranks trace nodes within found driver cert) tells =
       has_driver {bs = found.blocks} ranks trace nodes (specified read tells) found.good found.honest
-  as_it_ends _ _ (finds_none levels many chain trace found cert same) tells =
+  as_it_ends _ _ (finds_none levels many chain trace within found cert same) tells =
       has_none levels many chain trace (specified read tells) (record { lost = found.lost; within = found.within })
       found.honest
   as_it_ends _ _ (spends n trace is spent same) tells = has_spent n trace is (specified read tells) spent
 
   may_end : (text : List ℕ) (ending : Ending) →
       Finishes d budget out (files_data F y) (files_data F z) text ending → SynthesiseMayEnd budget ending
-  may_end _ _ (finds_driver ranks trace nodes found driver cert) = may_have_driver ranks trace nodes
-  may_end _ _ (finds_none levels many chain trace found cert same) = may_have_none levels many chain trace
+  may_end _ _ (finds_driver ranks trace nodes within found driver cert) = may_have_driver ranks trace nodes within
+  may_end _ _ (finds_none levels many chain trace within found cert same) =
+      may_have_none levels many chain trace within
   may_end _ _ (spends n trace is spent same) = may_have_spent n trace is
 
   not_long : (text : List ℕ) (ending : Ending) →
       Finishes d budget out (files_data F y) (files_data F z) text ending →
       IsLongShown (files_data F x) (files_data F z) ending
-  not_long _ _ (finds_driver ranks trace nodes found driver cert) =
+  not_long _ _ (finds_driver ranks trace nodes within found driver cert) =
       record { specification = λ is. cc; file = λ name is. cc }
-  not_long _ _ (finds_none levels many chain trace found cert same) =
+  not_long _ _ (finds_none levels many chain trace within found cert same) =
       record { specification = λ is. cc; file = λ name is. cc }
   not_long _ _ (spends n trace is spent same) = record { specification = λ is. cc; file = λ name is. cc }
 
   as_it_leaves : (text : List ℕ) (ending : Ending) →
       Finishes d budget out (files_data F y) (files_data F z) text ending → IsTrue F.tells →
       SynthesiseLeaves (F.contents x) (F.contents z) spec out ending
-  as_it_leaves _ _ (finds_driver {driver = text} {cert = bytes} ranks trace nodes found driver cert) tells = record {
+  as_it_leaves _ _ (finds_driver {driver = text} {cert = told} ranks trace nodes few found driver cert) tells = record {
     design = d;
     driver = text;
-    cert = bytes;
+    cert = told;
     specified = specified read tells;
     driver_told = driver tells;
     cert_told = cert tells;
     found = found;
   }
-  as_it_leaves _ _ (finds_none {cert = certificate} levels many chain trace found cert same) tells = record {
+  as_it_leaves _ _ (finds_none {cert = certificate} levels many chain trace within found cert same) tells = record {
     design = d;
     cert = certificate;
     specified = specified read tells;

@@ -3,7 +3,7 @@
 use Rattle.std.specs.Prelude.{◌≡◌, ℕ, ◌+◌, ◌*◌, Option, Some, List, [], ◌++◌, codes}
 use Rattle.tm_cir.specs.Answer.{Answers}
 use Rattle.tm_cir.specs.Tree.{BlockTree}
-use Rattle.tm_refine.specs.Decided.{IsHonest}
+use Rattle.tm_refine.specs.Decided.{IsHonest, IsWithin}
 use Rattle.tm_refine.specs.declared.trace.Trace.{Trace}
 use Rattle.tm_report.specs.Report.{budget_text, driver_found_text, environment_found_text}
 use Rattle.tm_report.specs.declared.ending.Ending.{Ending}
@@ -41,11 +41,12 @@ pub data SynthesiseEnds (contents : List ℕ → Option (List ℕ)) (spec : List
       IsBudgetSpent d budget trace →
       SynthesiseEnds contents spec budget (budget_text d n trace) (Budget n trace)
 
--- the ends that it may have, whatever SPEC holds
+-- the ends that it may have, whatever SPEC holds; no more predicates are added than the budget allows
 pub data SynthesiseMayEnd (budget : Option ℕ) : Ending → Type 0 where
   may_not_be_specified : {ending : Ending} → RefusesSpecification ending → SynthesiseMayEnd budget ending
-  may_have_driver : (ranks : List ℕ) (trace : Trace) (nodes : ℕ) → SynthesiseMayEnd budget (Driver ranks trace nodes)
-  may_have_none : (levels many chain : ℕ) (trace : Trace) →
+  may_have_driver : (ranks : List ℕ) (trace : Trace) (nodes : ℕ) → IsWithin budget trace →
+      SynthesiseMayEnd budget (Driver ranks trace nodes)
+  may_have_none : (levels many chain : ℕ) (trace : Trace) → IsWithin budget trace →
       SynthesiseMayEnd budget (Environment levels many chain trace)
   may_have_spent : (n : ℕ) (trace : Trace) → budget ≡ Some n → SynthesiseMayEnd budget (Budget n trace)
 

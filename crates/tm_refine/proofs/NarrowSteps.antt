@@ -3,7 +3,7 @@ use Rattle.std.proofs.Common.{◌≡◌, ℕ, suc, ◌+◌, ◌-◌, ◌<◌, �
 use Rattle.std.specs.List.{range_with_len}
 use Rattle.std.specs.Prelude.{MatchOption}
 use Rattle.std.proofs.Math.Seq.{take-length}
-use Rattle.std.proofs.lemmas.List.{length-take-le}
+use Rattle.std.proofs.lemmas.List.{length-take, length-take-le}
 use Rattle.std.proofs.lemmas.List.FromFn.{length-range_with_len}
 use Rattle.tm_solve.specs.declared.iterates.Iterates.{Iterates}
 use Rattle.tm_refine.specs.declared.trace.Added.{Added}
@@ -24,7 +24,7 @@ use Rattle.tm_refine.proofs.RoundSides.{all_kept, driver_sets_stay, levels_of_st
 use Rattle.tm_refine.proofs.HandDown.{failed_below, failed_longer, honest_take, undecided_of}
 use Rattle.std.proofs.Common.{Vec, Global}
 use Rattle.tm_syntax.specs.Design.Atoms.{first_atoms}
-use Rattle.tm_refine.specs.Decided.{IsHonest, IsSpent, numbers_of}
+use Rattle.tm_refine.specs.Decided.{IsHonest, IsSpent, IsWithin, numbers_of}
 use Rattle.tm_refine.specs.Searching.{AreUnions, IsNamed}
 use Rattle.tm_refine.proofs.DecideSteps.{room_first, tracked_first}
 
@@ -280,3 +280,17 @@ pub region_kept : (g h k : Game) (a b c : Ids) (kept kept' : NodeId) → Stay a 
     Holds k.states (c.means kept') (InRegion k)
 region_kept g h k a b c kept kept' stay first second known is holds =
     holds_kept h k (b.means kept) (c.means kept') second is.means (region_same g h a b kept stay first known holds)
+
+-- ---- within a budget
+-- the first so many additions are no more
+few_taken : (k : ℕ) (added : List Added) → length (take k added) ≤ k
+few_taken k added = let n = length-take k added in omega (arith, n)
+
+-- so a trace of them is within a budget that allows as many
+pub cut_within : (k n : ℕ) → k ≤ n → (first : ℕ) (added : List Added) (rest : Vec Added Global) →
+    rest.items ≡ take k added → (budget : Option ℕ) → budget ≡ Some n →
+    IsWithin budget (record { first = first; added = rest })
+cut_within k n allowed first added rest is budget all =
+    let taken : length rest.items ≤ k = subst (λ (l : List Added). length l ≤ k) (sym is) (few_taken k added) in
+    let few : length rest.items ≤ n = omega arith in
+    subst (λ (b : Option ℕ). IsWithin b (record { first = first; added = rest })) (sym all) few

@@ -1,6 +1,6 @@
 -- What a decision says of a design: who wins, over which predicates, and why these were tracked.
 -- d a design, t a trace of predicates, ids what the ids of a solution mean.
-use Rattle.std.specs.Prelude.{◌≡◌, ℕ, ◌<◌, List, Option, Some, length}
+use Rattle.std.specs.Prelude.{◌≡◌, ℕ, ◌<◌, ◌≤◌, List, Option, None, Some, length}
 use Rattle.std.specs.List.{range_with_len}
 use Rattle.tm_flat_pool.specs.Cells.{AreDriverUnions, AreLevelUnions, Undecided}
 use Rattle.tm_flat_pool.specs.Predicates.{pool}
@@ -42,6 +42,17 @@ IsDecided d budget ids (decision.Environment it t) =
     IsHonest d t × MeetsEnvironment d (levels_of ids it)
     × AreLevelUnions d (predicates_at (pool d) (numbers_of t)) (levels_of ids it)
 IsDecided d budget ids (decision.Spent t) = IsHonest d t × IsSpent d budget t
+
+-- no more predicates were added than a budget allows
+abbrev pub IsWithin : Option ℕ → Trace → Type 0
+IsWithin None t = Unit {0}
+IsWithin (Some n) t = length t.added.items ≤ n
+
+-- nor does a decision add more, whatever it is
+abbrev pub KeepsTo : Option ℕ → Decision → Type 0
+KeepsTo budget (decision.Driver it t) = IsWithin budget t
+KeepsTo budget (decision.Environment it t) = IsWithin budget t
+KeepsTo budget (decision.Spent t) = IsWithin budget t
 
 -- the ids of a decision are known
 abbrev pub KnowsDecision : Ids → Decision → Type 0

@@ -1,6 +1,6 @@
 //! The decision: the exact game names the side that wins, and only that side is solved over cells.
 ghost use Rattle.std.specs.Prelude.{◌≡◌, ◌<◌, ℕ, IfOk, List};
-ghost use Rattle.tm_refine.specs.Decided.{IsDecided, KnowsDecision};
+ghost use Rattle.tm_refine.specs.Decided.{IsDecided, KeepsTo, KnowsDecision};
 ghost use Rattle.tm_refine.specs.Searching.{IsFirst, IsSearching, NoOther};
 ghost use Rattle.tm_solve.specs.Iterates.{KnowsAll};
 ghost use Rattle.tm_syntax.specs.Design.{DesignTree};
@@ -30,6 +30,7 @@ pub fn decide<A: Arena>(
     requires of { (d : DesignTree) × (A.ids sided.old.arena).of d }
     ensures decided { IfOk result (λ r. (d : DesignTree) → (A.ids sided.old.arena).of d
         → IsDecided d budget (A.ids sided.new.arena) r) }
+    ensures within { IfOk result (KeepsTo budget) }
     ensures known { IfOk result (KnowsDecision (A.ids sided.new.arena)) }
     ensures designs { (d : DesignTree) → (A.ids sided.old.arena).of d → (A.ids sided.new.arena).of d }
 {
@@ -55,6 +56,7 @@ fn finish<A: Arena>(
         → IsSearching d first tracked added.items
         → IsFirst d first added.items sided.now.upper (A.ids sided.now.arena) best.it best.count
         → IsDecided d budget (A.ids sided.now.arena) result }
+    ensures within { KeepsTo budget result }
     ensures known { KnowsAll (A.ids sided.now.arena) best.it → KnowsDecision (A.ids sided.now.arena) result }
 {
     let mut added = added;

@@ -7,7 +7,7 @@ use Rattle.tm_game.specs.Game.{GameData}
 use Rattle.tm_game_bits.proofs.Orders.{length_order}
 use Rattle.tm_game_pool.specs.Pooled.{HasPool}
 use Rattle.tm_judge.specs.Ordered.{IsOrderedGame}
-use Rattle.tm_refine.specs.Decided.{IsDecided, KnowsDecision}
+use Rattle.tm_refine.specs.Decided.{IsDecided, KeepsTo, KnowsDecision}
 use Rattle.tm_refine.specs.Pooled.{CanDecide, pool_ids}
 use Rattle.tm_refine.specs.declared.trace.Decision.{Decision}
 use Rattle.tm_refine.specs.declared.trace.Decision.TheVariants as decisions
@@ -76,11 +76,13 @@ exact_decided d budget g (decisions.Spent t) is = is
 
 pub game_decided : (d : DesignTree) (budget : Option ℕ) (order : List ℕ) (made solved g h : GameData) (r : Decision) →
     solved ≡ made → IsOrderedGame d order made → IsExactOf d solved → CanDecide d g →
-    IsDecided d budget (pool_ids g) r → KnowsDecision (pool_ids g) r → h ≡ g → IsGameDecided d budget h r
-game_decided d budget order made solved g h r same ordered was can is known there =
+    IsDecided d budget (pool_ids g) r → KeepsTo budget r → KnowsDecision (pool_ids g) r → h ≡ g →
+    IsGameDecided d budget h r
+game_decided d budget order made solved g h r same ordered was can is within known there =
     subst (λ (x : GameData). IsGameDecided d budget x r) (sym there)
     (record {
       decided = exact_decided d budget g r is;
+      within = within;
       known = exact_known g r known;
       exact = can.solve.exact;
       sized = still_sized d order solved g (subst (IsOrderedGame d order) (sym same) ordered) was can.solve.exact;

@@ -11,7 +11,7 @@ use Rattle.tm_cir.specs.Tree.{BlockTree}
 use Rattle.tm_flat_pool.specs.Cells.{AreDriverUnions, AreLevelUnions}
 use Rattle.tm_flat_pool.specs.Predicates.{pool}
 use Rattle.tm_game_pool.specs.Separating.{predicates_at}
-use Rattle.tm_refine.specs.Decided.{IsHonest, IsSpent, numbers_of}
+use Rattle.tm_refine.specs.Decided.{IsHonest, IsSpent, IsWithin, numbers_of}
 use Rattle.tm_refine.specs.declared.trace.Trace.{Trace}
 use Rattle.tm_sem.specs.Certificates.{MeetsDriver, MeetsEnvironment, longest_chain}
 use Rattle.tm_sem.specs.Fairness.{conditions}
@@ -72,3 +72,9 @@ abbrev pub IsFound : DesignTree → Option ℕ → Synthesis → Type 0
 IsFound d budget (Driver f) = IsDriverFound d f.driver.items f.cert.items f.ranks.items f.nodes f.trace
 IsFound d budget (Environment f) = IsEnvironmentFound d f.cert.items f.levels f.conditions f.chain f.trace
 IsFound d budget (Spent trace) = IsBudgetSpent d budget trace
+
+-- no more predicates were added than the budget allows, whatever is found
+abbrev pub KeepsTo : Option ℕ → Synthesis → Type 0
+KeepsTo budget (Driver f) = IsWithin budget f.trace
+KeepsTo budget (Environment f) = IsWithin budget f.trace
+KeepsTo budget (Spent trace) = IsWithin budget trace

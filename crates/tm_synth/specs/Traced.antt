@@ -6,7 +6,7 @@ use Rattle.tm_flat_pool.specs.Cells.{AreDriverUnions, AreLevelUnions}
 use Rattle.tm_flat_pool.specs.Predicates.{pool}
 use Rattle.tm_game.specs.Game.{GameData}
 use Rattle.tm_game_pool.specs.Separating.{predicates_at}
-use Rattle.tm_refine.specs.Decided.{IsDecided, IsHonest, KnowsDecision, numbers_of}
+use Rattle.tm_refine.specs.Decided.{IsDecided, IsHonest, KeepsTo, KnowsDecision, numbers_of}
 use Rattle.tm_refine.specs.declared.trace.Decision.{Decision}
 use Rattle.tm_refine.specs.declared.trace.Trace.{Trace}
 use Rattle.tm_sem.specs.Certificates.{DriverSets, Level}
@@ -26,6 +26,7 @@ pub record TracesLevels (d : DesignTree) (trace : Trace) (levels : List Level) :
 -- what was decided of a design within a budget, over a game of the design from whose sets blocks can be made
 pub record IsGameDecided (d : DesignTree) (budget : Option ℕ) (g : GameData) (decision : Decision) : Type 0 where
   pub decided : IsDecided d budget (exact_ids g) decision
+  pub within : KeepsTo budget decision
   pub known : KnowsDecision (exact_ids g) decision
   pub exact : IsExactOf d g
   pub sized : IsSized g

@@ -5,6 +5,7 @@ ghost use Rattle.tm_cir.specs.Answer.{Answers};
 ghost use Rattle.tm_cir.specs.Tree.{BlockTree};
 ghost use Rattle.tm_cir.specs.View.{trees_of};
 ghost use Rattle.tm_judge.specs.Judged.{CanJudgeDriver};
+ghost use Rattle.tm_refine.specs.Decided.{IsWithin};
 ghost use Rattle.tm_refine.specs.declared.trace.Trace as traces;
 ghost use Rattle.tm_sem.specs.Certificates.{MeetsDriver, MeetsMoveForm};
 ghost use Rattle.tm_solve.specs.Iterates as solution;
@@ -13,7 +14,7 @@ ghost use Rattle.tm_solve_exact.specs.Exact.{IsExactOf, exact_ids};
 ghost use Rattle.tm_syntax.specs.Design.{DesignTree};
 ghost use Rattle.tm_syntax.specs.Design.View.{design_tree};
 ghost use Rattle.tm_syntax.specs.Faults.{IsOfText, IsSound};
-ghost use Rattle.tm_synth.specs.Found.{IsDriverFound, IsFound};
+ghost use Rattle.tm_synth.specs.Found.{IsDriverFound, IsFound, KeepsTo};
 ghost use Rattle.tm_synth.specs.Shown.{IsDriverShown, IsWeightOrder};
 ghost use Rattle.tm_synth.specs.Traced.{TracesDriver};
 ghost use Rattle.tm_synth.specs.Written.{IsWrittenDriver};
@@ -180,9 +181,10 @@ fn judged(
 
 // The files of these texts.
 fn files_of(texts: Texts, trace: Trace) -> DriverFiles
-    ensures { (d : DesignTree)
+    ensures found { (d : DesignTree)
         → IsDriverFound d texts.driver.items texts.cert.bytes.items texts.ranks.items texts.cert.nodes trace
         → IsDriverFound d result.driver.items result.cert.items result.ranks.items result.nodes result.trace }
+    ensures trace { result.trace ≡ trace }
 {
     let Texts {
         driver,
@@ -219,7 +221,8 @@ pub(crate) fn driver_files(
     requires meets { MeetsMoveForm (design_tree design.now) (solution.driver_sets (exact_ids game) iterates.now) }
     requires traced { TracesDriver (design_tree design.now) trace
         (solution.driver_sets (exact_ids game) iterates.now) }
-    ensures { (budget : Option ℕ) → IfOk result (IsFound (design_tree design.now) budget) }
+    ensures found { (budget : Option ℕ) → IfOk result (IsFound (design_tree design.now) budget) }
+    ensures within { (budget : Option ℕ) → IsWithin budget trace → IfOk result (KeepsTo budget) }
 {
     let made = match certify(alloc, design, game, iterates) {
         Ok(made) => made,

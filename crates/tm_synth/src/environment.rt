@@ -7,7 +7,8 @@ ghost use Rattle.tm_solve.specs.Iterates.{KnowsAll};
 ghost use Rattle.tm_solve_exact.specs.Exact.{IsExactOf, exact_ids};
 ghost use Rattle.tm_syntax.specs.Design.View.{design_tree};
 ghost use Rattle.tm_syntax.specs.Faults.{IsOfText, IsSound};
-ghost use Rattle.tm_synth.specs.Found.{IsFound};
+ghost use Rattle.tm_refine.specs.Decided.{IsWithin};
+ghost use Rattle.tm_synth.specs.Found.{IsFound, KeepsTo};
 ghost use Rattle.tm_synth.specs.Shown.{IsEnvironmentShown, IsWeightOrder};
 ghost use Rattle.tm_synth.specs.Traced.{TracesLevels};
 ghost use Rattle.tm_synth.specs.Written.{IsWrittenLoss};
@@ -83,7 +84,8 @@ pub(crate) fn environment_files(
         (solution.levels_of (exact_ids game.now) iterates.now) }
     requires traced { TracesLevels (design_tree design.now) trace
         (solution.levels_of (exact_ids game.now) iterates.now) }
-    ensures { (budget : Option ℕ) → IfOk result (IsFound (design_tree design.now) budget) }
+    ensures found { (budget : Option ℕ) → IfOk result (IsFound (design_tree design.now) budget) }
+    ensures within { (budget : Option ℕ) → IsWithin budget trace → IfOk result (KeepsTo budget) }
 {
     let made = match environment_cert(alloc, game, iterates) {
         Ok(made) => made,

@@ -4,7 +4,7 @@ ghost use Rattle.tm_game_bits.specs.Order.{IsOrder};
 ghost use Rattle.tm_sem.specs.StateBits.{state_widths};
 ghost use Rattle.tm_syntax.specs.Design.View.{design_tree};
 ghost use Rattle.tm_syntax.specs.Faults.{IsOfText, IsSound};
-ghost use Rattle.tm_synth.specs.Found.{IsFound};
+ghost use Rattle.tm_synth.specs.Found.{IsFound, KeepsTo};
 ghost use Rattle.tm_synth.specs.Shown.{IsWeightOrder};
 ghost use Rattle.tm_synth.specs.Traced.{IsGameDecided};
 ghost use Rattle.tm_verdict.specs.Regular.{IsRegular};
@@ -81,8 +81,10 @@ fn files_of(
     requires regular { IsRegular (design_tree design.now) }
     requires decided { (budget : Option ℕ) × IsGameDecided (design_tree design.now) budget decided.game
         decided.decision }
-    ensures { (budget : Option ℕ) → IsGameDecided (design_tree design.now) budget decided.game decided.decision
+    ensures found { (budget : Option ℕ) → IsGameDecided (design_tree design.now) budget decided.game decided.decision
         → IfOk result (IsFound (design_tree design.now) budget) }
+    ensures within { (budget : Option ℕ) → IsGameDecided (design_tree design.now) budget decided.game decided.decision
+        → IfOk result (KeepsTo budget) }
 {
     let DecidedGame { game, decision } = decided;
     match decision {
@@ -117,7 +119,8 @@ pub fn synthesise(
 ) -> Result<Synthesis, AllocError>
     requires sound { IsSound (design_tree design.now) }
     requires of_text { IsOfText (design_tree design.now).spec }
-    ensures { IfOk result (IsFound (design_tree design.now) budget) }
+    ensures found { IfOk result (IsFound (design_tree design.now) budget) }
+    ensures within { IfOk result (KeepsTo budget) }
 {
     sound_designs_of_texts_are_regular();
     let orders = match orders_of(alloc, design) {

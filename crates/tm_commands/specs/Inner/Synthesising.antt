@@ -3,6 +3,7 @@
 use Rattle.std.specs.Prelude.{◌≡◌, ◌⊎◌, ◌++◌, ◌≤◌, ℕ, Option, Some, Result, List, [], ◌∷◌, IsTrue, IfOk, IfErr}
 use Rattle.tm_base.specs.Sink.{AppendsPrefix}
 use Rattle.tm_report.specs.Output.{SinkData, HasFailedPut}
+use Rattle.tm_refine.specs.Decided.{IsWithin}
 use Rattle.tm_refine.specs.declared.trace.Trace.{Trace}
 use Rattle.tm_report.specs.Report.{budget_text, driver_found_text, environment_found_text}
 use Rattle.tm_report.specs.declared.ending.Ending.{Ending}
@@ -21,11 +22,13 @@ use Rattle.tm_commands.specs.World.{FilesData, HasFailedWrite, OnlyTouches}
 pub data Finishes (d : DesignTree) (budget : Option ℕ) (out : List ℕ) (old new : FilesData) :
     List ℕ → Ending → Type 0 where
   finds_driver : {driver cert : List ℕ} (ranks : List ℕ) (trace : Trace) (nodes : ℕ) →
+      IsWithin budget trace →
       IsDriverFound d driver cert ranks nodes trace →
       (IsTrue old.tells → Tells new.contents (driver_name out) driver) →
       (IsTrue old.tells → Tells new.contents (cert_name out) cert) →
       Finishes d budget out old new (driver_found_text d ranks trace nodes) (Driver ranks trace nodes)
   finds_none : {cert : List ℕ} (levels many chain : ℕ) (trace : Trace) →
+      IsWithin budget trace →
       IsEnvironmentFound d cert levels many chain trace →
       (IsTrue old.tells → Tells new.contents (cert_name out) cert) →
       new.contents (driver_name out) ≡ old.contents (driver_name out) →

@@ -8,8 +8,9 @@ ghost use Rattle.tm_commands.specs.Synthesise.{cert_name, driver_name};
 ghost use Rattle.tm_commands.specs.Order.{IsDue};
 ghost use Rattle.tm_commands.specs.Words.{synthesise as synthesise_words};
 ghost use Rattle.tm_commands.specs.World.{FilesData, OnlyCounts, OnlyTouches, OnlyWrites, files_data};
+ghost use Rattle.tm_refine.specs.Decided.{IsWithin};
 ghost use Rattle.tm_report.specs.Output.{sink_data};
-ghost use Rattle.tm_synth.specs.Found.{IsBudgetSpent, IsDriverFound, IsEnvironmentFound, IsFound};
+ghost use Rattle.tm_synth.specs.Found.{IsBudgetSpent, IsDriverFound, IsEnvironmentFound, IsFound, KeepsTo};
 ghost use Rattle.tm_syntax.specs.Design.View.{design_tree};
 ghost use Rattle.tm_syntax.specs.Faults.{IsSound};
 
@@ -86,7 +87,7 @@ fn end_with_driver<F: Files, O: Sink>(
     requires sound { IsSound (design_tree design.now) }
     requires found { IsDriverFound (design_tree design.now) made.driver.items made.cert.items made.ranks.items
         made.nodes made.trace }
-    ensures { (budget : Option ℕ) → Synthesises (design_tree design.now) budget name.now
+    ensures { (budget : Option ℕ) → IsWithin budget made.trace → Synthesises (design_tree design.now) budget name.now
         (files_data ⟦<F as Files>⟧ files.old) (files_data ⟦<F as Files>⟧ files.new)
         (sink_data ⟦<O as Sink>⟧ out.old) (sink_data ⟦<O as Sink>⟧ out.new) result }
 {
@@ -116,7 +117,7 @@ fn end_with_environment<F: Files, O: Sink>(
 ) -> Result<Ending, Failure>
     requires { IsEnvironmentFound (design_tree design.now) made.cert.items made.levels made.conditions made.chain
         made.trace }
-    ensures { (budget : Option ℕ) → Synthesises (design_tree design.now) budget name.now
+    ensures { (budget : Option ℕ) → IsWithin budget made.trace → Synthesises (design_tree design.now) budget name.now
         (files_data ⟦<F as Files>⟧ files.old) (files_data ⟦<F as Files>⟧ files.new)
         (sink_data ⟦<O as Sink>⟧ out.old) (sink_data ⟦<O as Sink>⟧ out.new) result }
 {
@@ -166,6 +167,7 @@ fn end_with<F: Files, O: Sink>(
 ) -> Result<Ending, Failure>
     requires sound { IsSound (design_tree design.now) }
     requires found { IsFound (design_tree design.now) budget found }
+    requires within { KeepsTo budget found }
     ensures { Synthesises (design_tree design.now) budget name.now
         (files_data ⟦<F as Files>⟧ files.old) (files_data ⟦<F as Files>⟧ files.new)
         (sink_data ⟦<O as Sink>⟧ out.old) (sink_data ⟦<O as Sink>⟧ out.new) result }

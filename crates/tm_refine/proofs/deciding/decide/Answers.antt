@@ -59,3 +59,6 @@ returns-clause-decided g c = λ d of.
 
 pub returns-clause-known : goal.returns-clause-known
 returns-clause-known g c = c.finish.ensures.known c.in_ok-best.ensures.known
+
+pub returns-clause-within : goal.returns-clause-within
+returns-clause-within g c = c.finish.ensures.within

@@ -15,10 +15,13 @@ pub judged-text-requires-clause-meets : goal.judged-text-requires-clause-meets
 judged-text-requires-clause-meets c =
     (c.in-Ok.ensures.meets (design_tree c.args.design.now) c.requires.exact.ordered.of).1 c.requires.meets
 
-pub returns-in-Ok-text : goal.returns-in-Ok-text
-returns-in-Ok-text c = λ budget.
+pub returns-in-Ok-text-clause-found : goal.returns-in-Ok-text-clause-found
+returns-in-Ok-text-clause-found c = λ budget.
     let d = design_tree c.args.design.now in
     loss_found d c.in-Ok.made c.in-Ok-text.ensures.shown c.in-Ok-text.cert.items _ _ _ c.in-Ok-text.ensures.written
     (search rules) (ap length c.fairs.ensures.value ∙ c.fairs.ensures.count d c.requires.exact.ordered.of)
     (c.longest_chain-chain.ensures d) c.args.trace
     (levels_traced d c.args.trace _ _ (c.in-Ok.ensures.sets d c.requires.exact.ordered.of) c.requires.traced)
+
+pub returns-in-Ok-text-clause-within : goal.returns-in-Ok-text-clause-within
+returns-in-Ok-text-clause-within c = λ budget within. within

@@ -46,5 +46,6 @@ returns-in-Ok-decide c =
     c.requires.regular c.requires.sound.numbered) in
     game_decided d c.args.budget c.args.order.now c.in-Ok.game c.new.result.game
     c.decide.new.sided.arena.exact.game c.game_of.result c.in-Ok-decide.decision c.new.ensures.game c.in-Ok.ensures
-    made (c.decide.ensures.designs d before) (c.in-Ok-decide.ensures.decided d before) c.in-Ok-decide.ensures.known
+    made (c.decide.ensures.designs d before) (c.in-Ok-decide.ensures.decided d before) c.in-Ok-decide.ensures.within
+    c.in-Ok-decide.ensures.known
     c.game_of.ensures

@@ -1,7 +1,7 @@
 use Rattle.std.proofs.Common.{Option, ℕ, subst, sym}
 use Rattle.tm_report.specs.Output.{sink_data}
 use Rattle.tm_syntax.specs.Design.View.{design_tree}
-use Rattle.tm_synth.specs.Found.{IsFound}
+use Rattle.tm_synth.specs.Found.{IsFound, KeepsTo}
 use Rattle.tm_synth.specs.declared.found.Synthesis.{Synthesis}
 use Rattle.tm_commands.specs.Inner.Synthesising.{Synthesises}
 use Rattle.tm_commands.specs.World.{files_data}
@@ -12,7 +12,9 @@ end_with_driver-requires-clause-found g c =
     subst (λ (s : Synthesis). IsFound (design_tree c.args.design.now) c.args.budget s) c.in-Driver.is c.requires.found
 
 pub returns-in-Driver : goal.returns-in-Driver
-returns-in-Driver g c = c.end_with_driver.ensures c.args.budget
+returns-in-Driver g c =
+    c.end_with_driver.ensures c.args.budget
+    (subst (λ (s : Synthesis). KeepsTo c.args.budget s) c.in-Driver.is c.requires.within)
 
 pub end_with_environment-requires : goal.end_with_environment-requires
 end_with_environment-requires g c =
@@ -20,7 +22,9 @@ end_with_environment-requires g c =
     c.requires.found
 
 pub returns-in-Environment : goal.returns-in-Environment
-returns-in-Environment g c = c.end_with_environment.ensures c.args.budget
+returns-in-Environment g c =
+    c.end_with_environment.ensures c.args.budget
+    (subst (λ (s : Synthesis). KeepsTo c.args.budget s) c.in-Environment.is c.requires.within)
 
 pub returns-in-Some : goal.returns-in-Some
 returns-in-Some g c =

@@ -11,7 +11,7 @@ use Rattle.tm_commands.proofs.commands.synthesise.end_with_driver.Goals as goal
 
 pub returns-in-Err : goal.returns-in-Err
 returns-in-Err g c =
-    λ budget. unwritten_synthesises (design_tree c.args.design.now) budget c.args.name.now
+    λ budget within. unwritten_synthesises (design_tree c.args.design.now) budget c.args.name.now
     (files_data g.F.Files c.args.files.now) (files_data g.F.Files c.write_driver.new.files)
     (sink_data g.O.Sink c.args.out.now) c.args.made.ranks.items c.args.made.trace c.args.made.nodes c.in-Err.unwritten
     c.requires.found c.write_driver.ensures.files c.in-Err.ensures.failure
@@ -24,12 +24,12 @@ put_driver-requires g c =
 
 pub returns-in-Ok-put_driver : goal.returns-in-Ok-put_driver
 returns-in-Ok-put_driver g c =
-    λ budget. put_synthesises (design_tree c.args.design.now) budget c.args.name.now
+    λ budget within. put_synthesises (design_tree c.args.design.now) budget c.args.name.now
     (files_data g.F.Files c.args.files.now) (files_data g.F.Files c.write_driver.new.files)
     (driver_found_text (design_tree c.args.design.now) c.args.made.ranks.items c.args.made.trace c.args.made.nodes)
     (Driver c.args.made.ranks.items c.args.made.trace c.args.made.nodes)
-    (finds_driver c.args.made.ranks.items c.args.made.trace c.args.made.nodes c.requires.found c.in-Ok.ensures.driver
-    c.in-Ok.ensures.cert)
+    (finds_driver c.args.made.ranks.items c.args.made.trace c.args.made.nodes within c.requires.found
+    c.in-Ok.ensures.driver c.in-Ok.ensures.cert)
     c.write_driver.ensures.files (sink_data g.O.Sink c.args.out.now) (sink_data g.O.Sink c.put_driver.new.out)
     c.put_driver.result _ c.in-Ok-put_driver.is
     (subst
@@ -40,12 +40,12 @@ returns-in-Ok-put_driver g c =
 
 pub returns-in-Err-put_driver : goal.returns-in-Err-put_driver
 returns-in-Err-put_driver g c =
-    λ budget. cut_synthesises (design_tree c.args.design.now) budget c.args.name.now
+    λ budget within. cut_synthesises (design_tree c.args.design.now) budget c.args.name.now
     (files_data g.F.Files c.args.files.now) (files_data g.F.Files c.write_driver.new.files)
     (driver_found_text (design_tree c.args.design.now) c.args.made.ranks.items c.args.made.trace c.args.made.nodes)
     (Driver c.args.made.ranks.items c.args.made.trace c.args.made.nodes)
-    (finds_driver c.args.made.ranks.items c.args.made.trace c.args.made.nodes c.requires.found c.in-Ok.ensures.driver
-    c.in-Ok.ensures.cert)
+    (finds_driver c.args.made.ranks.items c.args.made.trace c.args.made.nodes within c.requires.found
+    c.in-Ok.ensures.driver c.in-Ok.ensures.cert)
     c.write_driver.ensures.files (sink_data g.O.Sink c.args.out.now) (sink_data g.O.Sink c.put_driver.new.out)
     c.put_driver.result c.in-Err-put_driver.failure c.in-Err-put_driver.is
     (subst

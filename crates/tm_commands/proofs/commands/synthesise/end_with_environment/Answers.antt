@@ -12,19 +12,19 @@ use Rattle.tm_commands.proofs.commands.synthesise.end_with_environment.Goals as 
 
 pub returns-in-Err : goal.returns-in-Err
 returns-in-Err g c =
-    λ budget. loss_unwritten_synthesises (design_tree c.args.design.now) budget c.args.name.now
+    λ budget within. loss_unwritten_synthesises (design_tree c.args.design.now) budget c.args.name.now
     (files_data g.F.Files c.args.files.now) (files_data g.F.Files c.write_with.new.files)
     (sink_data g.O.Sink c.args.out.now) c.in-Err.unwritten c.requires.lost
     c.write_with.ensures.files c.in-Err.ensures.failure
 
 pub returns-in-Ok-put_environment : goal.returns-in-Ok-put_environment
 returns-in-Ok-put_environment g c =
-    λ budget. put_synthesises (design_tree c.args.design.now) budget c.args.name.now
+    λ budget within. put_synthesises (design_tree c.args.design.now) budget c.args.name.now
     (files_data g.F.Files c.args.files.now) (files_data g.F.Files c.write_with.new.files)
     (environment_found_text (design_tree c.args.design.now) c.args.made.levels c.args.made.conditions
     c.args.made.chain c.args.made.trace)
     (Environment c.args.made.levels c.args.made.conditions c.args.made.chain c.args.made.trace)
-    (finds_none c.args.made.levels c.args.made.conditions c.args.made.chain c.args.made.trace c.requires
+    (finds_none c.args.made.levels c.args.made.conditions c.args.made.chain c.args.made.trace within c.requires
     (λ tells. c.in-Ok.ensures.written tells ∙ ap Some c.deref.ensures.value)
     (c.write_with.ensures.files.same_others (driver_name c.args.name.now) (names_differ c.args.name.now)))
     (touches_cert c.args.name.now (files_data g.F.Files c.args.files.now) (files_data g.F.Files c.write_with.new.files)
@@ -34,12 +34,12 @@ returns-in-Ok-put_environment g c =
 
 pub returns-in-Err-put_environment : goal.returns-in-Err-put_environment
 returns-in-Err-put_environment g c =
-    λ budget. cut_synthesises (design_tree c.args.design.now) budget c.args.name.now
+    λ budget within. cut_synthesises (design_tree c.args.design.now) budget c.args.name.now
     (files_data g.F.Files c.args.files.now) (files_data g.F.Files c.write_with.new.files)
     (environment_found_text (design_tree c.args.design.now) c.args.made.levels c.args.made.conditions
     c.args.made.chain c.args.made.trace)
     (Environment c.args.made.levels c.args.made.conditions c.args.made.chain c.args.made.trace)
-    (finds_none c.args.made.levels c.args.made.conditions c.args.made.chain c.args.made.trace c.requires
+    (finds_none c.args.made.levels c.args.made.conditions c.args.made.chain c.args.made.trace within c.requires
     (λ tells. c.in-Ok.ensures.written tells ∙ ap Some c.deref.ensures.value)
     (c.write_with.ensures.files.same_others (driver_name c.args.name.now) (names_differ c.args.name.now)))
     (touches_cert c.args.name.now (files_data g.F.Files c.args.files.now) (files_data g.F.Files c.write_with.new.files)

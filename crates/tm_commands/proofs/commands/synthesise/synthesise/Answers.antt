@@ -21,7 +21,11 @@ pub synthesise-requires : goal.synthesise-requires
 synthesise-requires g c = record { sound = c.in-Ok.ensures.read.is.sound; of_text = text_of c.in-Ok.ensures.read }
 
 pub end_with-requires : goal.end_with-requires
-end_with-requires g c = record { sound = c.in-Ok.ensures.read.is.sound; found = c.in-Ok-synthesise.ensures }
+end_with-requires g c = record {
+  sound = c.in-Ok.ensures.read.is.sound;
+  found = c.in-Ok-synthesise.ensures.found;
+  within = c.in-Ok-synthesise.ensures.within;
+}
 
 pub returns-in-Ok-synthesise-clause-obeys : goal.returns-in-Ok-synthesise-clause-obeys
 returns-in-Ok-synthesise-clause-obeys g c =
