@@ -79,7 +79,7 @@ fn count(
 {
     let mut counts = Counts { sets: 0, made: 0 };
     for seed in 0..sets {
-        let set = drawn(alloc, game, seed)?;
+        let set = drawn(game, seed)?;
         let part = part_of(alloc, game, cells, side, set)?;
         counts.sets = counts.sets.saturating_add(game.manager().size(set)?);
         counts.made = counts.made.saturating_add(game.manager().size(part)?);

@@ -1,103 +1,85 @@
-//! Sets of states that are drawn: diagrams with so many nodes at each level of a state.
-ghost use Rattle.std.specs.Prelude.{◌<◌, All, IfOk, length};
-ghost use Rattle.tm_game.specs.Game.{GameData, Grows, IsSet};
+//! Sets of states that are drawn: where some cubes of bits of states are.
+ghost use Rattle.std.specs.Prelude.{◌<◌, IfOk, length};
+ghost use Rattle.tm_game.specs.Game.{Grows, IsSet};
 
-use std::alloc::{AllocError, Global};
+use std::alloc::AllocError;
 use tm_dd::{FALSE, NodeId, TRUE};
 use tm_game::Game;
 
-/// How many nodes are drawn for each level: a set over 100 state bits has some 2,000.
-const WIDTH: u32 = 28;
+/// How many cubes a set has, and how many bits a cube asks for: over 100 bits such sets have some 2,000 nodes.
+const CUBES: u32 = 10;
+const BITS: u32 = 10;
 /// The factor and the step of the draws (Knuth's MMIX).
 const FACTOR: u64 = 6_364_136_223_846_793_005;
 const STEP: u64 = 1_442_695_040_888_963_407;
 
 // Numbers that look random, one after the other.
-#[derive(Clone, Copy)]
+#[derive(Clone, Copy, Drop)]
 struct Draw {
     last: u64,
 }
 
 impl Draw {
     // The next one, of 31 bits.
-    fn next(&mut self) -> usize {
+    fn next(&mut self) -> u32 {
         self.last = self.last.wrapping_mul(FACTOR).wrapping_add(STEP);
-        (self.last >> 33) as usize
-    }
-
-    // One of some sets, or none where there are none.
-    fn pick(&mut self, sets: &[NodeId]) -> NodeId
-        ensures { (g : GameData) → All (IsSet g) sets.now → IsSet g result }
-    {
-        let index = self.next().checked_rem(sets.len()).unwrap_or(0);
-        match sets.get(index) {
-            Some(set) => *set,
-            None => FALSE,
-        }
+        (self.last >> 33) as u32
     }
 }
 
-/// A set of states that is drawn by a seed. Below each level there are the two constants and as many sets as are drawn
-/// for a level; each node at the level parts two of them.
+/// A set of states that is drawn by a seed.
 ///
 /// Every id keeps its meaning, also where memory runs out.
-pub fn drawn(alloc: Global, game: &mut Game, seed: u32) -> Result<NodeId, AllocError>
+pub fn drawn(game: &mut Game, seed: u32) -> Result<NodeId, AllocError>
     ensures grows { Grows game.old game.new }
     ensures set { IfOk result (IsSet game.new) }
 {
-    let _levels = game.manager().store().levels();
-    let count = game.order().len() as u32;
     let mut draw = Draw {
         last: u64::from(seed),
     };
-    let mut sets = vec![in alloc; FALSE, TRUE]?;
-    for level in (0..count).rev() {
-        sets = drawn_row(alloc, game, level, &sets, &mut draw)?;
+    let mut set = FALSE;
+    for _cube in 0..CUBES {
+        let cube = cube(game, &mut draw)?;
+        set = game.or(set, cube)?;
     }
-    Ok(draw.pick(&sets))
+    Ok(set)
 }
 
-// The constants, and sets drawn for a level, each between two of those below it.
-fn drawn_row(
-    alloc: Global,
-    game: &mut Game,
-    level: u32,
-    below: &[NodeId],
-    draw: &mut Draw,
-) -> Result<Vec<NodeId>, AllocError>
-    requires level { level < length game.old.order }
-    requires below { All (IsSet game.old) below.now }
+// The states at which drawn bits have drawn values.
+fn cube(game: &mut Game, draw: &mut Draw) -> Result<NodeId, AllocError>
     ensures grows { Grows game.old game.new }
-    ensures sets { IfOk result (λ row. All (IsSet game.new) row.items) }
+    ensures set { IfOk result (IsSet game.new) }
 {
-    let mut row = vec![in alloc; FALSE, TRUE]?;
-    let bit = bit_of(game, level)?;
-    for _node in 0..WIDTH {
-        let lo = draw.pick(below);
-        let hi = draw.pick(below);
-        let set = node(game, bit, lo, hi)?;
-        row.push(set)?;
+    let mut cube = TRUE;
+    for _bit in 0..BITS {
+        let bit = bit(game, draw)?;
+        cube = game.and(cube, bit)?;
     }
-    Ok(row)
+    Ok(cube)
 }
 
-// The states whose bit of a level is 1.
-fn bit_of(game: &mut Game, level: u32) -> Result<NodeId, AllocError>
+// The states at which a drawn bit has a drawn value.
+fn bit(game: &mut Game, draw: &mut Draw) -> Result<NodeId, AllocError>
+    ensures grows { Grows game.old game.new }
+    ensures set { IfOk result (IsSet game.new) }
+{
+    let value = draw.next() % 2 == 1;
+    match draw.next().checked_rem(game.order().len() as u32) {
+        Some(level) => literal(game, level, value),
+        None => Ok(TRUE),
+    }
+}
+
+// The states at which the bit of a level has a value.
+fn literal(game: &mut Game, level: u32, value: bool) -> Result<NodeId, AllocError>
     requires { level < length game.old.order }
     ensures grows { Grows game.old game.new }
     ensures set { IfOk result (IsSet game.new) }
 {
     let _order = game.order();
-    game.make(level, FALSE, TRUE)
-}
-
-// One set where a bit is 0, and another one where it is 1.
-fn node(game: &mut Game, bit: NodeId, lo: NodeId, hi: NodeId) -> Result<NodeId, AllocError>
-    requires bit { IsSet game.old bit }
-    requires lo { IsSet game.old lo }
-    requires hi { IsSet game.old hi }
-    ensures grows { Grows game.old game.new }
-    ensures set { IfOk result (IsSet game.new) }
-{
-    game.ite(bit, hi, lo)
+    if value {
+        game.make(level, FALSE, TRUE)
+    } else {
+        game.make(level, TRUE, FALSE)
+    }
 }
