@@ -20,6 +20,6 @@ done
 bench/drawn.py 1 12 4 > "$folder/drawn"
 for model in "gen 10" drawn; do
     for side in lower upper; do
-        echo "$model: $(bench/once.py "$bench" "$folder/$model" 20 draw $side)"
+        echo "$model: $(bench/once.py "$bench" "$folder/$model" 3 draw $side)"
     done
 done

@@ -1,4 +1,4 @@
-//! Solves games, parts drawn sets of states and moves certificates so many times, and tells what comes of it.
+//! Solves exact games and parts drawn sets of states so many times, and tells what comes of it.
 //!
 //! The input is a table of `case_rows` whose rows want no answer. A row asks of the specification that stands above it,
 //! `WORD TIMES` or `WORD TIMES weight`, and is printed with what comes of the last time. Games are in the control order
