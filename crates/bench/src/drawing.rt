@@ -63,8 +63,10 @@ fn bit(game: &mut Game, draw: &mut Draw) -> Result<NodeId, AllocError>
     ensures grows { Grows game.old game.new }
     ensures set { IfOk result (IsSet game.new) }
 {
+    let _levels = game.manager().store().levels();
+    let count = game.order().len() as u32;
     let value = draw.next() % 2 == 1;
-    match draw.next().checked_rem(game.order().len() as u32) {
+    match draw.next().checked_rem(count) {
         Some(level) => literal(game, level, value),
         None => Ok(TRUE),
     }

@@ -2,8 +2,8 @@
 use Rattle.tm_game.specs.Game.{Grows, IsSet}
 use Rattle.bench.proofs.drawing.drawn.Given as goal
 
-abbrev pub invariant-loop-_cube : goal.invariant-loop-_cube
-invariant-loop-_cube l = record {
+abbrev pub invariant-loop-cube : goal.invariant-loop-cube
+invariant-loop-cube l = record {
   grows : Grows l.fn.game l.game;
   set : IsSet l.game l.set;
 }
