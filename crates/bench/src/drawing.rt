@@ -8,9 +8,11 @@ use tm_game::Game;
 
 /// How many cubes a set has, and how many bits a cube asks for: over 100 bits such sets have some 2,000 nodes.
 const CUBES: u32 = 10;
+
 const BITS: u32 = 10;
 /// The factor and the step of the draws (Knuth's MMIX).
 const FACTOR: u64 = 6_364_136_223_846_793_005;
+
 const STEP: u64 = 1_442_695_040_888_963_407;
 
 // Numbers that look random, one after the other.

@@ -6,23 +6,39 @@ use Rattle.bench.proofs.drawing.literal.Goals as goal
 
 pub make-requires-clause-lo_deeper : goal.make-requires-clause-lo_deeper
 make-requires-clause-lo_deeper c =
-    omega (arith, level_of-IsConstant c.args.game.now.diagrams.table FALSE (omega arith), c.requires,
-    c.order-order.ensures.levels)
+    omega (
+      arith,
+      level_of-IsConstant c.args.game.now.diagrams.table FALSE (omega arith),
+      c.requires,
+      c.order-order.ensures.levels,
+    )
 
 pub make-requires-clause-hi_deeper : goal.make-requires-clause-hi_deeper
 make-requires-clause-hi_deeper c =
-    omega (arith, level_of-IsConstant c.args.game.now.diagrams.table TRUE (omega arith), c.requires,
-    c.order-order.ensures.levels)
+    omega (
+      arith,
+      level_of-IsConstant c.args.game.now.diagrams.table TRUE (omega arith),
+      c.requires,
+      c.order-order.ensures.levels,
+    )
 
 pub make-requires-else-value-clause-lo_deeper : goal.make-requires-else-value-clause-lo_deeper
 make-requires-else-value-clause-lo_deeper c =
-    omega (arith, level_of-IsConstant c.args.game.now.diagrams.table TRUE (omega arith), c.requires,
-    c.order-order.ensures.levels)
+    omega (
+      arith,
+      level_of-IsConstant c.args.game.now.diagrams.table TRUE (omega arith),
+      c.requires,
+      c.order-order.ensures.levels,
+    )
 
 pub make-requires-else-value-clause-hi_deeper : goal.make-requires-else-value-clause-hi_deeper
 make-requires-else-value-clause-hi_deeper c =
-    omega (arith, level_of-IsConstant c.args.game.now.diagrams.table FALSE (omega arith), c.requires,
-    c.order-order.ensures.levels)
+    omega (
+      arith,
+      level_of-IsConstant c.args.game.now.diagrams.table FALSE (omega arith),
+      c.requires,
+      c.order-order.ensures.levels,
+    )
 
 pub returns-then-value-clause-set : goal.returns-then-value-clause-set
 returns-then-value-clause-set c =
