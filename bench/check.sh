@@ -1,15 +1,14 @@
 #!/bin/bash
-# Proves and builds termite, and prints for each number the verdict on a driver of so many blocks that share their tails
-# (each tests a variable and leads to the two behind it, so the ways through them are more than numbers can count), over
-# the generated design for 4, with the seconds and the peak memory that the check takes. The certificate's one ranked
-# region is all valid states, so the driver's answers are asked for and C6 is what fails. Behind them it prints the same
-# of what `synth` writes for the models that bench/models names. What the prover says goes to standard error.
+# Prints for each number the verdict on a driver of so many blocks that share their tails (each tests a variable and leads
+# to the two behind it, so the ways through them are more than numbers can count), over the generated design for 4, with
+# the seconds and the peak memory that the check takes. The certificate's one ranked region is all valid states, so the
+# driver's answers are asked for and C6 is what fails. Behind them it prints the same of what `synth` writes for the
+# models that bench/models names, with what the exact decision of the game takes.
 # Other numbers than these may be given: bench/check.sh 1000 100000
 set -e
 cd "$(dirname "$0")/.."
-example=$PWD/examples/transmitter
-(cd crates/termite && rt run -- run "$example/spec" "$example/driver.c" "$example/choices" > /dev/null)
 source bench/models
+build bench
 
 # Prints the verdict of a check, with what it takes.
 verdict() {
@@ -21,9 +20,9 @@ line() {
     rm -f "$folder"/out.*
     "$termite" synth "$2" "$folder/out" > /dev/null || true
     if [ -e "$folder/out.c" ]; then
-        echo "$1: $(verdict "$2" "$folder/out.c" "$folder/out.cert")"
+        echo "$1: $(verdict "$2" "$folder/out.c" "$folder/out.cert"), exact $(exact "$2")"
     else
-        echo "$1: $(verdict "$2" "$folder/out.cert")"
+        echo "$1: $(verdict "$2" "$folder/out.cert"), exact $(exact "$2")"
     fi
 }
 

@@ -1,13 +1,12 @@
 #!/bin/bash
-# Proves and builds termite, and prints for each model what `synth` finds, how many blocks and bytes its C has, how many
-# nodes the certificate has, how many predicates were tracked at the end and how many of them were added, and the seconds
-# and the peak memory that it takes. bench/models names the models. What the prover says goes to standard error.
+# Prints for each model what `synth` finds, how many blocks and bytes its C has, how many nodes the certificate has, how
+# many predicates were tracked at the end and how many of them were added, and the seconds and the peak memory that it
+# takes; then what the exact decision of the same game takes, alone. bench/models names the models.
 # Other models than these may be given, generated ones by their numbers: bench/synth.sh 8 my.spec
 set -e
 cd "$(dirname "$0")/.."
-example=$PWD/examples/transmitter
-(cd crates/termite && rt run -- run "$example/spec" "$example/driver.c" "$example/choices" > /dev/null)
 source bench/models
+build bench
 
 line() {
     rm -f "$folder"/out.*
@@ -20,7 +19,7 @@ line() {
     first=$(sed -n 's/^track //p' "$folder/report")
     added=$(grep -c '^add ' "$folder/report" || true)
     tracked="$((first + added)) predicates, $added added"
-    echo "$1: $found$sizes, $(tail -n 1 "$folder/report"), $tracked  $taken"
+    echo "$1: $found$sizes, $(tail -n 1 "$folder/report"), $tracked  $taken, exact $(exact "$2")"
 }
 
 for_each_model "$@"
