@@ -1,9 +1,9 @@
 #!/bin/bash
-# Prints for each number the verdict on a driver of so many blocks that share their tails (each tests a variable and leads
-# to the two behind it, so the ways through them are more than numbers can count), over the generated design for 4, with
-# the seconds and the peak memory that the check takes. The certificate's one ranked region is all valid states, so the
-# driver's answers are asked for and C6 is what fails. Behind them it prints the same of what `synth` writes for the
-# models that bench/models names, with what the exact decision of the game takes.
+# Prints for each number the verdict on a driver of so many blocks that share their tails (each tests a variable and
+# leads to the two behind it, so the ways through them are more than numbers can count), over the generated design for
+# 4, with the seconds and the peak memory that the check takes. The certificate's one ranked region is all valid states,
+# so the driver's answers are asked for and C6 is what fails. Behind them it prints the same of what `synth` writes for
+# the models that bench/models names, with what the exact decision of the game takes.
 # Other numbers than these may be given: bench/check.sh 1000 100000
 set -e
 cd "$(dirname "$0")/.."

@@ -1,8 +1,8 @@
 #!/bin/bash
-# Prints the milliseconds of one exact solution of a game, of the device with a busy flag and of the generated design for
-# 12, in the control order and in the weight order of the bits of states; and those of the lower and of the upper part of
-# a drawn set of some 2,000 nodes over 100 bits, by the cells of 20 predicates, in the generated design for 10 and in a
-# drawn one. The program of crates/bench tells how many nodes the sets and their parts have in all.
+# Prints the milliseconds of one exact solution of a game, of the device with a busy flag and of the generated design
+# for 12, in the control order and in the weight order of the bits of states; and those of the lower and of the upper
+# part of a drawn set of some 2,000 nodes over 100 bits, by the cells of 20 predicates, in the generated design for 10
+# and in a drawn one. The program of crates/bench tells how many nodes the sets and their parts have in all.
 set -e
 cd "$(dirname "$0")/.."
 source bench/models
