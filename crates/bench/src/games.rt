@@ -1,6 +1,7 @@
 //! The exact games of designs.
 ghost use Rattle.std.specs.Prelude.{IfOk, sum};
 ghost use Rattle.tm_game_bits.specs.Order.{IsOrder};
+ghost use Rattle.tm_refine.specs.Pooled.{CanDecide};
 ghost use Rattle.tm_sem.specs.StateBits.{state_widths};
 ghost use Rattle.tm_solve.specs.Iterates.{KnowsAll};
 ghost use Rattle.tm_solve_exact.specs.Exact.{IsStateSet, exact_ids};
@@ -10,7 +11,7 @@ ghost use Rattle.tm_syntax.specs.Faults.{IsOfText, IsSound};
 use std::alloc::{AllocError, Global};
 use std::fmt::Write;
 use tm_dd::{FALSE, NodeId};
-use tm_judge::ordered_game;
+use tm_judge::{ordered_game, sound_designs_of_texts_are_regular};
 use tm_orders::{Orders, orders_of};
 use tm_solve::{Iterates, Ranking};
 use tm_solve_exact::Exact;
@@ -29,11 +30,13 @@ pub fn order_of(alloc: Global, design: &Design, word: &str) -> Result<Vec<u32>, 
     }
 }
 
-// The game of a design, to be solved, in an order of the bits of states.
-fn exact_of(alloc: Global, design: &Design, word: &str) -> Result<Exact, AllocError>
+/// The game of a design, to be solved or decided over predicates, in an order of the bits of states that a word names.
+pub fn exact_of(alloc: Global, design: &Design, word: &str) -> Result<Exact, AllocError>
     requires sound { IsSound (design_tree design.now) }
     requires of_text { IsOfText (design_tree design.now).spec }
+    ensures { IfOk result (λ exact. CanDecide (design_tree design.now) exact.game) }
 {
+    sound_designs_of_texts_are_regular();
     let order = order_of(alloc, design, word)?;
     let game = ordered_game(alloc, design, &order)?;
     Ok(Exact::new(game))

@@ -1,4 +1,4 @@
-//! Solves exact games and parts drawn sets of states so many times, and tells what comes of it.
+//! Solves games, decides them over predicates and parts drawn sets of states, and tells what comes of it.
 //!
 //! The input is a table of `case_rows` whose rows want no answer. A row asks of the specification that stands above it,
 //! `WORD TIMES` or `WORD TIMES weight`, and is printed with what comes of the last time. Games are in the control order
@@ -8,6 +8,8 @@
 //! - `make`: how many nodes the game keeps at first;
 //! - `decide`: who wins the exact game, how many ranked sets each goal has, how many levels lead out of the region, and
 //!   how many nodes the region has and the game keeps;
+//! - `refine`: who wins the game decided over predicates, how many are tracked and how many of them were added, in how
+//!   many rounds, and how many solutions over cells were sought;
 //! - `draw`, `lower`, `upper`: how many nodes so many drawn sets have, and then these sets, their lower or their upper
 //!   parts over the cells of the first predicates of the pool.
 #![tactic(auto)]
@@ -16,14 +18,17 @@ ghost use Rattle.tm_syntax.specs.Design.View.{design_tree};
 ghost use Rattle.tm_syntax.specs.Faults.{IsOfText, IsSound};
 
 mod cells;
+mod counting;
 mod drawing;
 mod games;
 mod reading;
+mod refining;
 
 use case_rows::{Case, number, read_cases, read_table, split_word};
 use cells::{Side, parted};
 use games::{decided, made};
 use reading::design_of;
+use refining::refined;
 use std::alloc::{AllocError, Global};
 use std::io;
 use tm_syntax::design::Design;
@@ -36,6 +41,7 @@ fn done(alloc: Global, design: &Design, word: &str, order: &str) -> Result<Strin
     match word {
         "make" => made(alloc, design, order),
         "decide" => decided(alloc, design, order),
+        "refine" => refined(alloc, design, order),
         _ => String::from_str(alloc, "nothing that is measured"),
     }
 }

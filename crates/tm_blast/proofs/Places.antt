@@ -7,10 +7,9 @@ use Rattle.std.proofs.lemmas.List.{map-append, append-nil, get_or-reverse, lengt
 use Rattle.std.proofs.lemmas.List.Elements.{All-nil, All-push, All-head, All-tail}
 use Rattle.tm_dd.specs.declared.node.NodeId.{NodeId}
 use Rattle.tm_dd.specs.declared.node.TheConstants.{FALSE, TRUE}
-use Rattle.tm_dd.specs.Table.{Table, Knows, level_of, means}
+use Rattle.tm_dd.specs.Table.{Table, Knows, means}
 use Rattle.tm_dd.specs.Reduced.{Extends}
 use Rattle.tm_dd.proofs.CallerLaws.{Extends-trans, means-FALSE, means-TRUE}
-use Rattle.tm_dd.proofs.Meaning.{level_of-constant}
 use Rattle.tm_ddops.specs.Manager.{IsFunction}
 use Rattle.tm_blast.specs.Bits.{values_in}
 use Rattle.tm_blast.specs.Cell.{bits_of, constant_of, placed, MeanBits}
@@ -72,12 +71,6 @@ pub record IsInput (s u : Table) (levels : List ℕ) (ids : List NodeId) (i : �
   pub extends : Extends s u
   pub known : All (Knows u) ids
   pub meaning : (v : ℕ → Bool) → values_in u ids v ≡ map v (take i (reverse levels))
-
--- a level is above the constants
-pub level_above : (s u : Table) (level : ℕ) (b : Bool) → Extends s u → level < s.levels →
-    level < level_of u (constant_of b)
-level_above s u level true extends h = rw (level_of-constant u TRUE refl) (omega (arith, extends.same_levels))
-level_above s u level false extends h = rw (level_of-constant u FALSE refl) (omega (arith, extends.same_levels))
 
 -- a level of a node that is true where the level's value is
 pub means_level : (w : Table) (id : NodeId) (level : ℕ) →

@@ -4,10 +4,11 @@ use Rattle.std.proofs.lemmas.Bool.{eq-eqb, ne_eqb, cases_order}
 use Rattle.tm_dd.specs.declared.node.Node.{Node}
 use Rattle.tm_dd.specs.declared.node.NodeId.{NodeId}
 use Rattle.tm_dd.specs.NodeId.{position_of, is_marked}
-use Rattle.tm_dd.specs.Table.{Table, kept, Knows, entry_at, level_of, marked_value, means}
+use Rattle.tm_dd.specs.Table.{Table, kept, Knows, depth_of, entry_at, level_of, marked_value, means, rank_of}
 use Rattle.tm_dd.specs.Unique.{IsUniqueTable}
 use Rattle.tm_dd.proofs.NodeIdLemmas.{same_id, not-not}
-use Rattle.tm_dd.proofs.Meaning.{means-entry, means-agree, means-all_false, level_of-entry, level_of-constant, knows_before, cases_position}
+use Rattle.tm_dd.proofs.Meaning.{means-entry, means-agree, means-all_false, depth_of-entry, level_of-entry, level_of-constant, knows_before, cases_position}
+use Rattle.tm_dd.proofs.Ranks.{depth_of-constant, rank_of-below, rank_of-once, rank_of-within, ranks_apart}
 
 -- v, with b as the level's value
 with_level : (ℕ → Bool) → ℕ → Bool → ℕ → Bool
@@ -17,9 +18,9 @@ with_level-same : (v : ℕ → Bool) (level : ℕ) (b : Bool) → with_level v l
 unfolding with_level
 with_level-same v level b = ap (λ c. if c then b else v level) (eq-eqb level level refl)
 
-with_level-above : (v : ℕ → Bool) (level k : ℕ) (b : Bool) → level < k → with_level v level b k ≡ v k
+with_level-other : (v : ℕ → Bool) (level k : ℕ) (b : Bool) → ¬ (k ≡ level) → with_level v level b k ≡ v k
 unfolding with_level
-with_level-above v level k b above = ap (λ c. if c then b else v k) (ne_eqb k level (omega (arith, above)))
+with_level-other v level k b other = ap (λ c. if c then b else v k) (ne_eqb k level other)
 
 -- the child that a value of the node's level picks
 child_of : Node → Bool → NodeId
@@ -48,24 +49,26 @@ module _ (s : Table) (unique : IsUniqueTable s) where
       ≡ means s (child_of n c) v) [
         | true ↦ means-agree s unique _ v (position_of n.hi + 1) n.hi (omega arith)
             (knows_before s _ _ e.hi_before within)
-            (λ k above _. with_level-above v n.level k true (omega (arith, e.hi_rises, above)))
+            (λ k above _. with_level-other v n.level k true
+            (ranks_apart s n.level k (omega (arith, e.hi_rises, above))))
         | false ↦ means-agree s unique _ v (position_of n.lo + 1) n.lo (omega arith)
             (knows_before s _ _ e.lo_before within)
-            (λ k above _. with_level-above v n.level k false (omega (arith, e.lo_rises, above)))
+            (λ k above _. with_level-other v n.level k false
+            (ranks_apart s n.level k (omega (arith, e.lo_rises, above))))
       ])
 
   -- a function of a deeper level does not depend on a level
-  level_ignored : (id : NodeId) → Knows s id → (level : ℕ) → level < level_of s id → (b : Bool) (v : ℕ → Bool) →
-      means s id (with_level v level b) ≡ means s id v
+  level_ignored : (id : NodeId) → Knows s id → (level : ℕ) → rank_of s level < depth_of s id → (b : Bool)
+      (v : ℕ → Bool) → means s id (with_level v level b) ≡ means s id v
   level_ignored id known level above b v =
       means-agree s unique _ v (position_of id + 1) id (omega arith) known
-      (λ k deep _. with_level-above v level k b (omega (arith, above, deep)))
+      (λ k deep _. with_level-other v level k b (ranks_apart s level k (omega (arith, above, deep))))
 
   -- an id above all that it is compared with is that of a node
-  inner_above : (f : NodeId) → level_of s f < s.levels → 0 < position_of f
+  inner_above : (f : NodeId) → depth_of s f < s.levels → 0 < position_of f
   inner_above f above =
       elim (cases_position (position_of f))
-      [ inl e ↦ absurd (omega (arith, level_of-constant s f e)) | inr some ↦ some ]
+      [ inl e ↦ absurd (omega (arith, depth_of-constant s unique.ranks f e, above)) | inr some ↦ some ]
 
   pub level_of-within : (f : NodeId) → Knows s f → level_of s f ≤ s.levels
   level_of-within f known =
@@ -76,6 +79,12 @@ module _ (s : Table) (unique : IsUniqueTable s) where
             omega (arith, (unique.nodes (position_of f) some within).below, level_of-entry s f)
       ]
 
+  -- a node's level is one of the levels
+  inner_level : (f : NodeId) → Knows s f → 0 < position_of f → level_of s f < s.levels
+  inner_level f known some =
+      let within : position_of f ≤ kept s = omega (arith, known) in
+      omega (arith, (unique.nodes (position_of f) some within).below, level_of-entry s f)
+
   -- the claim, for ids of positions below n
   Apart : ℕ → Type 0
   Apart n = (f g : NodeId) → position_of f < n → position_of g < n → Knows s f → Knows s g →
@@ -83,19 +92,19 @@ module _ (s : Table) (unique : IsUniqueTable s) where
 
   -- no node means what a function of a deeper level means
   not_deeper : (n : ℕ) → Apart n → (f g : NodeId) → position_of f ≤ n → Knows s f → Knows s g →
-      level_of s f < level_of s g
+      depth_of s f < depth_of s g
       → ((v : ℕ → Bool) → means s f v ≡ means s g v) → f ≡ g
   unfolding Apart child_of
   not_deeper n ih f g small kf kg deeper same =
-      let top = level_of-within g kg in
+      let top = rank_of-within s unique.ranks (level_of s g) in
       let some = inner_above f (omega (arith, deeper, top)) in
       let within : position_of f ≤ kept s = omega (arith, kf) in
       let e = unique.nodes (position_of f) some within in
       let m = entry_at s (position_of f) in
-      let level = level_of-entry s f in
+      let depth = depth_of-entry s f in
       let alike : (b : Bool) (v : ℕ → Bool) → marked_value (is_marked f) (means s (child_of m b) v) ≡ means s g v =
       λ b v. sym (child_meaning f kf some b v) ∙ same (with_level v m.level b)
-      ∙ level_ignored g kg m.level (omega (arith, deeper, level)) b v in
+      ∙ level_ignored g kg m.level (omega (arith, deeper, depth)) b v in
       absurd (e.differ (ih m.lo m.hi (omega (arith, e.lo_before, small)) (omega (arith, e.hi_before, small))
       (knows_before s _ _ e.lo_before within) (knows_before s _ _ e.hi_before within)
       (λ v. marked_value-cancel (is_marked f) _ _ (alike false v ∙ sym (alike true v)))))
@@ -140,22 +149,22 @@ module _ (s : Table) (unique : IsUniqueTable s) where
   apart zero = λ f g hf hg kf kg same. absurd (omega (arith, hf))
   apart (suc n) = λ f g hf hg kf kg same.
       let ih = apart n in
-      elim (cases_order (level_of s f) (level_of s g)) [
+      elim (cases_order (depth_of s f) (depth_of s g)) [
         | inl e ↦ elim (cases_position (position_of f)) [
           | inl cf ↦
-              let deep = level_of-constant s f cf in
+              let deep = depth_of-constant s unique.ranks f cf in
               elim (cases_position (position_of g)) [
                 | inl cg ↦ same_id f g (cf ∙ sym cg) (same_marks f g kf kg same)
-                | inr pg ↦
-                    let wg : position_of g ≤ kept s = omega (arith, kg) in
-                    absurd (omega (arith, (unique.nodes (position_of g) pg wg).below, level_of-entry s g, e, deep))
+                | inr pg ↦ absurd (omega (arith, depth_of-inner g kg pg, e, deep))
               ]
           | inr pf ↦ elim (cases_position (position_of g)) [
             | inl cg ↦
-                let deep = level_of-constant s g cg in
-                let wf : position_of f ≤ kept s = omega (arith, kf) in
-                absurd (omega (arith, (unique.nodes (position_of f) pf wf).below, level_of-entry s f, e, deep))
-            | inr pg ↦ same_level_nodes n ih f g (omega (arith, hf)) (omega (arith, hg)) kf kg pf pg e same
+                let deep = depth_of-constant s unique.ranks g cg in
+                absurd (omega (arith, depth_of-inner f kf pf, e, deep))
+            | inr pg ↦ same_level_nodes n ih f g (omega (arith, hf)) (omega (arith, hg)) kf kg pf pg
+                (rank_of-once s unique.ranks (level_of s f) (level_of s g) (inner_level f kf pf) (inner_level g kg pg)
+                e)
+                same
           ]
         ]
         | inr o ↦ elim o [
@@ -163,6 +172,9 @@ module _ (s : Table) (unique : IsUniqueTable s) where
           | inr deeper ↦ sym (not_deeper n ih g f (omega (arith, hg)) kg kf deeper (λ v. sym (same v)))
         ]
       ]
+    where
+      depth_of-inner : (h : NodeId) → Knows s h → 0 < position_of h → depth_of s h < s.levels
+      depth_of-inner h kh ph = rank_of-below s unique.ranks (level_of s h) (inner_level h kh ph)
 
   -- ids that mean the same are equal
   pub ids_canonical : (f g : NodeId) → Knows s f → Knows s g → ((v : ℕ → Bool) → means s f v ≡ means s g v) → f ≡ g

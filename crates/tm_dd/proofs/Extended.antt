@@ -7,10 +7,11 @@ use Rattle.tm_dd.specs.declared.node.Node.{Node}
 use Rattle.tm_dd.specs.declared.node.NodeId.{NodeId}
 use Rattle.tm_dd.specs.NodeId.{position_of, is_marked}
 use Rattle.tm_dd.specs.Reduced.{Extends}
-use Rattle.tm_dd.specs.Table.{Table, kept, Knows, constant_entry, entries, entry_at, level_of, marked_value, node_value, values_of}
-use Rattle.tm_dd.specs.Unique.{IsEntry, IsUniqueTable, with_node}
+use Rattle.tm_dd.specs.Table.{Table, kept, Knows, constant_entry, depth_of, entries, entry_at, level_of, marked_value, node_value, rank_of, values_of}
+use Rattle.tm_dd.specs.Unique.{AreRanks, IsEntry, IsUniqueTable, with_node}
 use Rattle.tm_dd.proofs.Meaning.{value_at, means-value_at, level_of-entry}
 use Rattle.tm_dd.proofs.Nodes.{marked_node, node_of-entry}
+use Rattle.tm_dd.proofs.Ranks.{rank_of-same}
 use Rattle.tm_dd.proofs.Values.{values_from, length-values_from, values_from-given}
 
 -- ---- stores that extend others
@@ -18,6 +19,7 @@ use Rattle.tm_dd.proofs.Values.{values_from, length-values_from, values_from-giv
 pub Extends-refl : (s : Table) → Extends s s
 Extends-refl s = record {
   same_levels = refl;
+  same_ranks = refl;
   rises = omega arith;
   same_level = λ id known. refl;
   same_node = λ id known. refl;
@@ -27,6 +29,7 @@ Extends-refl s = record {
 pub Extends-trans : (s t u : Table) → Extends s t → Extends t u → Extends s u
 Extends-trans s t u first second = record {
   same_levels = second.same_levels ∙ first.same_levels;
+  same_ranks = second.same_ranks ∙ first.same_ranks;
   rises = omega arith;
   same_level = λ id known. second.same_level id (omega (arith, known)) ∙ first.same_level id known;
   same_node = λ id known. second.same_node id (omega (arith, known)) ∙ first.same_node id known;
@@ -65,6 +68,7 @@ module _ (s : Table) (n : Node) where
   pub Extends-with_node : Extends s (with_node s n)
   Extends-with_node = record {
     same_levels = refl;
+    same_ranks = refl;
     rises = omega (arith, kept-with_node);
     same_level = level_of-with_node;
     same_node = λ id known.
@@ -77,14 +81,31 @@ module _ (s : Table) (n : Node) where
         ∙ sym (means-value_at s id v);
   }
 
+  rank_of-with_node : (k : ℕ) → rank_of (with_node s n) k ≡ rank_of s k
+  rank_of-with_node k = rank_of-same s (with_node s n) refl refl k
+
+  depth_of-with_node : (id : NodeId) → Knows s id → depth_of (with_node s n) id ≡ depth_of s id
+  depth_of-with_node id known =
+      rank_of-with_node (level_of (with_node s n) id) ∙ ap (rank_of s) (level_of-with_node id known)
+
   -- an entry of s is one of the longer table
   entry_stays : (p : ℕ) (e : Node) → p ≤ kept s + 1 → IsEntry s p e → IsEntry (with_node s n) p e
   entry_stays p e within ok = record {
     below = ok.below;
     lo_before = ok.lo_before;
     hi_before = ok.hi_before;
-    lo_rises = omega (arith, level_of-with_node e.lo (omega (arith, ok.lo_before, within)), ok.lo_rises);
-    hi_rises = omega (arith, level_of-with_node e.hi (omega (arith, ok.hi_before, within)), ok.hi_rises);
+    lo_rises = omega (
+      arith,
+      rank_of-with_node e.level,
+      depth_of-with_node e.lo (omega (arith, ok.lo_before, within)),
+      ok.lo_rises,
+    );
+    hi_rises = omega (
+      arith,
+      rank_of-with_node e.level,
+      depth_of-with_node e.hi (omega (arith, ok.hi_before, within)),
+      ok.hi_rises,
+    );
     differ = ok.differ;
     plain = ok.plain;
   }
@@ -93,6 +114,7 @@ module _ (s : Table) (n : Node) where
   pub IsUniqueTable-with_node : IsUniqueTable s → IsEntry s (kept s + 1) n →
       ((p : ℕ) → p ≤ kept s → ¬ (entry_at s p ≡ n)) → IsUniqueTable (with_node s n)
   IsUniqueTable-with_node unique ok absent = record {
+    ranks = unique.ranks;
     nodes = λ p some within.
         elim (cases_lt (kept s) p) [
           | inl new ↦
@@ -125,8 +147,9 @@ module _ (s : Table) (n : Node) where
   }
 
 -- a table without nodes is unique
-pub IsUniqueTable-empty : (s : Table) → kept s ≡ 0 → IsUniqueTable s
-IsUniqueTable-empty s none = record {
+pub IsUniqueTable-empty : (s : Table) → AreRanks s.levels s.ranks → kept s ≡ 0 → IsUniqueTable s
+IsUniqueTable-empty s ranks none = record {
+  ranks = ranks;
   nodes = λ p some within. absurd (omega (arith, none, some, within));
   once = λ p q wp wq same. omega (arith, none, wp, wq);
 }

@@ -101,13 +101,18 @@ module _ (s : Table) (n : Node) where
           ]
 
 -- the table that is read off the entries after the insert
-pub table-inserted : (s : Table) (n : Node) (levels : ℕ) (after : List Node) → levels ≡ s.levels →
-    after ≡ entries (inserted s n)
-    → (let read : Table = record { levels = levels; nodes = drop 1 after } in read) ≡ inserted s n
-table-inserted s n levels after same held =
+pub table-inserted : (s : Table) (n : Node) (levels : ℕ) (ranks : List ℕ) (after : List Node) → levels ≡ s.levels →
+    ranks ≡ s.ranks → after ≡ entries (inserted s n)
+    → (let read : Table = record { levels = levels; ranks = ranks; nodes = drop 1 after } in read) ≡ inserted s n
+table-inserted s n levels ranks after same same_ranks held =
     let l : levels ≡ (inserted s n).levels = same ∙ levels_stay in
-    (λ i. record { levels = l i; nodes = drop 1 (held i) })
+    let r : ranks ≡ (inserted s n).ranks = same_ranks ∙ ranks_stay in
+    (λ i. record { levels = l i; ranks = r i; nodes = drop 1 (held i) })
   where
+    ranks_stay : s.ranks ≡ (inserted s n).ranks
+    ranks_stay = elim (list_any (node_eq n) (entries s))
+        as (λ b. s.ranks ≡ (if b then s else with_node s n).ranks) [ true ↦ refl | false ↦ refl ]
+
     levels_stay : s.levels ≡ (inserted s n).levels
     levels_stay = elim (list_any (node_eq n) (entries s))
         as (λ b. s.levels ≡ (if b then s else with_node s n).levels) [ true ↦ refl | false ↦ refl ]

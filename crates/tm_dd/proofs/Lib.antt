@@ -6,4 +6,5 @@ pub mod Made
 pub mod Meaning
 pub mod NodeIdLemmas
 pub mod Nodes
+pub mod Ranks
 pub mod Values

@@ -4,14 +4,15 @@ use Rattle.std.proofs.lemmas.Bool.{cases_lt, le-leb, lt-leb, ne_eqb}
 use Rattle.tm_dd.specs.declared.node.Node.{Node}
 use Rattle.tm_dd.specs.declared.node.NodeId.{NodeId}
 use Rattle.tm_dd.specs.NodeId.{position_of, is_marked, complement}
-use Rattle.tm_dd.specs.Reduced.{Extends, MeansNode}
-use Rattle.tm_dd.specs.Table.{Table, kept, Knows, entry_at, level_of, node_of, means}
+use Rattle.tm_dd.specs.Reduced.{Extends, IsDeeper, MeansNode}
+use Rattle.tm_dd.specs.Table.{Table, kept, Knows, depth_of, entry_at, level_of, node_of, means, rank_of}
 use Rattle.tm_dd.specs.Unique.{IsEntry, IsUniqueTable, IsKept, with_node}
 use Rattle.tm_dd.proofs.Canonical.{ids_canonical}
 use Rattle.tm_dd.proofs.Extended.{Extends-refl, Extends-with_node, IsUniqueTable-with_node, entry_at-new, kept-with_node}
 use Rattle.tm_dd.proofs.Meaning.{level_of-entry, cases_position}
 use Rattle.tm_dd.proofs.NodeIdLemmas.{same_id, position_of-complement, is_marked-complement}
-use Rattle.tm_dd.proofs.Nodes.{marked_id, marked_node, marked_id-marked_id, position_of-marked_id, level_of-marked_id, node_of-entry, means-marked_node}
+use Rattle.tm_dd.proofs.Ranks.{deeper_depth}
+use Rattle.tm_dd.proofs.Nodes.{marked_id, marked_node, marked_id-marked_id, position_of-marked_id, depth_of-marked_id, level_of-marked_id, node_of-entry, means-marked_node}
 
 -- the entry of the constant has the greatest level
 entry_at-constant : (s : Table) → (entry_at s 0).level ≡ s.levels
@@ -50,18 +51,20 @@ marked_node-marked_node m n =
     (λ i. record { level = n.level; lo = lo i; hi = hi i })
 
 -- of a node and its complement the one with an unmarked `lo` is kept
-pub IsEntry-marked : (s : Table) (level : ℕ) (lo hi : NodeId) → level < s.levels → Knows s lo → Knows s hi →
-    level < level_of s lo → level < level_of s hi
+pub IsEntry-marked : (s : Table) → IsUniqueTable s → (level : ℕ) (lo hi : NodeId) → level < s.levels → Knows s lo →
+    Knows s hi → IsDeeper s level lo → IsDeeper s level hi
     → ¬ (lo ≡ hi) → IsEntry s (kept s + 1) (marked_node (is_marked lo) (record { level = level; lo = lo; hi = hi }))
-IsEntry-marked s level lo hi below known_lo known_hi deep_lo deep_hi differ =
+IsEntry-marked s unique level lo hi below known_lo known_hi deeper_lo deeper_hi differ =
+    let deep_lo = deeper_depth s unique.ranks level below lo deeper_lo in
+    let deep_hi = deeper_depth s unique.ranks level below hi deeper_hi in
     let at_lo = position_of-marked_id (is_marked lo) lo in
     let at_hi = position_of-marked_id (is_marked lo) hi in
     record {
       below = below;
       lo_before = omega (arith, at_lo, known_lo);
       hi_before = omega (arith, at_hi, known_hi);
-      lo_rises = omega (arith, level_of-marked_id s (is_marked lo) lo, deep_lo);
-      hi_rises = omega (arith, level_of-marked_id s (is_marked lo) hi, deep_hi);
+      lo_rises = omega (arith, depth_of-marked_id s (is_marked lo) lo, deep_lo);
+      hi_rises = omega (arith, depth_of-marked_id s (is_marked lo) hi, deep_hi);
       differ = λ same. differ (sym (marked_id-marked_id (is_marked lo) lo) ∙ ap (marked_id (is_marked lo)) same
           ∙ marked_id-marked_id (is_marked lo) hi);
       plain = elim (is_marked lo) as (λ m. is_marked lo ≡ m → is_marked (marked_id m lo) ≡ false) [
@@ -76,7 +79,7 @@ pub record IsMade (old new : Table) (n : Node) (r : NodeId) : Type 0 where
   pub adds : kept new ≤ kept old + 1
   pub known : Knows new r
   pub node : node_of new r ≡ n
-  pub deep : n.level ≤ level_of new r
+  pub deep : rank_of new n.level ≤ depth_of new r
   pub meaning : (v : ℕ → Bool) → means new r v ≡ (if v n.level then means old n.hi v else means old n.lo v)
   pub found : (f : NodeId) → Knows old f → MeansNode old f n → r ≡ f
   pub unchanged : (f : NodeId) → Knows old f → MeansNode old f n → new ≡ old
@@ -195,7 +198,7 @@ module _ (old new : Table) (unique : IsUniqueTable new) (n : Node) (m : Bool) (i
     adds = made_adds;
     known = made_known;
     node = made_node;
-    deep = omega (arith, made_level);
+    deep = omega (arith, ap (rank_of new) made_level);
     meaning = made_meaning;
     found = λ f known same. (made_found f known same).0;
     unchanged = λ f known same. (made_found f known same).1;

@@ -3,7 +3,7 @@ use Rattle.std.proofs.Common.{◌≡◌, ℕ, zero, suc, ◌%◌, ◌<◌, ◌�
 use Rattle.tm_dd.specs.declared.node.NodeId.{NodeId}
 use Rattle.tm_dd.specs.declared.node.TheConstants.{FALSE, TRUE}
 use Rattle.tm_dd.specs.NodeId.{number_of, position_of, is_marked, complement, IsConstant}
-use Rattle.tm_dd.specs.Table.{Table, kept, Knows, constant_entry, entries, entry_at, level_of, marked_value, values_of, means}
+use Rattle.tm_dd.specs.Table.{Table, kept, Knows, constant_entry, depth_of, entries, entry_at, level_of, marked_value, rank_of, values_of, means}
 use Rattle.tm_dd.specs.Unique.{IsUniqueTable}
 use Rattle.tm_dd.proofs.NodeIdLemmas.{position_of-complement, is_marked-complement, not-not}
 use Rattle.tm_dd.proofs.Values.{values_from-given, values_from-node}
@@ -77,6 +77,9 @@ pub level_of-entry : (s : Table) (id : NodeId) → level_of s id ≡ (entry_at s
 unfolding level_of
 level_of-entry s id = refl
 
+pub depth_of-entry : (s : Table) (id : NodeId) → depth_of s id ≡ rank_of s (entry_at s (position_of id)).level
+depth_of-entry s id = ap (rank_of s) (level_of-entry s id)
+
 -- the child of a kept node is known
 pub knows_before : (s : Table) (id : NodeId) (p : ℕ) → position_of id < p → p ≤ kept s → Knows s id
 knows_before s id p h w = omega (arith, h, w)
@@ -102,10 +105,10 @@ means-same s unique v w id known some here hi lo =
     ∙ (λ i. marked_value (is_marked id) (cond (here i) (hi i) (lo i)))
     ∙ sym (means-entry s id w unique known some)
 
--- a function does not depend on the levels above its own
+-- a function does not depend on the levels that stand above its own
 pub means-agree : (s : Table) → IsUniqueTable s → (v w : ℕ → Bool) (n : ℕ) (id : NodeId) → position_of id < n →
     Knows s id
-    → ((k : ℕ) → level_of s id ≤ k → k < s.levels → v k ≡ w k) → means s id v ≡ means s id w
+    → ((k : ℕ) → depth_of s id ≤ rank_of s k → k < s.levels → v k ≡ w k) → means s id v ≡ means s id w
 means-agree s unique v w zero id h known same = absurd (omega arith)
 means-agree s unique v w (suc n) id h known same =
     elim (cases_position (position_of id)) [
@@ -113,15 +116,15 @@ means-agree s unique v w (suc n) id h known same =
       | inr some ↦
           let within : position_of id ≤ kept s = omega (arith, known) in
           let e = unique.nodes (position_of id) some within in
-          let level = level_of-entry s id in
+          let depth = depth_of-entry s id in
           means-same s unique v w id known some
-          (same (entry_at s (position_of id)).level (omega (arith, level)) e.below)
+          (same (entry_at s (position_of id)).level (omega (arith, depth)) e.below)
           (means-agree s unique v w n (entry_at s (position_of id)).hi (omega (arith, e.hi_before, h))
           (knows_before s _ _ e.hi_before within)
-          (λ k above below. same k (omega (arith, e.hi_rises, level, above)) below))
+          (λ k above below. same k (omega (arith, e.hi_rises, depth, above)) below))
           (means-agree s unique v w n (entry_at s (position_of id)).lo (omega (arith, e.lo_before, h))
           (knows_before s _ _ e.lo_before within)
-          (λ k above below. same k (omega (arith, e.lo_rises, level, above)) below))
+          (λ k above below. same k (omega (arith, e.lo_rises, depth, above)) below))
     ]
 
 marked_value-false : (m : Bool) → marked_value m false ≡ m

@@ -4,7 +4,7 @@ use Rattle.tm_dd.specs.declared.node.Node.{Node}
 use Rattle.tm_dd.specs.declared.node.NodeId.{NodeId}
 use Rattle.tm_dd.specs.NodeId.{position_of, is_marked, complement}
 use Rattle.tm_dd.specs.Reduced.{IsNode, IsReduced, MeansNode}
-use Rattle.tm_dd.specs.Table.{Table, kept, Knows, entry_at, level_of, node_of, complement_node, marked_value, means}
+use Rattle.tm_dd.specs.Table.{Table, kept, Knows, depth_of, entry_at, level_of, node_of, complement_node, marked_value, means, rank_of}
 use Rattle.tm_dd.specs.Unique.{IsUniqueTable}
 use Rattle.tm_dd.proofs.Canonical.{ids_canonical, level_of-within}
 use Rattle.tm_dd.proofs.Meaning.{level_of-constant, means-agree, means-complement, means-entry, level_of-complement, level_of-entry}
@@ -22,6 +22,9 @@ means-marked_id s false id v = refl
 pub level_of-marked_id : (s : Table) (m : Bool) (id : NodeId) → level_of s (marked_id m id) ≡ level_of s id
 level_of-marked_id s true id = level_of-complement s id
 level_of-marked_id s false id = refl
+
+pub depth_of-marked_id : (s : Table) (m : Bool) (id : NodeId) → depth_of s (marked_id m id) ≡ depth_of s id
+depth_of-marked_id s m id = ap (rank_of s) (level_of-marked_id s m id)
 
 pub position_of-marked_id : (m : Bool) (id : NodeId) → position_of (marked_id m id) ≡ position_of id
 position_of-marked_id true id = position_of-complement id
@@ -80,8 +83,8 @@ is_node s unique id known some =
       hi_known = omega (arith, hi, e.hi_before, within);
       lo_smaller = omega (arith, lo, e.lo_before);
       hi_smaller = omega (arith, hi, e.hi_before);
-      lo_rises = omega (arith, level_of-marked_id s (is_marked id) n.lo, e.lo_rises);
-      hi_rises = omega (arith, level_of-marked_id s (is_marked id) n.hi, e.hi_rises);
+      lo_rises = omega (arith, depth_of-marked_id s (is_marked id) n.lo, e.lo_rises);
+      hi_rises = omega (arith, depth_of-marked_id s (is_marked id) n.hi, e.hi_rises);
       differ = λ same. e.differ (marked_id-cancel (is_marked id) n.lo n.hi same);
       meaning = means-marked_node s unique id known some;
     }
@@ -89,6 +92,7 @@ is_node s unique id known some =
 -- a unique table is reduced
 pub reduced : (s : Table) → IsUniqueTable s → IsReduced s
 reduced s unique = record {
+  ranks = unique.ranks;
   nodes = λ id known inner.
       subst (IsNode s id) (sym (node_of-entry s id)) (is_node s unique id known (omega (arith, inner)));
   constants = λ id constant. level_of-constant s id (omega (arith, constant));

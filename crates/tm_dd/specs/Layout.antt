@@ -6,7 +6,7 @@ use Rattle.tm_dd.specs.Unique.{IsUniqueTable}
 
 -- the nodes are the entries past the constant's
 abbrev pub table_of : Inside → Table
-table_of a = record { levels = a.levels; nodes = drop 1 a.entries.keys }
+table_of a = record { levels = a.levels; ranks = a.ranks.items; nodes = drop 1 a.entries.keys }
 
 -- the set has the entries of a unique table
 pub record IsStore (a : Inside) : Type 0 where

@@ -1,3 +1,4 @@
+pub mod Hashed
 pub mod Layout
 pub mod NodeId
 pub mod Reduced

@@ -6,9 +6,10 @@ use Rattle.tm_dd.specs.declared.node.NodeId.{NodeId}
 use Rattle.tm_dd.specs.declared.node.TheConstants.{FALSE}
 use Rattle.tm_dd.specs.NodeId.{number_of, position_of, is_marked, complement}
 
--- the number of levels, and the kept nodes in the order of their positions, which begin at 1
+-- the number of levels, the rank of each level, and the kept nodes in the order of their positions, which begin at 1
 pub record Table : Type 0 where
   pub levels : ℕ
+  pub ranks : List ℕ
   pub nodes : List Node
 
 -- how many nodes are kept
@@ -34,6 +35,14 @@ entry_at s position = slice_index_or (entries s) position (constant_entry s.leve
 -- the level of an id: that of its node, and for a constant the number of levels
 unfoldable pub level_of : Table → NodeId → ℕ
 level_of s id = (entry_at s (position_of id)).level
+
+-- the rank of a level: how deep it stands in diagrams, where 0 is the top. What is no level stands below all levels
+unfoldable pub rank_of : Table → ℕ → ℕ
+rank_of s level = slice_index_or s.ranks level s.levels
+
+-- the rank of an id's level
+abbrev pub depth_of : Table → NodeId → ℕ
+depth_of s id = rank_of s (level_of s id)
 
 -- a node with its children complemented
 abbrev pub complement_node : Node → Node

@@ -4,5 +4,5 @@
 mod node;
 mod store;
 
-pub use node::{FALSE, Node, NodeId, TRUE};
+pub use node::{FALSE, Node, NodeId, TRUE, mixed};
 pub use store::Store;

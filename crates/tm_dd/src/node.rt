@@ -1,7 +1,10 @@
 //! The ids of Boolean functions, and the nodes that stand for them.
 ghost use Rattle.std.specs.Prelude.{◌≡◌, ◌↔◌, ◌<◌, ◌^◌, ℕ, Bool, false, not, if◌then◌else◌, IsTrue};
-ghost use Rattle.tm_dd.specs.NodeId.{complement, is_marked, IsConstant, position_of};
+ghost use Rattle.tm_dd.specs.Hashed.{mixed};
+ghost use Rattle.tm_dd.specs.NodeId.{complement, is_marked, IsConstant, number_of, position_of};
 ghost use Rattle.tm_dd.specs.Table.{Knows, level_of, means, Table};
+
+use std::hash::{Hash, Hasher};
 
 /// The id of a Boolean function in a store: twice the position of a kept function, plus 1 where it is that function's
 /// complement.
@@ -18,14 +21,46 @@ pub const FALSE: NodeId = NodeId(0);
 pub const TRUE: NodeId = NodeId(1);
 
 /// An inner node: the function that is `hi` where the level's value is true, and `lo` where it is false.
-#[derive(Clone, Copy, PartialEq, Eq, Hash, Debug)]
+#[derive(Clone, Copy, PartialEq, Eq, Debug)]
 pub struct Node {
     pub level: u32,
     pub lo: NodeId,
     pub hi: NodeId,
 }
 
+impl Hash for Node {
+    ghost use Rattle.tm_dd.specs.Hashed.{node_hash, same_node_hash};
+
+    ghost hash_input = { node_hash };
+
+    ghost respects_eq = { same_node_hash };
+
+    fn hash<H: Hasher>(&self, state: &mut H) {
+        state.write_u64(mixed(self.level as u64, self.lo.0, self.hi.0));
+    }
+}
+
+/// An odd number next to 2^64 over the golden ratio.
+pub const FACTOR: u64 = 0x9e37_79b9_7f4a_7c15;
+
+/// Three numbers as one, which a hasher takes in one write: multiplicative hashing (Knuth 1973).
+pub fn mixed(one: u64, two: u64, three: u64) -> u64
+    ensures { result ≡ mixed one two three }
+{
+    one.wrapping_mul(FACTOR)
+        .wrapping_add(two)
+        .wrapping_mul(FACTOR)
+        .wrapping_add(three)
+}
+
 impl NodeId {
+    /// The number of the id.
+    pub fn number(self) -> u64
+        ensures { result ≡ number_of self }
+    {
+        self.0
+    }
+
     // The id of the kept function at the position.
     pub(crate) fn at(position: usize) -> NodeId
         requires { position < 2 ^ 63 }

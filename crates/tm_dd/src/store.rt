@@ -1,9 +1,10 @@
 //! The store of diagram nodes.
+ghost use Rattle.std.specs.List.{range_with_len};
 ghost use Rattle.std.specs.Prelude.{◌≡◌, ◌↔◌, ◌⊎◌, ℕ, ◌+◌, ◌^◌, ◌<◌, ◌≤◌, Bool, false, min, length, if◌then◌else◌, IsTrue, IfOk, OnErr};
 ghost use Rattle.tm_dd.specs.NodeId.{complement, IsConstant, is_marked, position_of};
-ghost use Rattle.tm_dd.specs.Reduced.{Extends, IsNode, IsReduced, MeansNode};
-ghost use Rattle.tm_dd.specs.Table.{assignment, entry_at, kept, Knows, level_of, means, node_of};
-ghost use Rattle.tm_dd.specs.Unique.{IsEntry, IsKept, IsUniqueTable};
+ghost use Rattle.tm_dd.specs.Reduced.{Extends, IsDeeper, IsNode, IsReduced, MeansNode};
+ghost use Rattle.tm_dd.specs.Table.{assignment, depth_of, entry_at, kept, Knows, level_of, means, node_of, rank_of};
+ghost use Rattle.tm_dd.specs.Unique.{AreRanks, IsEntry, IsKept, IsUniqueTable};
 
 use crate::node::{FALSE, Node, NodeId, TRUE};
 use indexmap::IndexSet;
@@ -14,10 +15,12 @@ use tm_base::Steps;
 /// Boolean functions of the values of some levels, kept as a reduced ordered binary decision diagram with complement
 /// marks (Bryant 1986; Brace, Rudell and Bryant 1990).
 ///
-/// Ids are equal exactly where their functions are equal. An id means the same from the call that gave it on.
+/// Ids are equal exactly where their functions are equal. An id means the same from the call that gave it on. A level's
+/// rank tells how deep it stands in diagrams, and nothing of what they mean.
 #[derive(Drop)]
 pub struct Store {
     levels: u32,
+    ranks: Vec<u32>,
     entries: IndexSet<Node>,
 }
 
@@ -34,9 +37,22 @@ impl Model for Store {
 }
 
 impl Store {
-    /// A store of functions of `levels` levels, which keeps the constant alone.
+    /// A store of functions of `levels` levels, each of which has its number for its rank. It keeps the constant alone.
     pub fn new(alloc: Global, levels: u32) -> Result<Store, AllocError>
         ensures levels { IfOk result (λ s. s.levels ≡ levels) }
+        ensures ranks { IfOk result (λ s. s.ranks ≡ range_with_len 0 s.levels) }
+        ensures kept { IfOk result (λ s. kept s ≡ 0) }
+        ensures reduced { IfOk result IsReduced }
+    {
+        let ranks = numbers(alloc, levels)?;
+        Store::arranged(alloc, levels, ranks)
+    }
+
+    /// A store of functions of `levels` levels of these ranks, which keeps the constant alone.
+    pub fn arranged(alloc: Global, levels: u32, ranks: Vec<u32>) -> Result<Store, AllocError>
+        requires { AreRanks levels ranks.items }
+        ensures levels { IfOk result (λ s. s.levels ≡ levels) }
+        ensures ranks { IfOk result (λ s. s.ranks ≡ ranks.items) }
         ensures kept { IfOk result (λ s. kept s ≡ 0) }
         ensures reduced { IfOk result IsReduced }
     {
@@ -46,7 +62,11 @@ impl Store {
             lo: FALSE,
             hi: FALSE,
         })?;
-        Ok(Store { levels, entries })
+        Ok(Store {
+            levels,
+            ranks,
+            entries,
+        })
     }
 
     /// The number of levels.
@@ -55,6 +75,34 @@ impl Store {
         ensures reduced { IsReduced self.now }
     {
         self.levels
+    }
+
+    /// The rank of each level.
+    pub fn ranks(&self) -> &[u32]
+        ensures value { result.now ≡ self.now.ranks }
+        ensures reduced { IsReduced self.now }
+    {
+        self.ranks.as_slice()
+    }
+
+    /// The rank of a level: how deep it stands in diagrams. What is no level stands below all levels.
+    pub fn rank(&self, level: u32) -> u32
+        ensures value { result ≡ rank_of self.now level }
+        ensures reduced { IsReduced self.now }
+    {
+        match self.ranks.get(level as usize) {
+            Some(rank) => *rank,
+            None => self.levels,
+        }
+    }
+
+    /// The rank of an id's level, which is the number of levels for a constant.
+    pub fn depth(&self, id: NodeId) -> u32
+        requires { Knows self.now id }
+        ensures value { result ≡ depth_of self.now id }
+        ensures reduced { IsReduced self.now }
+    {
+        self.rank(self.level(id))
     }
 
     /// The number of kept nodes. It takes no memory.
@@ -134,8 +182,8 @@ impl Store {
         requires level { level < self.old.levels }
         requires lo_known { Knows self.old lo }
         requires hi_known { Knows self.old hi }
-        requires lo_deeper { level < level_of self.old lo }
-        requires hi_deeper { level < level_of self.old hi }
+        requires lo_deeper { IsDeeper self.old level lo }
+        requires hi_deeper { IsDeeper self.old level hi }
 
         ensures counted { steps.new ≡ min (steps.old + 1) u64.MAX }
         ensures refused { OnErr result (self.new ≡ self.old) }
@@ -144,7 +192,7 @@ impl Store {
 
         // The answer is known, on this level or a deeper one, and means what was asked for.
         ensures known { IfOk result (λ r. Knows self.new r) }
-        ensures deep { IfOk result (λ r. level ≤ level_of self.new r) }
+        ensures deep { IfOk result (λ r. rank_of self.new level ≤ depth_of self.new r) }
         ensures meaning { IfOk result (λ r. (v : ℕ → Bool)
             → means self.new r v ≡ (if v level then means self.old hi v else means self.old lo v)) }
         ensures node { IfOk result (λ r. ¬ (lo ≡ hi)
@@ -198,4 +246,15 @@ impl Store {
         prove!(position < self.entries.len());
         Ok(position)
     }
+}
+
+// The numbers of the levels, in order.
+fn numbers(alloc: Global, levels: u32) -> Result<Vec<u32>, AllocError>
+    ensures { IfOk result (λ numbers. numbers.items ≡ range_with_len 0 levels) }
+{
+    let mut numbers = Vec::new(alloc);
+    for level in 0..levels {
+        numbers.push(level)?;
+    }
+    Ok(numbers)
 }

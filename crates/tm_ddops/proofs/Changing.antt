@@ -6,11 +6,12 @@ use Rattle.tm_dd.specs.declared.node.NodeId.{NodeId}
 use Rattle.tm_dd.specs.declared.node.TheConstants.{FALSE, TRUE}
 use Rattle.tm_dd.specs.NodeId.{IsConstant}
 use Rattle.tm_dd.specs.Reduced.{IsReduced, IsNode, Extends}
-use Rattle.tm_dd.specs.Table.{Table, Knows, level_of, means, node_of}
-use Rattle.tm_dd.proofs.CallerLaws.{means-FALSE, means-TRUE}
+use Rattle.tm_dd.specs.Table.{Table, Knows, depth_of, means, node_of, rank_of}
+use Rattle.tm_dd.proofs.CallerLaws.{means-FALSE, means-TRUE, rank_of-Extends}
+use Rattle.tm_dd.proofs.Ranks.{ranks_apart}
 use Rattle.tm_ddops.specs.declared.change.Change.{Change}
 use Rattle.tm_ddops.specs.declared.change.Change.TheVariants.{Becomes, Quantified}
-use Rattle.tm_ddops.specs.Changed.{IsChanged, KnowsParts, MayRead, Reads, branch_value}
+use Rattle.tm_ddops.specs.Changed.{IsChanged, IsDepth, KnowsParts, MayRead, Reads, branch_value}
 use Rattle.tm_ddops.specs.Manager.{IsFunction}
 use Rattle.tm_ddops.proofs.Facts.{knows-Extends}
 
@@ -27,11 +28,11 @@ reads-read_value s v k None = refl
 reads-read_value s v k (Some (Becomes part)) = refl
 reads-read_value s v k (Some Quantified) = tt
 
--- where no level from that of a function on changes, the function stays
+-- where no level from that of a function on downwards changes, the function stays
 pub changed_below : (s : Table) → IsReduced s → (changes : ℕ → Option Change) (f : NodeId) → Knows s f →
     KnowsParts s changes
-    → ((k : ℕ) → level_of s f ≤ k → k < s.levels → changes k ≡ None) → IsChanged s changes f f
-changed_below s reduced changes f known parts stay = record {
+    → (depth : ℕ) → IsDepth s changes depth → depth ≤ depth_of s f → IsChanged s changes f f
+changed_below s reduced changes f known parts depth deepest above = record {
   operand = known;
   known = known;
   parts = parts;
@@ -44,6 +45,9 @@ changed_below s reduced changes f known parts stay = record {
   enough = λ v w may h. reduced.independent f known v w
       (λ k deep below. sym (subst (λ o. Reads s v k o (w k)) (stay k deep below) (may k below))) ∙ h;
 }
+  where
+    stay : (k : ℕ) → depth_of s f ≤ rank_of s k → k < s.levels → changes k ≡ None
+    stay k deep below = deepest.stay k below (omega (arith, above, deep))
 
 -- changes that agree on all levels make the same of a function
 pub changed_alike : (s : Table) (c d : ℕ → Option Change) → ((k : ℕ) → k < s.levels → c k ≡ d k) → (f id : NodeId) →
@@ -61,6 +65,13 @@ changed_alike s c d alike f id x = record {
 -- ---- in a store that was extended
 
 module _ (s t : Table) (e : Extends s t) where
+  pub IsDepth-Extends : (changes : ℕ → Option Change) (depth : ℕ) → IsDepth s changes depth → IsDepth t changes depth
+  IsDepth-Extends changes depth d = record {
+    within = omega (arith, d.within, e.same_levels);
+    stay = λ k below deep.
+        d.stay k (omega (arith, below, e.same_levels)) (omega (arith, deep, rank_of-Extends s t e k));
+  }
+
   reads_later : (v : ℕ → Bool) (k : ℕ) (o : Option Change) (b : Bool) →
       ((part : NodeId) → o ≡ Some (Becomes part) → Knows s part) → Reads s v k o b → Reads t v k o b
   reads_later v k None b known h = h
@@ -133,12 +144,14 @@ module _ (s : Table) (reduced : IsReduced s) (changes : ℕ → Option Change) (
   hi_ignores : (w : ℕ → Bool) (b : Bool) →
       means s (node_of s f).hi (set w (node_of s f).level b) ≡ means s (node_of s f).hi w
   hi_ignores w b = reduced.independent (node_of s f).hi node.hi_known (set w (node_of s f).level b) w
-      (λ k deep _. set-other w (node_of s f).level k b (omega (arith, node.hi_rises, deep)))
+      (λ k deep _. set-other w (node_of s f).level k b
+      (ranks_apart s (node_of s f).level k (omega (arith, node.hi_rises, deep))))
 
   lo_ignores : (w : ℕ → Bool) (b : Bool) →
       means s (node_of s f).lo (set w (node_of s f).level b) ≡ means s (node_of s f).lo w
   lo_ignores w b = reduced.independent (node_of s f).lo node.lo_known (set w (node_of s f).level b) w
-      (λ k deep _. set-other w (node_of s f).level k b (omega (arith, node.lo_rises, deep)))
+      (λ k deep _. set-other w (node_of s f).level k b
+      (ranks_apart s (node_of s f).level k (omega (arith, node.lo_rises, deep))))
 
   -- at a quantified level, any value may be read
   set_may_read : changes (node_of s f).level ≡ Some Quantified → (v w : ℕ → Bool) (b : Bool) → MayRead s changes v w →

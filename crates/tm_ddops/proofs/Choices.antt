@@ -1,14 +1,15 @@
 -- Choices: their ids, their cofactors, and what they mean in a store that was extended.
-use Rattle.std.proofs.Common.{◌≡◌, ℕ, ◌<◌, ◌≤◌, Bool, true, false, not, eqb, min, if◌then◌else◌, refl, sym, ap, ◌∙◌, arith}
-use Rattle.std.proofs.lemmas.Bool.{eqb-true, eqb-false, ne_eqb}
+use Rattle.std.proofs.Common.{◌≡◌, ℕ, ◌<◌, ◌≤◌, Bool, true, false, not, eqb, leb, min, if◌then◌else◌, inl, inr, refl, sym, ap, ◌∙◌, arith}
+use Rattle.std.proofs.lemmas.Bool.{cases_lt, eqb-true, eqb-false, le-leb, lt-leb, ne_eqb}
 use Rattle.tm_dd.specs.declared.node.NodeId.{NodeId}
 use Rattle.tm_dd.specs.declared.node.TheConstants.{FALSE, TRUE}
 use Rattle.tm_dd.specs.NodeId.{IsConstant, complement}
 use Rattle.tm_dd.specs.Reduced.{IsReduced, IsNode, Extends}
-use Rattle.tm_dd.specs.Table.{Table, Knows, means, level_of, node_of}
-use Rattle.tm_dd.proofs.CallerLaws.{means-FALSE, means-TRUE, means-complement, level_of-complement, Knows-complement}
+use Rattle.tm_dd.specs.Table.{Table, Knows, depth_of, means, level_of, node_of, rank_of}
+use Rattle.tm_dd.proofs.CallerLaws.{means-FALSE, means-TRUE, means-complement, depth_of-complement, Knows-complement}
+use Rattle.tm_dd.proofs.Ranks.{depth_of-Extends, is_level, rank_of-apart, rank_of-below, rank_of-Extends, rank_of-within}
 use Rattle.tm_ddops.specs.declared.choice.Choice.{Choice}
-use Rattle.tm_ddops.specs.Choice.{choice_level, choice_value, cofactor, cofactor_choice, IsChoice, IsOpen, KnowsChoice, MeansWhere}
+use Rattle.tm_ddops.specs.Choice.{choice_depth, choice_level, choice_value, upper, cofactor, cofactor_choice, IsChoice, IsOpen, KnowsChoice, MeansWhere}
 use Rattle.tm_ddops.proofs.Facts.{level_of-inner, knows-Extends}
 
 -- a true test picks the first branch, a false one the second
@@ -18,7 +19,7 @@ picks false b c r on off = off refl
 
 -- an id is a choice where it means its first branch where the test is true, and the second where it is false
 pub choice_by_cases : (s : Table) (k : Choice) (r : NodeId) → KnowsChoice s k → Knows s r →
-    choice_level s k ≤ level_of s r
+    choice_depth s k ≤ depth_of s r
     → MeansWhere s k.test true r k.if_true → MeansWhere s k.test false r k.if_false → IsChoice s k r
 choice_by_cases s k r operands known deep on off = record {
   operands = operands;
@@ -52,7 +53,7 @@ pub choice_is_complement : (s : Table) (k : Choice) → KnowsChoice s k → Mean
     → IsChoice s k (complement k.test)
 choice_is_complement s k operands on off =
     choice_by_cases s k (complement k.test) operands (Knows-complement s k.test operands.test)
-    (omega (arith, level_of-complement s k.test))
+    (omega (arith, depth_of-complement s k.test))
     (λ v h. means-complement s k.test v ∙ ap not h ∙ sym (means-FALSE s v) ∙ on v h)
     (λ v h. means-complement s k.test v ∙ ap not h ∙ sym (means-TRUE s v) ∙ off v h)
 
@@ -90,13 +91,19 @@ module _ (s : Table) (reduced : IsReduced s) (f : NodeId) (known : Knows s f) (l
     knows-cofactor true = by_cofactor (Knows s) true (λ e. (node_at e).hi_known) (λ _. known)
     knows-cofactor false = by_cofactor (Knows s) false (λ e. (node_at e).lo_known) (λ _. known)
 
-    pub level_of-cofactor : level ≤ level_of s f → (b : Bool) → level < level_of s (cofactor s f level b)
-    level_of-cofactor above true =
-        by_cofactor (λ g. level < level_of s g) true (λ e. let n = node_at e in omega (arith, n.hi_rises, n.level, e))
-        (λ apart. omega (arith, apart, above))
-    level_of-cofactor above false =
-        by_cofactor (λ g. level < level_of s g) false (λ e. let n = node_at e in omega (arith, n.lo_rises, n.level, e))
-        (λ apart. omega (arith, apart, above))
+    same_rank : level_of s f ≡ level → rank_of s (node_of s f).level ≡ rank_of s level
+    same_rank e = ap (rank_of s) ((node_at e).level ∙ e)
+
+    pub depth_of-cofactor : rank_of s level ≤ depth_of s f → (b : Bool) →
+        rank_of s level < depth_of s (cofactor s f level b)
+    depth_of-cofactor above true =
+        by_cofactor (λ g. rank_of s level < depth_of s g) true
+        (λ e. omega (arith, (node_at e).hi_rises, same_rank e))
+        (λ apart. rank_of-apart s reduced.ranks level (level_of s f) within apart above)
+    depth_of-cofactor above false =
+        by_cofactor (λ g. rank_of s level < depth_of s g) false
+        (λ e. omega (arith, (node_at e).lo_rises, same_rank e))
+        (λ apart. rank_of-apart s reduced.ranks level (level_of s f) within apart above)
 
     pub means-cofactor : (b : Bool) (v : ℕ → Bool) → v level ≡ b → means s (cofactor s f level b) v ≡ means s f v
     means-cofactor true v at =
@@ -110,12 +117,37 @@ module _ (s : Table) (reduced : IsReduced s) (f : NodeId) (known : Knows s f) (l
         sym (n.meaning v ∙ ap (λ t. if t then means s (node_of s f).hi v else means s (node_of s f).lo v) here))
         (λ _. refl)
 
-module _ (s : Table) (reduced : IsReduced s) (k : Choice) (known : KnowsChoice s k) where
-  pub choice_level-open : IsOpen k → choice_level s k < s.levels
-  choice_level-open open_ = omega (arith, level_of-inner s reduced k.test known.test open_.0)
+-- the rank of the higher of two levels is the lesser one
+rank_of-upper : (s : Table) (j k : ℕ) → rank_of s (upper s j k) ≡ min (rank_of s j) (rank_of s k)
+rank_of-upper s j k =
+    elim (cases_lt (rank_of s k) (rank_of s j)) [
+      | inl below ↦
+          let picked : upper s j k ≡ k = ap (λ b. if b then j else k) (lt-leb (rank_of s j) (rank_of s k) below) in
+          omega (arith, ap (rank_of s) picked, below)
+      | inr above ↦
+          let picked : upper s j k ≡ j = ap (λ b. if b then j else k) (le-leb (rank_of s j) (rank_of s k) above) in
+          omega (arith, ap (rank_of s) picked, above)
+    ]
 
-  pub choice_level-within : choice_level s k ≤ s.levels
-  choice_level-within = omega (arith, reduced.within k.test known.test)
+pub rank_of-choice_level : (s : Table) (k : Choice) → rank_of s (choice_level s k) ≡ choice_depth s k
+rank_of-choice_level s k =
+    rank_of-upper s (level_of s k.test) (upper s (level_of s k.if_true) (level_of s k.if_false))
+    ∙ ap (min (depth_of s k.test)) (rank_of-upper s (level_of s k.if_true) (level_of s k.if_false))
+
+module _ (s : Table) (reduced : IsReduced s) (k : Choice) (known : KnowsChoice s k) where
+  pub choice_depth-open : IsOpen k → choice_depth s k < s.levels
+  choice_depth-open open_ =
+      omega (
+        arith,
+        rank_of-below s reduced.ranks (level_of s k.test) (level_of-inner s reduced k.test known.test open_.0),
+      )
+
+  pub choice_level-open : IsOpen k → choice_level s k < s.levels
+  choice_level-open open_ =
+      is_level s reduced.ranks (choice_level s k) (omega (arith, rank_of-choice_level s k, choice_depth-open open_))
+
+  pub choice_depth-within : choice_depth s k ≤ s.levels
+  choice_depth-within = omega (arith, rank_of-within s reduced.ranks (level_of s k.test))
 
   module _ (within : choice_level s k < s.levels) where
     pub knows-cofactor_choice : (b : Bool) → KnowsChoice s (cofactor_choice s k b)
@@ -125,12 +157,14 @@ module _ (s : Table) (reduced : IsReduced s) (k : Choice) (known : KnowsChoice s
       if_false = knows-cofactor s reduced k.if_false known.if_false (choice_level s k) within b;
     }
 
-    pub choice_level-cofactor_choice : (b : Bool) → choice_level s k < choice_level s (cofactor_choice s k b)
-    choice_level-cofactor_choice b =
-        let test = level_of-cofactor s reduced k.test known.test (choice_level s k) within (omega arith) b in
-        let on = level_of-cofactor s reduced k.if_true known.if_true (choice_level s k) within (omega arith) b in
-        let off = level_of-cofactor s reduced k.if_false known.if_false (choice_level s k) within (omega arith) b in
-        omega (arith, test, on, off)
+    pub choice_depth-cofactor_choice : (b : Bool) → choice_depth s k < choice_depth s (cofactor_choice s k b)
+    choice_depth-cofactor_choice b =
+        let top = rank_of-choice_level s k in
+        let level = choice_level s k in
+        let test = depth_of-cofactor s reduced k.test known.test level within (omega (arith, top)) b in
+        let on = depth_of-cofactor s reduced k.if_true known.if_true level within (omega (arith, top)) b in
+        let off = depth_of-cofactor s reduced k.if_false known.if_false level within (omega (arith, top)) b in
+        omega (arith, top, test, on, off)
 
     pub choice_value-cofactor_choice : (b : Bool) (v : ℕ → Bool) → v (choice_level s k) ≡ b →
         choice_value s (cofactor_choice s k b) v ≡ choice_value s k v
@@ -152,8 +186,20 @@ module _ (s t : Table) (e : Extends s t) where
 
   pub choice_level-Extends : (k : Choice) → KnowsChoice s k → choice_level t k ≡ choice_level s k
   choice_level-Extends k known =
-      λ i. min (e.same_level k.test known.test i)
-      (min (e.same_level k.if_true known.if_true i) (e.same_level k.if_false known.if_false i))
+      let branch : upper t (level_of t k.if_true) (level_of t k.if_false)
+      ≡ upper s (level_of s k.if_true) (level_of s k.if_false) =
+      λ i. if leb (depth_of-Extends s t e k.if_true known.if_true i)
+      (depth_of-Extends s t e k.if_false known.if_false i)
+      then e.same_level k.if_true known.if_true i else e.same_level k.if_false known.if_false i in
+      let rank = rank_of-Extends s t e (upper t (level_of t k.if_true) (level_of t k.if_false))
+      ∙ ap (rank_of s) branch in
+      λ i. if leb (depth_of-Extends s t e k.test known.test i) (rank i)
+      then e.same_level k.test known.test i else branch i
+
+  pub choice_depth-Extends : (k : Choice) → KnowsChoice s k → choice_depth t k ≡ choice_depth s k
+  choice_depth-Extends k known =
+      λ i. min (depth_of-Extends s t e k.test known.test i)
+      (min (depth_of-Extends s t e k.if_true known.if_true i) (depth_of-Extends s t e k.if_false known.if_false i))
 
   pub choice_value-Extends : (k : Choice) → KnowsChoice s k → (v : ℕ → Bool) → choice_value t k v ≡ choice_value s k v
   choice_value-Extends k known v =
@@ -164,7 +210,7 @@ module _ (s t : Table) (e : Extends s t) where
   IsChoice-Extends k id c = record {
     operands = KnowsChoice-Extends k c.operands;
     known = knows-Extends s t e id c.known;
-    deep = omega (arith, c.deep, choice_level-Extends k c.operands, e.same_level id c.known);
+    deep = omega (arith, c.deep, choice_depth-Extends k c.operands, depth_of-Extends s t e id c.known);
     meaning = λ v. e.same_meaning id c.known v ∙ c.meaning v ∙ sym (choice_value-Extends k c.operands v);
   }
 
@@ -190,12 +236,12 @@ module _ (s t : Table) (e : Extends s t) where
 pub choice_of_branches : (s t : Table) → IsReduced s → Extends s t → (k : Choice) → KnowsChoice s k →
     choice_level s k < s.levels → (lo hi id : NodeId)
     → IsChoice s (cofactor_choice s k false) lo → IsChoice s (cofactor_choice s k true) hi
-    → Knows t id → choice_level s k ≤ level_of t id
+    → Knows t id → choice_depth s k ≤ depth_of t id
     → ((v : ℕ → Bool) → means t id v ≡ (if v (choice_level s k) then means s hi v else means s lo v)) → IsChoice t k id
 choice_of_branches s t reduced e k known within lo hi id low high there deep meaning = record {
   operands = KnowsChoice-Extends s t e k known;
   known = there;
-  deep = omega (arith, deep, choice_level-Extends s t e k known);
+  deep = omega (arith, deep, choice_depth-Extends s t e k known);
   meaning = λ v. meaning v ∙ branches v ∙ sym (choice_value-Extends s t e k known v);
 }
   where

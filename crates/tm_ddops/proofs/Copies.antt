@@ -8,9 +8,10 @@ use Rattle.tm_dd.specs.declared.node.Node.{Node}
 use Rattle.tm_dd.specs.declared.node.NodeId.{NodeId}
 use Rattle.tm_dd.specs.declared.node.TheConstants.{FALSE, TRUE}
 use Rattle.tm_dd.specs.NodeId.{IsConstant, complement}
-use Rattle.tm_dd.specs.Reduced.{IsReduced, IsNode, Extends}
-use Rattle.tm_dd.specs.Table.{Table, Knows, level_of, means, node_of}
-use Rattle.tm_dd.proofs.CallerLaws.{means-FALSE, means-TRUE, complement-complement, Extends-trans}
+use Rattle.tm_dd.specs.Reduced.{Extends, IsDeeper, IsNode, IsReduced}
+use Rattle.tm_dd.specs.Table.{Table, Knows, depth_of, means, node_of, rank_of}
+use Rattle.tm_dd.proofs.Ranks.{rank_of-same}
+use Rattle.tm_dd.proofs.CallerLaws.{depth_of-Extends, depth_of-IsConstant, means-FALSE, means-TRUE, complement-complement, Extends-trans}
 use Rattle.tm_ddops.specs.Copied.{AddsReached, AllReached, AreCopies, IsCopy, MeanTheSame, ReachesUpToMark}
 use Rattle.tm_ddops.specs.Inner.Found.{Found}
 use Rattle.tm_ddops.specs.Manager.{IsFunction}
@@ -22,7 +23,7 @@ pub copy_constant : (from to : Table) → IsReduced from → IsReduced to → to
 copy_constant from to rf rt levels f constant known = record {
   operand = known;
   known = knows-constant to f constant;
-  deep = omega (arith, rf.constants f constant, rt.constants f constant, levels);
+  deep = omega (arith, depth_of-IsConstant from rf f constant, depth_of-IsConstant to rt f constant, levels);
   meaning = λ v. elim (constant_cases f constant) [
     | inl e ↦ ap (λ g. means to g v) e ∙ means-FALSE to v ∙ sym (means-FALSE from v) ∙ ap (λ g. means from g v) (sym e)
     | inr e ↦ ap (λ g. means to g v) e ∙ means-TRUE to v ∙ sym (means-TRUE from v) ∙ ap (λ g. means from g v) (sym e)
@@ -33,7 +34,7 @@ pub IsCopy-Extends : (from s t : Table) → Extends s t → (f id : NodeId) → 
 IsCopy-Extends from s t e f id x = record {
   operand = x.operand;
   known = knows-Extends s t e id x.known;
-  deep = omega (arith, x.deep, e.same_level id x.known);
+  deep = omega (arith, x.deep, depth_of-Extends s t e id x.known);
   meaning = λ v. e.same_meaning id x.known v ∙ x.meaning v;
 }
 
@@ -83,18 +84,27 @@ module _ (from : Table) (reduced : IsReduced from) (f : NodeId) (known : Knows f
   low_later : IsCopy from s n.lo lo
   low_later = IsCopy-Extends from r s e n.lo lo low
 
+  -- they stand deeper than the node
+  pub lo_deeper : s.levels ≡ from.levels → s.ranks ≡ from.ranks → IsDeeper s n.level lo
+  lo_deeper levels ranks =
+      inr (omega (arith, rank_of-same from s levels ranks n.level, node.lo_rises, low_later.deep))
+
+  pub hi_deeper : s.levels ≡ from.levels → s.ranks ≡ from.ranks → IsDeeper s n.level hi
+  hi_deeper levels ranks = inr (omega (arith, rank_of-same from s levels ranks n.level, node.hi_rises, high.deep))
+
   -- the copies of different functions differ
   pub copies_differ : lo ≢ hi
   copies_differ same =
       node.differ (reduced.canonical n.lo n.hi node.lo_known node.hi_known
       (λ v. sym (low_later.meaning v) ∙ ap (λ g. means s g v) same ∙ high.meaning v))
 
-  pub copy_of_branches : (t : Table) (id : NodeId) → Knows t id → n.level ≤ level_of t id
+  pub copy_of_branches : (t : Table) → t.levels ≡ from.levels → t.ranks ≡ from.ranks → (id : NodeId) → Knows t id →
+      rank_of t n.level ≤ depth_of t id
       → ((v : ℕ → Bool) → means t id v ≡ (if v n.level then means s hi v else means s lo v)) → IsCopy from t f id
-  copy_of_branches t id there deep meaning = record {
+  copy_of_branches t levels ranks id there deep meaning = record {
     operand = known;
     known = there;
-    deep = omega (arith, deep, node.level);
+    deep = omega (arith, deep, rank_of-same from t levels ranks n.level, ap (rank_of from) node.level);
     meaning = λ v. meaning v ∙ (λ i. if v n.level then high.meaning v i else low_later.meaning v i)
         ∙ sym (node.meaning v);
   }

@@ -16,7 +16,9 @@ use Rattle.lru.proofs.Splits.{Contains-head, Contains-tail, Contains-cons, Conta
 use Rattle.tm_dd.specs.declared.node.NodeId.{NodeId}
 use Rattle.tm_dd.specs.NodeId.{number_of, IsConstant}
 use Rattle.tm_dd.specs.Reduced.{IsReduced, IsNode}
-use Rattle.tm_dd.specs.Table.{Table, Knows, level_of, means, node_of}
+use Rattle.tm_dd.specs.Table.{Table, Knows, depth_of, level_of, means, node_of, rank_of}
+use Rattle.tm_dd.proofs.CallerLaws.{depth_of-IsConstant}
+use Rattle.tm_dd.proofs.Ranks.{rank_of-below, ranks_apart}
 use Rattle.tm_ddops.specs.Reached.{Reaches, itself, through_lo, through_hi, IsInnerNodes}
 use Rattle.tm_ddops.specs.Support.{DependsOn, with_value}
 use Rattle.tm_ddops.proofs.Facts.{below_or_not, is_constant_cases, level_of-inner}
@@ -119,22 +121,26 @@ module _ (s : Table) (reduced : IsReduced s) where
   known_reached f g known (through_hi _ _ inner rest) =
       known_reached (node_of s f).hi g (reduced.nodes f known inner).hi_known rest
 
+  -- a node stands on its own level
+  node_depth : (f : NodeId) → Knows s f → ¬ IsConstant f → rank_of s (node_of s f).level ≡ depth_of s f
+  node_depth f known inner = ap (rank_of s) (reduced.nodes f known inner).level
+
   -- what is reached stands on the same level or on a deeper one
-  level_rises : (f g : NodeId) → Knows s f → Reaches s f g → level_of s f ≤ level_of s g
+  level_rises : (f g : NodeId) → Knows s f → Reaches s f g → depth_of s f ≤ depth_of s g
   level_rises f g known (itself _) = omega arith
   level_rises f g known (through_lo _ _ inner rest) =
       let node = reduced.nodes f known inner in
-      omega (arith, node.level, node.lo_rises, level_rises (node_of s f).lo g node.lo_known rest)
+      omega (arith, node_depth f known inner, node.lo_rises, level_rises (node_of s f).lo g node.lo_known rest)
   level_rises f g known (through_hi _ _ inner rest) =
       let node = reduced.nodes f known inner in
-      omega (arith, node.level, node.hi_rises, level_rises (node_of s f).hi g node.hi_known rest)
+      omega (arith, node_depth f known inner, node.hi_rises, level_rises (node_of s f).hi g node.hi_known rest)
 
   -- a function does not depend on the levels above its own
-  ignores : (f : NodeId) → Knows s f → (v : ℕ → Bool) (level : ℕ) (b : Bool) → level < level_of s f →
+  ignores : (f : NodeId) → Knows s f → (v : ℕ → Bool) (level : ℕ) (b : Bool) → rank_of s level < depth_of s f →
       means s f (with_value v level b) ≡ means s f v
   ignores f known v level b above =
       reduced.independent f known (with_value v level b) v
-      (λ k deep _. with_value-other v level b k (omega (arith, above, deep)))
+      (λ k deep _. with_value-other v level b k (ranks_apart s level k (omega (arith, above, deep))))
 
   -- the order in which two levels get their values does not count
   swaps : (f : NodeId) → Knows s f → (v : ℕ → Bool) (level k : ℕ) (b c : Bool) → level ≢ k
@@ -209,18 +215,24 @@ module _ (s : Table) (reduced : IsReduced s) where
         ∙ (λ i. if (at true ∙ sym (at false)) i then hi i else lo i)
         ∙ sym (node.meaning (with_value v k false))
 
+  -- what stands deeper stands on another level
+  other_level : (level : ℕ) (g : NodeId) → rank_of s level < depth_of s g → level ≢ level_of s g
+  other_level level g above e = ranks_apart s level (level_of s g) above (sym e)
+
   -- a function depends on the level of each inner node that is reached from it
   pub depends_reached : (f g : NodeId) → Knows s f → Reaches s f g → ¬ IsConstant g → DependsOn s f (level_of s g)
   depends_reached f g known (itself _) inner = own_level f known inner
   depends_reached f g known (through_lo _ _ is_inner rest) inner =
       let node = reduced.nodes f known is_inner in
       from_lo f known is_inner (level_of s g)
-      (omega (arith, node.lo_rises, level_rises (node_of s f).lo g node.lo_known rest))
+      (other_level (node_of s f).level g
+      (omega (arith, node.lo_rises, level_rises (node_of s f).lo g node.lo_known rest)))
       (depends_reached (node_of s f).lo g node.lo_known rest inner)
   depends_reached f g known (through_hi _ _ is_inner rest) inner =
       let node = reduced.nodes f known is_inner in
       from_hi f known is_inner (level_of s g)
-      (omega (arith, node.hi_rises, level_rises (node_of s f).hi g node.hi_known rest))
+      (other_level (node_of s f).level g
+      (omega (arith, node.hi_rises, level_rises (node_of s f).hi g node.hi_known rest)))
       (depends_reached (node_of s f).hi g node.hi_known rest inner)
 
   -- and on no other level
@@ -230,7 +242,8 @@ module _ (s : Table) (reduced : IsReduced s) where
   depends_not zero f small known k none v = absurd (omega (arith, small))
   depends_not (suc n) f small known k none v = elim (is_constant_cases f) [
     | inl constant ↦ reduced.independent f known (with_value v k true) (with_value v k false)
-        (λ j deep below. absurd (omega (arith, reduced.constants f constant, deep, below)))
+        (λ j deep below. absurd
+        (omega (arith, depth_of-IsConstant s reduced f constant, deep, rank_of-below s reduced.ranks j below)))
     | inr inner ↦
         let node = reduced.nodes f known inner in
         from_branches f known inner k (λ e. none f (itself f) inner (sym node.level ∙ e)) v

@@ -8,9 +8,9 @@ use Rattle.tm_dd.specs.Reduced.{IsReduced, Extends}
 use Rattle.tm_dd.specs.Table.{Table}
 use Rattle.tm_dd.proofs.CallerLaws.{same_number, Extends-trans}
 use Rattle.tm_ddops.specs.declared.choice.Choice.{Choice}
-use Rattle.tm_ddops.specs.Choice.{choice_level, cofactor_choice, IsChoice, IsOpen, KnowsChoice, Met, here, below}
+use Rattle.tm_ddops.specs.Choice.{choice_depth, cofactor_choice, IsChoice, IsOpen, KnowsChoice, Met, here, below}
 use Rattle.tm_ddops.specs.Inner.Memo.{Memo, choice_eq, noted, AreChoices, NotesOnlyMet, IsUnnoted}
-use Rattle.tm_ddops.proofs.Choices.{choice_level-open, choice_level-cofactor_choice, knows-cofactor_choice, cofactor_choice-Extends, choice_level-Extends, KnowsChoice-Extends, IsChoice-Extends}
+use Rattle.tm_ddops.proofs.Choices.{choice_depth-open, choice_level-open, choice_depth-cofactor_choice, knows-cofactor_choice, cofactor_choice-Extends, choice_depth-Extends, KnowsChoice-Extends, IsChoice-Extends}
 
 -- ---- equality of choices
 
@@ -30,16 +30,16 @@ same_choice a b h =
 -- ---- what is met
 
 -- what is met stands no higher
-pub choice_level-Met : (s : Table) → IsReduced s → (k m : Choice) → KnowsChoice s k → Met s k m →
-    choice_level s k ≤ choice_level s m
-choice_level-Met s reduced k m known (here _) = omega arith
-choice_level-Met s reduced k m known (below _ open_ b _ rest) =
+pub choice_depth-Met : (s : Table) → IsReduced s → (k m : Choice) → KnowsChoice s k → Met s k m →
+    choice_depth s k ≤ choice_depth s m
+choice_depth-Met s reduced k m known (here _) = omega arith
+choice_depth-Met s reduced k m known (below _ open_ b _ rest) =
     let within = choice_level-open s reduced k known open_ in
-    let down = choice_level-cofactor_choice s reduced k known within b in
+    let down = choice_depth-cofactor_choice s reduced k known within b in
     omega (
       arith,
       down,
-      choice_level-Met s reduced (cofactor_choice s k b) m
+      choice_depth-Met s reduced (cofactor_choice s k b) m
           (knows-cofactor_choice s reduced k known within b) rest,
     )
 
@@ -74,7 +74,7 @@ AreChoices-insert s m n k id updates notes c q r h =
 
 -- a walk below a choice does not note the choice itself
 pub still_absent : (s : Table) → IsReduced s → (k child : Choice) (old new : Memo) → KnowsChoice s child →
-    choice_level s k < choice_level s child
+    choice_depth s k < choice_depth s child
     → NotesOnlyMet s child old new → noted old k ≡ None → noted new k ≡ None
 still_absent s reduced k child old new known deeper met absent =
     by_note (noted new k) refl
@@ -83,7 +83,7 @@ still_absent s reduced k child old new known deeper met absent =
     by_note None e = e
     by_note (Some id) e = elim (met k (ap is_some e)) [
       | inl was ↦ let none : is_some (noted old k) ≡ false = ap is_some absent in cc
-      | inr there ↦ absurd (omega (arith, deeper, choice_level-Met s reduced child k known there.0))
+      | inr there ↦ absurd (omega (arith, deeper, choice_depth-Met s reduced child k known there.0))
     ]
 
 -- what a walk below a choice notes is met below the choice
@@ -145,20 +145,20 @@ module _ (s : Table) (reduced : IsReduced s) (k child : Choice) (b : Bool) (know
   child_known = subst (KnowsChoice s) (sym is_child)
       (knows-cofactor_choice s reduced k known (choice_level-open s reduced k known open_) b)
 
-  pub child_deeper : choice_level s k < choice_level s child
+  pub child_deeper : choice_depth s k < choice_depth s child
   child_deeper =
-      subst (λ c. choice_level s k < choice_level s c) (sym is_child)
-      (choice_level-cofactor_choice s reduced k known (choice_level-open s reduced k known open_) b)
+      subst (λ c. choice_depth s k < choice_depth s c) (sym is_child)
+      (choice_depth-cofactor_choice s reduced k known (choice_level-open s reduced k known open_) b)
 
-  pub child_falls : s.levels - choice_level s child < s.levels - choice_level s k
-  child_falls = let top = choice_level-open s reduced k known open_ in omega (arith, child_deeper)
+  pub child_falls : s.levels - choice_depth s child < s.levels - choice_depth s k
+  child_falls = let top = choice_depth-open s reduced k known open_ in omega (arith, child_deeper)
 
   module _ (t : Table) (e : Extends s t) where
     pub child_later : child ≡ cofactor_choice t k b
     child_later = is_child ∙ sym (cofactor_choice-Extends s t e k b known)
 
-    pub child_falls_later : t.levels - choice_level t child < s.levels - choice_level s k
-    child_falls_later = omega (arith, child_falls, e.same_levels, choice_level-Extends s t e child child_known)
+    pub child_falls_later : t.levels - choice_depth t child < s.levels - choice_depth s k
+    child_falls_later = omega (arith, child_falls, e.same_levels, choice_depth-Extends s t e child child_known)
 
 -- a look-up that finds nothing
 pub none_from_copied : {X : Type 0} {o : Option (Bor X)} {p : Option X} → o ≡ None → option_copied o ≡ p → p ≡ None
@@ -199,15 +199,15 @@ module _ (s : Table) (reduced : IsReduced s) (k : Choice) (known : KnowsChoice s
       (omega (
         arith,
         high_deeper,
-        choice_level-Extends s u whole k known,
-        choice_level-Extends s u whole high (child_known s reduced k high true known open_ is_high),
+        choice_depth-Extends s u whole k known,
+        choice_depth-Extends s u whole high (child_known s reduced k high true known open_ is_high),
       ))
       second
       (still_absent t reduced-t k low a b low_known
       (omega (
         arith,
         low_deeper,
-        choice_level-Extends s t e k known,
-        choice_level-Extends s t e low (child_known s reduced k low false known open_ is_low),
+        choice_depth-Extends s t e k known,
+        choice_depth-Extends s t e low (child_known s reduced k low false known open_ is_low),
       ))
       first absent)

@@ -1,8 +1,8 @@
 -- What changes of levels make of a function.
-use Rattle.std.specs.Prelude.{◌≡◌, ℕ, ◌==◌, ◌<◌, Bool, true, ◌||◌, List, Option, Some, None, slice_index_or, if◌then◌else◌}
+use Rattle.std.specs.Prelude.{◌≡◌, ℕ, ◌==◌, ◌<◌, ◌≤◌, Bool, true, ◌||◌, List, Option, Some, None, slice_index_or, if◌then◌else◌}
 use Rattle.std.specs.Map.{lookup}
 use Rattle.tm_dd.specs.declared.node.NodeId.{NodeId}
-use Rattle.tm_dd.specs.Table.{Table, Knows, means}
+use Rattle.tm_dd.specs.Table.{Table, Knows, means, rank_of}
 use Rattle.tm_ddops.specs.declared.change.Change.{Change}
 use Rattle.tm_ddops.specs.declared.change.Change.TheVariants.{Becomes, Quantified}
 
@@ -13,6 +13,11 @@ change_at changes k = slice_index_or changes k None
 -- the change of a level, in a list of levels with their changes, of which the first counts
 abbrev pub change_of : List (ℕ × Change) → ℕ → Option Change
 change_of changes k = lookup (λ l. l == k) changes
+
+-- no level of this rank or a deeper one changes
+pub record IsDepth (s : Table) (changes : ℕ → Option Change) (depth : ℕ) : Type 0 where
+  pub within : depth ≤ s.levels
+  pub stay : (k : ℕ) → k < s.levels → depth ≤ rank_of s k → changes k ≡ None
 
 -- b is a value that a function may read at level k, where v gives each level's value: that of the level, that of the
 -- function in its place, or any

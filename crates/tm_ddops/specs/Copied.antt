@@ -2,7 +2,7 @@
 use Rattle.std.specs.Prelude.{◌≡◌, ℕ, ◌<◌, ◌≤◌, ◌⊎◌, Bool, List, length, Contains, Some, slice_index_or}
 use Rattle.tm_dd.specs.declared.node.NodeId.{NodeId}
 use Rattle.tm_dd.specs.NodeId.{IsConstant, complement}
-use Rattle.tm_dd.specs.Table.{Table, Knows, level_of, means}
+use Rattle.tm_dd.specs.Table.{Table, Knows, depth_of, means}
 use Rattle.tm_ddops.specs.Inner.Found.{Found, found_at}
 use Rattle.tm_ddops.specs.Manager.{IsFunction}
 use Rattle.tm_ddops.specs.Reached.{Reaches}
@@ -30,7 +30,7 @@ AddsReached old new id = (g : NodeId) → Knows new g → Knows old g ⊎ Reache
 pub record IsCopy (from to : Table) (f id : NodeId) : Type 0 where
   pub operand : Knows from f
   pub known : Knows to id
-  pub deep : level_of from f ≤ level_of to id
+  pub deep : depth_of from f ≤ depth_of to id
   pub meaning : (v : ℕ → Bool) → means to id v ≡ means from f v
 
 -- each id that was found is a copy

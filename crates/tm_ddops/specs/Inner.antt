@@ -1,5 +1,6 @@
 -- What contracts of private functions alone cite: the tables that walks fill.
 pub mod Found
+pub mod Hashed
 pub mod Memo
 pub mod Tables
 pub mod Visited

@@ -3,13 +3,14 @@ ghost use Rattle.std.specs.Prelude.{◌≡◌, ◌==◌, ◌<◌, ◌≤◌, ℕ
 ghost use Rattle.std.specs.Cmp.{partial_equiv_from_equiv};
 ghost use Rattle.std.specs.Cmp.Lexicographic.{pointwise};
 ghost use Rattle.std.specs.Hash as fed;
-ghost use Rattle.tm_ddops.specs.Changed.{change_at, change_of, first_of};
+ghost use Rattle.tm_dd.specs.Reduced.{IsReduced};
+ghost use Rattle.tm_ddops.specs.Changed.{IsDepth, change_at, change_of, first_of};
 ghost use Rattle.tm_ddops.specs.declared.change.Change.TheVariants as change;
 
 use std::alloc::{AllocError, Global};
 use std::hash::{Hash, Hasher};
 use std::marker::Model;
-use tm_dd::NodeId;
+use tm_dd::{NodeId, Store};
 
 /// What becomes of a level.
 #[derive(Clone, Copy)]
@@ -136,32 +137,34 @@ impl Hash for Changes {
     }
 }
 
-/// The changes by their levels below `count`, as far as the deepest of them.
+/// The changes by their levels below `count`.
 pub(crate) fn by_level(
     alloc: Global,
     count: u32,
     changes: &[(u32, Change)],
 ) -> Result<Vec<Option<Change>>, AllocError>
-    ensures len { IfOk result (λ table. length table.items ≤ count) }
+    ensures len { IfOk result (λ table. length table.items ≡ count) }
     ensures changes { IfOk result (λ table. (k : ℕ) → k < count →
         change_at table.items k ≡ change_of changes.now k) }
 {
-    let mut table = vec![in alloc; None; depth(count, changes) as usize]?;
+    let mut table = vec![in alloc; None; count as usize]?;
     for (level, change) in changes {
         set_first(&mut table, *level, *change);
     }
     Ok(table)
 }
 
-/// The levels below `count` down to the deepest that changes: how many there are.
-pub(crate) fn depth(count: u32, changes: &[(u32, Change)]) -> u32
-    ensures within { result ≤ count }
-    ensures deepest { (k : ℕ) → k < count → result ≤ k → change_of changes.now k ≡ None }
+/// The levels down to the deepest that changes: how many there are.
+pub(crate) fn depth(store: &Store, changes: &[(u32, Change)]) -> u32
+    ensures depth { IsDepth store.now (change_of changes.now) result }
+    ensures reduced { IsReduced store.now }
 {
+    let levels = store.levels();
     let mut depth = 0;
     for (level, _) in changes {
-        if depth <= *level && *level < count {
-            depth = *level + 1;
+        let rank = store.rank(*level);
+        if depth <= rank && rank < levels {
+            depth = rank + 1;
         }
     }
     depth

@@ -1,18 +1,35 @@
 //! If-then-else of three functions, as far as it takes no walk (Brace, Rudell and Bryant 1990).
 ghost use Rattle.std.specs.Prelude.{◌≡◌, ◌<◌, ◌≤◌, ◌+◌, ◌&&◌, ◌==◌, ℕ, Bool, min, true, false, IfSome, IfNone};
 ghost use Rattle.tm_dd.specs.NodeId.{IsConstant};
-ghost use Rattle.tm_dd.specs.Table.{Table, Knows, level_of, means};
+ghost use Rattle.tm_dd.specs.Table.{Table, Knows, depth_of, means};
 ghost use Rattle.tm_dd.specs.Reduced.{IsReduced};
-ghost use Rattle.tm_ddops.specs.Choice.{choice_level, cofactor, cofactor_choice, KnowsChoice, IsChoice, IsOpen, MeansWhere};
+ghost use Rattle.tm_ddops.specs.Choice.{choice_level, cofactor, cofactor_choice, upper, KnowsChoice, IsChoice, IsOpen, MeansWhere};
 
-use tm_dd::{FALSE, NodeId, Store, TRUE};
+use std::hash::{Hash, Hasher};
+use tm_dd::{FALSE, NodeId, Store, TRUE, mixed};
 
 /// If-then-else of three functions.
-#[derive(Clone, Copy, PartialEq, Eq, Hash)]
+#[derive(Clone, Copy, PartialEq, Eq)]
 pub struct Choice {
     pub test: NodeId,
     pub if_true: NodeId,
     pub if_false: NodeId,
+}
+
+impl Hash for Choice {
+    ghost use Rattle.tm_ddops.specs.Inner.Hashed.{choice_hash, same_choice_hash};
+
+    ghost hash_input = { choice_hash };
+
+    ghost respects_eq = { same_choice_hash };
+
+    fn hash<H: Hasher>(&self, state: &mut H) {
+        state.write_u64(mixed(
+            self.test.number(),
+            self.if_true.number(),
+            self.if_false.number(),
+        ));
+    }
 }
 
 impl Choice {
@@ -51,19 +68,17 @@ impl Choice {
         }
     }
 
-    /// The least level of the three functions.
+    /// The level of the three functions that stands highest.
     pub(crate) fn level(self, store: &Store) -> u32
         requires known { KnowsChoice store.now self }
         ensures value { result ≡ choice_level store.now self }
         ensures reduced { IsReduced store.now }
     {
-        store
-            .level(self.test)
-            .min(store.level(self.if_true))
-            .min(store.level(self.if_false))
+        let branch = upper(store, store.level(self.if_true), store.level(self.if_false));
+        upper(store, store.level(self.test), branch)
     }
 
-    /// The choice where the value of its least level is false, and where it is true.
+    /// The choice where the value of its highest level is false, and where it is true.
     pub(crate) fn cofactors(self, store: &Store) -> (Choice, Choice)
         requires known { KnowsChoice store.now self }
         requires open { IsOpen self }
@@ -88,13 +103,25 @@ impl Choice {
     }
 }
 
+/// Of two levels the one that stands higher.
+fn upper(store: &Store, one: u32, other: u32) -> u32
+    ensures value { result ≡ upper store.now one other }
+    ensures reduced { IsReduced store.now }
+{
+    if store.rank(one) <= store.rank(other) {
+        one
+    } else {
+        other
+    }
+}
+
 /// What a branch is where the test has the value `holds`: a constant, where the branch is the test or its complement.
 fn under(test: NodeId, branch: NodeId, holds: bool) -> NodeId
     requires { ¬ IsConstant test }
     ensures constant { IsConstant branch → result ≡ branch }
     ensures meaning { (s : Table) → MeansWhere s test holds result branch }
     ensures known { (s : Table) → Knows s branch → Knows s result }
-    ensures deep { (s : Table) → IsReduced s → Knows s branch → level_of s branch ≤ level_of s result }
+    ensures deep { (s : Table) → IsReduced s → Knows s branch → depth_of s branch ≤ depth_of s result }
 {
     if branch == test {
         constant(holds)

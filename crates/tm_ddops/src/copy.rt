@@ -23,13 +23,15 @@ impl Manager {
 
         ensures manager { IsManager self.new }
         ensures levels { self.new.table.levels ≡ self.old.table.levels }
+        ensures ranks { self.new.table.ranks ≡ self.old.table.ranks }
         ensures same { OnOk result (MeanTheSame self.old.table roots.old self.new.table roots.new) }
         ensures reached { OnOk result (AllReached self.new.table roots.new) }
         ensures forgets { OnOk result (self.new.results ≡ []) }
         ensures refused { OnErr result (self.new ≡ self.old) }
         ensures refused_roots { OnErr result (roots.new ≡ roots.old) }
     {
-        let mut store = Store::new(self.alloc, self.store.levels())?;
+        let ranks = Vec::from_slice(self.alloc, self.store.ranks())?;
+        let mut store = Store::arranged(self.alloc, self.store.levels(), ranks)?;
         let new_roots = copies(self.alloc, &self.store, &mut store, roots)?;
         let cache = empty_cache(self.alloc)?;
         roots.copy_from_slice(&new_roots);
@@ -50,11 +52,13 @@ fn copies(
     requires from { IsReduced from.now }
     requires to { IsReduced to.old }
     requires levels { to.old.levels ≡ from.now.levels }
+    requires ranks { to.old.ranks ≡ from.now.ranks }
     requires empty { kept to.old ≡ 0 }
     requires known { (f : Id) → Contains roots.now f → Knows from.now f }
 
     ensures reduced { IsReduced to.new }
     ensures levels { to.new.levels ≡ to.old.levels }
+    ensures ranks { to.new.ranks ≡ to.old.ranks }
     ensures same { IfOk result (λ ids. MeanTheSame from.now roots.now to.new ids.items) }
     ensures reached { IfOk result (λ ids. AllReached to.new ids.items) }
 {
@@ -75,6 +79,7 @@ fn copied(from: &Store, to: &mut Store, f: NodeId, found: &mut Found) -> Result<
     requires from { IsReduced from.now }
     requires to { IsReduced to.old }
     requires levels { to.old.levels ≡ from.now.levels }
+    requires ranks { to.old.ranks ≡ from.now.ranks }
     requires known { Knows from.now f }
     requires found { AreCopies from.now to.old found.old }
 

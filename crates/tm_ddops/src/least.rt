@@ -9,7 +9,8 @@ use std::alloc::{AllocError, Global};
 use tm_dd::{FALSE, NodeId, Store};
 
 impl Manager {
-    /// The least values of all levels that make `f` true, with false before true and level 0 first. `FALSE` has none.
+    /// The least values of all levels that make `f` true, with false before true and the highest level first. `FALSE`
+    /// has none.
     pub fn least(&self, f: NodeId) -> Result<Option<Vec<bool>>, AllocError>
         requires { Knows self.now.table f }
         ensures { IfOk result (λ least.
@@ -31,7 +32,7 @@ pub(crate) fn all_false(alloc: Global, count: u32) -> Result<Vec<bool>, AllocErr
     vec![in alloc; false; count as usize]
 }
 
-/// Sets the values from the level of `f` on to the least that make `f` true.
+/// Sets the values from the level of `f` on downwards to the least that make `f` true.
 fn fill(store: &Store, f: NodeId, values: &mut [bool])
     requires reduced { IsReduced store.now }
     requires known { Knows store.now f }

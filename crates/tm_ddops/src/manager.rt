@@ -1,8 +1,10 @@
 //! The manager: a store of diagrams, and operations on them that remember their results.
+ghost use Rattle.std.specs.List.{range_with_len};
 ghost use Rattle.std.specs.Prelude.{◌≡◌, ◌+◌, ◌≤◌, ◌<◌, ◌&&◌, ◌||◌, ◌⊎◌, ℕ, Bool, min, not, [], List, length, Contains, None, Some, IfSome, IfOk, OnOk, OnErr, IsOkAnd, Ok, if◌then◌else◌};
 ghost use Rattle.tm_dd.specs.NodeId.{complement};
-ghost use Rattle.tm_dd.specs.Reduced.{Extends, MeansNode};
-ghost use Rattle.tm_dd.specs.Table.{Table, Knows, kept, level_of, means, node_of};
+ghost use Rattle.tm_dd.specs.Reduced.{Extends, IsDeeper, MeansNode};
+ghost use Rattle.tm_dd.specs.Table.{Table, Knows, depth_of, kept, means, node_of, rank_of};
+ghost use Rattle.tm_dd.specs.Unique.{AreRanks};
 ghost use Rattle.tm_ddops.specs.Changed.{IsChanged, KnowsParts, change_of};
 ghost use Rattle.tm_ddops.specs.Choice.{choice_value, KnowsChoice};
 ghost use Rattle.tm_ddops.specs.Manager.{Grows, IsFunction, IsManager, IsResult, Remembers, most_results};
@@ -53,14 +55,36 @@ impl Model for Manager {
 }
 
 impl Manager {
-    /// A manager of functions of `levels` levels, which keeps the constant alone and remembers no result.
+    /// A manager of functions of `levels` levels, each of which has its number for its rank. It keeps the constant
+    /// alone and remembers no result.
     pub fn new(alloc: Global, levels: u32) -> Result<Manager, AllocError>
         ensures levels { IfOk result (λ m. m.table.levels ≡ levels) }
+        ensures ranks { IfOk result (λ m. m.table.ranks ≡ range_with_len 0 m.table.levels) }
         ensures kept { IfOk result (λ m. kept m.table ≡ 0) }
         ensures results { IfOk result (λ m. m.results ≡ []) }
         ensures manager { IfOk result IsManager }
     {
         let store = Store::new(alloc, levels)?;
+        let cache = empty_cache(alloc)?;
+        Ok(Manager {
+            alloc,
+            store,
+            cache,
+            tables: Tables::new(alloc),
+        })
+    }
+
+    /// A manager of functions of `levels` levels of these ranks, which keeps the constant alone and remembers no
+    /// result.
+    pub fn arranged(alloc: Global, levels: u32, ranks: Vec<u32>) -> Result<Manager, AllocError>
+        requires { AreRanks levels ranks.items }
+        ensures levels { IfOk result (λ m. m.table.levels ≡ levels) }
+        ensures ranks { IfOk result (λ m. m.table.ranks ≡ ranks.items) }
+        ensures kept { IfOk result (λ m. kept m.table ≡ 0) }
+        ensures results { IfOk result (λ m. m.results ≡ []) }
+        ensures manager { IfOk result IsManager }
+    {
+        let store = Store::arranged(alloc, levels, ranks)?;
         let cache = empty_cache(alloc)?;
         Ok(Manager {
             alloc,
@@ -90,15 +114,15 @@ impl Manager {
         requires level { level < self.old.table.levels }
         requires lo_known { Knows self.old.table lo }
         requires hi_known { Knows self.old.table hi }
-        requires lo_deeper { level < level_of self.old.table lo }
-        requires hi_deeper { level < level_of self.old.table hi }
+        requires lo_deeper { IsDeeper self.old.table level lo }
+        requires hi_deeper { IsDeeper self.old.table level hi }
 
         ensures manager { IsManager self.new }
         ensures grows { Grows self.old self.new }
         ensures answer { IfOk result (λ id.
             IsFunction self.new.table id (λ v.
             if v level then means self.new.table hi v else means self.new.table lo v)) }
-        ensures deep { IfOk result (λ id. level ≤ level_of self.new.table id) }
+        ensures deep { IfOk result (λ id. rank_of self.new.table level ≤ depth_of self.new.table id) }
         ensures node { IfOk result (λ id. ¬ (lo ≡ hi)
             → node_of self.new.table id ≡ record { level = level; lo = lo; hi = hi }) }
 

@@ -4,7 +4,7 @@ ghost use Rattle.tm_dd.specs.NodeId.{IsConstant};
 ghost use Rattle.tm_dd.specs.Reduced.{Extends, IsReduced};
 ghost use Rattle.tm_dd.specs.Table.{Knows, level_of, means, node_of};
 ghost use Rattle.tm_dd.specs.declared.node.NodeId.{NodeId as Id};
-ghost use Rattle.tm_ddops.specs.Changed.{IsChanged, KnowsParts, branch_value, change_at};
+ghost use Rattle.tm_ddops.specs.Changed.{IsChanged, IsDepth, KnowsParts, branch_value, change_at};
 ghost use Rattle.tm_ddops.specs.Manager.{IsFunction};
 ghost use Rattle.tm_ddops.specs.Inner.Memo.{AreChoices};
 ghost use Rattle.tm_ddops.specs.Inner.Visited.{AreChanged, SameElsewhere};
@@ -15,14 +15,27 @@ use crate::choice::Choice;
 use crate::walk::{Memo, branch, choose};
 use std::alloc::{AllocError, Global};
 use std::collections::HashMap;
+use std::hash::{Hash, Hasher};
 use tm_base::Steps;
-use tm_dd::{FALSE, NodeId, Store, TRUE};
+use tm_dd::{FALSE, NodeId, Store, TRUE, mixed};
 
 /// A function that a walk met, under changes of this number.
-#[derive(Clone, Copy, PartialEq, Eq, Hash)]
+#[derive(Clone, Copy, PartialEq, Eq)]
 pub struct Visit {
     pub changes: usize,
     pub function: NodeId,
+}
+
+impl Hash for Visit {
+    ghost use Rattle.tm_ddops.specs.Inner.Hashed.{same_visit_hash, visit_hash};
+
+    ghost hash_input = { visit_hash };
+
+    ghost respects_eq = { same_visit_hash };
+
+    fn hash<H: Hasher>(&self, state: &mut H) {
+        state.write_u64(mixed(0, self.changes as u64, self.function.number()));
+    }
 }
 
 /// The choices that walks met, and the functions that they met under changes, each with what was found for it.
@@ -33,17 +46,19 @@ pub struct Walks {
 }
 
 impl Walks {
-    /// What the changes, which have this number, make of `f`.
+    /// What the changes, which have this number, make of `f`. No level of the rank `depth` or a deeper one changes.
     pub(crate) fn rewrite(
         &mut self,
         store: &mut Store,
         f: NodeId,
         number: usize,
         changes: &[Option<Change>],
+        depth: u32,
     ) -> Result<NodeId, AllocError>
         requires reduced { IsReduced store.old }
         requires known { Knows store.old f }
-        requires changes { length changes.now ≤ store.old.levels }
+        requires changes { length changes.now ≡ store.old.levels }
+        requires depth { IsDepth store.old (change_at changes.now) depth }
         requires parts { KnowsParts store.old (change_at changes.now) }
         requires found { AreChanged store.old (change_at changes.now) number self.old.found }
         requires choices { AreChoices store.old self.old.choices }
@@ -55,7 +70,7 @@ impl Walks {
         ensures choices { AreChoices store.new self.new.choices }
         ensures answer { IfOk result (IsChanged store.new (change_at changes.now) f) }
     {
-        if changes.len() <= store.level(f) as usize {
+        if depth <= store.depth(f) {
             return Ok(f);
         }
         let visit = Visit {
@@ -66,11 +81,11 @@ impl Walks {
             return Ok(*known);
         }
         let node = store.node(f);
-        let lo = self.rewrite(store, node.lo, number, changes)?;
+        let lo = self.rewrite(store, node.lo, number, changes, depth)?;
         if lo == TRUE && is_quantified(changes, node.level) {
             return self.found_true(store, f, number, changes);
         }
-        let hi = self.rewrite(store, node.hi, number, changes)?;
+        let hi = self.rewrite(store, node.hi, number, changes, depth)?;
         self.rewrite_node(store, f, lo, hi, number, changes)
     }
 
@@ -216,7 +231,8 @@ impl Walks {
         ensures answer { IfOk result (λ id.
             IsFunction store.new id (λ v. if v level then means store.old hi v else means store.old lo v)) }
     {
-        if level < store.level(lo) && level < store.level(hi) {
+        let rank = store.rank(level);
+        if rank < store.depth(lo) && rank < store.depth(hi) {
             return branch(store, level, lo, hi, &mut Steps::new(()));
         }
         let test = branch(store, level, FALSE, TRUE, &mut Steps::new(()))?;

@@ -84,7 +84,7 @@ impl Tables {
         ensures tables { AreTrue store.new self.new }
         ensures answer { IfOk result (IsChanged store.new (change_of changes) f) }
     {
-        if depth(store.levels(), changes.as_slice()) <= store.level(f) {
+        if depth(store, changes.as_slice()) <= store.depth(f) {
             return Ok(f);
         }
         let number = self.number(changes)?;
@@ -119,7 +119,8 @@ impl Tables {
     {
         let changes = self.changes.as_slice()[number].as_slice();
         let table = by_level(alloc, store.levels(), changes)?;
-        self.walks.rewrite(store, f, number, &table)
+        let depth = depth(store, changes);
+        self.walks.rewrite(store, f, number, &table, depth)
     }
 
     // The number of the changes, which are added to the set where they are not there.

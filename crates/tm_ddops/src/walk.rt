@@ -1,8 +1,8 @@
 //! The walk behind every operation: if-then-else of three functions, each choice once.
 ghost use Rattle.std.specs.Prelude.{◌≡◌, ◌<◌, ◌≤◌, ◌+◌, ℕ, Bool, min, true, false, Some, None, IfSome, IfNone, IfOk, OnOk, OnErr, if◌then◌else◌, List, length};
 ghost use Rattle.tm_ddops.specs.declared.choice.Choice.{Choice};
-ghost use Rattle.tm_dd.specs.Table.{Table, Knows, kept, level_of, means};
-ghost use Rattle.tm_dd.specs.Reduced.{IsReduced, Extends};
+ghost use Rattle.tm_dd.specs.Table.{Table, Knows, depth_of, kept, means, rank_of};
+ghost use Rattle.tm_dd.specs.Reduced.{Extends, IsDeeper, IsReduced};
 ghost use Rattle.tm_ddops.specs.Choice.{choice_level, cofactor_choice, KnowsChoice, IsChoice, IsOpen};
 ghost use Rattle.tm_ddops.specs.Inner.Memo.{Memo, choice_eq, noted, AreChoices, NotesOnlyMet, RisesByNotes, IsUnnoted, HasOpen};
 
@@ -125,13 +125,13 @@ pub(crate) fn branch<L>(
     requires level { level < store.old.levels }
     requires lo_known { Knows store.old lo }
     requires hi_known { Knows store.old hi }
-    requires lo_deeper { level < level_of store.old lo }
-    requires hi_deeper { level < level_of store.old hi }
+    requires lo_deeper { IsDeeper store.old level lo }
+    requires hi_deeper { IsDeeper store.old level hi }
 
     ensures extends { Extends store.old store.new }
     ensures reduced { IsReduced store.new }
     ensures known { IfOk result (λ r. Knows store.new r) }
-    ensures deep { IfOk result (λ r. level ≤ level_of store.new r) }
+    ensures deep { IfOk result (λ r. rank_of store.new level ≤ depth_of store.new r) }
     ensures meaning { IfOk result (λ r. (v : ℕ → Bool) →
         means store.new r v ≡ (if v level then means store.old hi v else means store.old lo v)) }
     ensures requests { steps.new ≤ steps.old + 1 }

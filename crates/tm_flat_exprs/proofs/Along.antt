@@ -1,6 +1,7 @@
 -- What the walks of expressions ask for holds as terms are added, and what was found of an expression too.
 use Rattle.std.proofs.Common.{◌≡◌, ℕ, List, Result, subst}
 use Rattle.std.specs.Prelude.{IfOk}
+use Rattle.std.proofs.lemmas.List.Elements.{All-weaker}
 use Rattle.tm_syntax.specs.declared.design.Ty.{Ty}
 use Rattle.tm_syntax.specs.Tree.{ExprTree}
 use Rattle.tm_syntax.specs.Tree.View.{spec_tree}
@@ -11,16 +12,23 @@ use Rattle.tm_term.specs.Value.{AreInputs, Extends}
 use Rattle.tm_term.proofs.Valued.{Extends-trans}
 use Rattle.tm_flat.specs.Steps.{IsTerm}
 use Rattle.tm_flat_exprs.specs.declared.valued.Valued.{Valued}
-use Rattle.tm_flat_exprs.specs.Kept.{KeptTerms, AreKept}
+use Rattle.tm_flat_exprs.specs.declared.memory.versions.Version.{Version}
+use Rattle.tm_flat_exprs.specs.declared.memory.versions.Version.TheVariants.{Put, Choice}
+use Rattle.tm_flat_exprs.specs.Kept.{KeptTerms, AreKept, IsKeptVersion}
 use Rattle.tm_flat_exprs.specs.Made.{IsTruth}
 use Rattle.tm_flat_exprs.specs.Valued.{bits_in, IsReady, IsValued, Finds}
 use Rattle.tm_flat_exprs.proofs.Later.{term_along, truth_along}
 
+version_along : (x : CellTables) (t n : Table) → Extends t n → (w : Version) → IsKeptVersion x t w →
+    IsKeptVersion x n w
+version_along x t n grown (Put cell id) kept = λ s is.
+    term_along t n (type_bits (spec_tree x.spec) s.ty) id grown (kept s is)
+version_along x t n grown (Choice guard a b) truth = term_along t n 1 guard grown truth
+
 pub kept_along : (x : CellTables) (t n : Table) (k : KeptTerms) → Extends t n → AreKept x t k → AreKept x n k
 kept_along x t n k grown kept = record {
   values = λ i id v is there. term_along t n (type_bits (spec_tree x.spec) v.ty) id grown (kept.values i id v is there);
-  step = λ cell slot id is there.
-      term_along t n (type_bits (spec_tree x.spec) slot.ty) id grown (kept.step cell slot id is there);
+  step = All-weaker (IsKeptVersion x t) (IsKeptVersion x n) (version_along x t n grown) k.step kept.step;
 }
 
 pub ready_along : (s : ScopedCells) (t n : Table) (k : KeptTerms) → Extends t n → IsSound n → IsReady s t k →

@@ -1,4 +1,5 @@
 pub mod Along
+pub mod Appending
 pub mod Apart
 pub mod Choices
 pub mod Ends
@@ -10,5 +11,6 @@ pub mod Merging
 pub mod Operands
 pub mod Puts
 pub mod Reading
+pub mod Shared
 pub mod StepCells
-pub mod Turning
+pub mod Versions

@@ -1,9 +1,10 @@
 -- Memories of terms, before and after a term was put into a cell.
-use Rattle.std.proofs.Common.{◌≡◌, ◌⊎◌, inl, inr, ℕ, zero, suc, Bool, true, false, Option, None, Some, List, [], ◌∷◌, length, map, cond, refl, sym, ap, ◌∙◌, subst, rules, length-set}
+use Rattle.std.proofs.Common.{◌≡◌, ◌⊎◌, inl, inr, ℕ, zero, suc, Bool, true, false, Option, None, Some, List, [], ◌∷◌, ◌++◌, All, length, map, cond, refl, sym, ap, ◌∙◌, subst, rules, length-set}
 use Rattle.std.specs.Prelude.{◌&&◌, nat_eq, find, slice_get, slice_set}
 use Rattle.std.specs.Option.{option_map, option_map_or}
 use Rattle.std.specs.Cmp.Lexicographic.{pointwise}
 use Rattle.std.proofs.lemmas.List.{map-set}
+use Rattle.std.proofs.lemmas.List.Elements.{All-push}
 use Rattle.std.proofs.lemmas.Option.{none-some, same_Some}
 use Rattle.tm_syntax.specs.declared.design.Ty.{Ty}
 use Rattle.tm_syntax.specs.declared.design.Var.{Var}
@@ -22,10 +23,12 @@ use Rattle.tm_term.specs.Value.{value_of}
 use Rattle.tm_sem.specs.Value.{Memory, Passing, read, put}
 use Rattle.tm_flat.specs.Steps.{IsTerm}
 use Rattle.tm_flat_exprs.specs.declared.memory.step_terms.StepCell.{StepCell}
-use Rattle.tm_flat_exprs.specs.Kept.{KeptTerms, Keeps, same_cell, step_term, type_at}
-use Rattle.tm_flat_exprs.specs.Made.{value_at}
+use Rattle.tm_flat_exprs.specs.declared.memory.versions.Version.TheVariants.{Put}
+use Rattle.tm_flat_exprs.specs.Kept.{HasSlot, IsKeptVersion, KeptTerms, Keeps, type_at}
 use Rattle.tm_flat_exprs.specs.Merged.{AreApart, IsMemory}
+use Rattle.tm_flat_exprs.specs.Versions.{same_cell, step_value}
 use Rattle.tm_flat_exprs.proofs.StepCells.{both_true, cell_same, cell_itself, one_test, site_same, site_itself}
+use Rattle.tm_flat_exprs.proofs.Versions.{value_after}
 
 names_same : (a b : List ℕ) → pointwise nat_eq a b ≡ true → a ≡ b
 names_same a b h = search rules
@@ -55,11 +58,6 @@ read_put m a b n p value false s r is =
     ap (λ t. option_map_or (λ (q : Passing). q.value) (cond t (Some (record { scope = a; name = n; value = value }))
     (find (λ (q : Passing). same_scope b q.scope && pointwise nat_eq p q.name) m.passing)) 0) is
 
-value_of_one : (u : Table) (v : List ℕ) (b : Bool) (id : TermId) (o : Option TermId) →
-    cond b (value_of u v id) (value_at u v o) ≡ value_at u v (cond b (Some id) o)
-value_of_one u v true id o = refl
-value_of_one u v false id o = refl
-
 module _ (x : CellTables) (u : Table) (v : List ℕ) (k : KeptTerms) (m : Memory) (keeps : Keeps x u v k m) where
   -- the test by names is the test by numbers
   tests_agree : AreApart x → (a b : StepCell) (s t : Slot) → slot_in x a.at a.slot ≡ Some s →
@@ -88,8 +86,7 @@ module _ (x : CellTables) (u : Table) (v : List ℕ) (k : KeptTerms) (m : Memory
   -- after a term was put into a parameter or local
   pub step_put : AreApart x → (cell : StepCell) (c : Cell) (id : TermId) (n : KeptTerms) → n.values ≡ k.values →
       cell_at x cell.at (Step cell.slot) ≡ Some c →
-      ((other : StepCell) → step_term n.step other ≡ cond (same_cell cell other) (Some id) (step_term k.step other)) →
-      Keeps x u v n (put m c (value_of u v id))
+      n.step ≡ k.step ++ Put cell id ∷ [] → Keeps x u v n (put m c (value_of u v id))
   step_put apart cell c id n values is set =
       let own = cell_of x cell.at cell.slot c is in
       subst (λ y. Keeps x u v n (put m y (value_of u v id))) (sym own.2) (record {
@@ -97,14 +94,14 @@ module _ (x : CellTables) (u : Table) (v : List ℕ) (k : KeptTerms) (m : Memory
         step = λ other d there.
             let others = cell_of x other.at other.slot d there in
             subst (λ y. read (put m (in_step (scope_of cell.at) own.0.name own.0.ty) (value_of u v id)) y
-            ≡ value_at u v (step_term n.step other))
+            ≡ step_value u v n.step other)
             (sym others.2)
             (read_put m (scope_of cell.at) (scope_of other.at) own.0.name others.0.name (value_of u v id)
             (same_cell cell other) own.0.ty others.0.ty (tests_agree apart cell other own.0 others.0 own.1 others.1)
             ∙ ap (cond (same_cell cell other) (value_of u v id))
-            (subst (λ y. read m y ≡ value_at u v (step_term k.step other)) others.2 (keeps.step other d there))
-            ∙ value_of_one u v (same_cell cell other) id (step_term k.step other)
-            ∙ ap (value_at u v) (sym (set other)));
+            (subst (λ y. read m y ≡ step_value u v k.step other) others.2 (keeps.step other d there))
+            ∙ sym (value_after u v other k.step (Put cell id))
+            ∙ ap (λ ws. step_value u v ws other) (sym set));
       })
 
   -- after a term was put into a state variable
@@ -116,30 +113,11 @@ module _ (x : CellTables) (u : Table) (v : List ℕ) (k : KeptTerms) (m : Memory
         ∙ ap (map (value_of u v)) (sym values);
     step = λ other d there.
         let others = cell_of x other.at other.slot d there in
-        subst (λ y. read (put m (in_state number) (value_of u v id)) y ≡ value_at u v (step_term n.step other))
+        subst (λ y. read (put m (in_state number) (value_of u v id)) y ≡ step_value u v n.step other)
         (sym others.2)
-        (subst (λ y. read m y ≡ value_at u v (step_term n.step other)) others.2
-        (keeps.step other d there ∙ ap (λ es. value_at u v (step_term es other)) (sym step)));
+        (subst (λ y. read m y ≡ step_value u v n.step other) others.2
+        (keeps.step other d there ∙ ap (λ ws. step_value u v ws other) (sym step)));
   })
-
--- what is kept of terms of the state variables, before anything lives for a step
-pub plain_keeps : (x : CellTables) (u : Table) (v : List ℕ) (values : List TermId) →
-    Keeps x u v (record { values = values; step = [] }) (record { values = map (value_of u v) values; passing = [] })
-plain_keeps x u v values = record {
-  values = refl;
-  step = λ other d there.
-      let others = cell_of x other.at other.slot d there in
-      subst (λ y. read (record { values = map (value_of u v) values; passing = [] }) y ≡ 0) (sym others.2) refl;
-}
-
-pub plain_memory_is : (x : CellTables) (t : Table) (values : List TermId) → length values ≡ length x.vars →
-    ((i : ℕ) (id : TermId) (var : Var) → slice_get values i ≡ Some id → slice_get x.vars i ≡ Some var →
-    IsTerm t (type_bits (spec_tree x.spec) var.ty) id) → IsMemory x t (record { values = values; step = [] })
-plain_memory_is x t values count each = record {
-  count = count;
-  slots = λ cell id is. absurd (none-some id is);
-  kept = record { values = each; step = λ cell s id slot is. absurd (none-some id is) };
-}
 
 -- what stands in a list after one item was set
 set_or_old : {X : Type 0} (xs : List X) (n : ℕ) (y : X) (i : ℕ) (z : X) → slice_get (slice_set xs n y) i ≡ Some z →
@@ -161,11 +139,11 @@ module _ (x : CellTables) (t : Table) (k : KeptTerms) (memory : IsMemory x t k) 
       n.values ≡ slice_set k.values number id → n.step ≡ k.step → IsMemory x t n
   state_memory at number n typed values step = record {
     count = ap length values ∙ length-set k.values number id ∙ memory.count;
-    slots = λ cell i is. memory.slots cell i (ap (λ es. step_term es cell) (sym step) ∙ is);
+    slots = subst (All (HasSlot x)) (sym step) memory.slots;
     kept = record {
       values = λ i z var is there.
           of_index i z var there (set_or_old k.values number id i z (ap (λ vs. slice_get vs i) (sym values) ∙ is));
-      step = λ cell s i slot is. memory.kept.step cell s i slot (ap (λ es. step_term es cell) (sym step) ∙ is);
+      step = subst (All (IsKeptVersion x t)) (sym step) memory.kept.step;
     };
   }
     where
@@ -181,15 +159,15 @@ module _ (x : CellTables) (t : Table) (k : KeptTerms) (memory : IsMemory x t k) 
           (subst (IsTerm t (type_bits (spec_tree x.spec) ty)) new.1 term)
 
   pub step_memory : (cell : StepCell) (n : KeptTerms) → type_at x cell.at (Step cell.slot) ≡ Some ty →
-      n.values ≡ k.values →
-      ((other : StepCell) → step_term n.step other ≡ cond (same_cell cell other) (Some id) (step_term k.step other)) →
-      IsMemory x t n
+      n.values ≡ k.values → n.step ≡ k.step ++ Put cell id ∷ [] → IsMemory x t n
   step_memory cell n typed values set = record {
     count = ap length values ∙ memory.count;
-    slots = λ other i is. slot_of other i (same_cell cell other) refl (sym (set other) ∙ is);
+    slots = subst (All (HasSlot x)) (sym set)
+        (All-push (HasSlot x) k.step (Put cell id) memory.slots (own_slot.0, own_slot.1));
     kept = record {
       values = λ i z var is there. memory.kept.values i z var (ap (λ vs. slice_get vs i) (sym values) ∙ is) there;
-      step = λ other s i slot is. term_of other s i slot (same_cell cell other) refl (sym (set other) ∙ is);
+      step = subst (All (IsKeptVersion x t)) (sym set)
+          (All-push (IsKeptVersion x t) k.step (Put cell id) memory.kept.step own_term);
     };
   }
     where
@@ -201,22 +179,8 @@ module _ (x : CellTables) (t : Table) (k : KeptTerms) (memory : IsMemory x t k) 
           by None is e = absurd (none-some ty e)
           by (Some s) is e = (s, is, same_Some s.ty ty e)
 
-      slot_of : (other : StepCell) (i : TermId) (b : Bool) → same_cell cell other ≡ b →
-          cond b (Some id) (step_term k.step other) ≡ Some i → (s : Slot) × (slot_in x other.at other.slot ≡ Some s)
-      slot_of other i true same is =
-          let one = cell_same cell other same in
-          (own_slot.0, subst (λ (y : StepCell). slot_in x y.at y.slot ≡ Some own_slot.0) one own_slot.1)
-      slot_of other i false same is = memory.slots other i is
-
-      term_of : (other : StepCell) (s : Slot) (i : TermId) → slot_in x other.at other.slot ≡ Some s → (b : Bool) →
-          same_cell cell other ≡ b → cond b (Some id) (step_term k.step other) ≡ Some i →
-          IsTerm t (type_bits (spec_tree x.spec) s.ty) i
-      term_of other s i slot true same is =
-          let one = cell_same cell other same in
-          let own : own_slot.0 ≡ s =
-          same_Some own_slot.0 s (sym own_slot.1
-          ∙ subst (λ (y : StepCell). slot_in x y.at y.slot ≡ Some s) (sym one) slot) in
-          let types : ty ≡ s.ty = sym own_slot.2 ∙ ap (λ (r : Slot). r.ty) own in
-          subst (λ (w : Ty). IsTerm t (type_bits (spec_tree x.spec) w) i) types
-          (subst (IsTerm t (type_bits (spec_tree x.spec) ty)) (same_Some id i is) term)
-      term_of other s i slot false same is = memory.kept.step other s i slot is
+      own_term : IsKeptVersion x t (Put cell id)
+      own_term s is =
+          let own : own_slot.0 ≡ s = same_Some own_slot.0 s (sym own_slot.1 ∙ is) in
+          subst (λ (w : Ty). IsTerm t (type_bits (spec_tree x.spec) w) id)
+          (sym own_slot.2 ∙ ap (λ (r : Slot). r.ty) own) term

@@ -9,14 +9,12 @@ use Rattle.tm_syntax.specs.declared.tree.Ident.{Ident}
 use Rattle.tm_syntax.specs.declared.tree.Num.{Num}
 use Rattle.tm_syntax.specs.declared.design.Ty.{Ty}
 use Rattle.tm_syntax.specs.Tree.{ExprTree, number as literal, path, element}
-use Rattle.tm_syntax.specs.Tree.View.{spec_tree}
 use Rattle.tm_syntax.specs.Scopes.Context.{Context, Slot}
 use Rattle.tm_syntax.specs.Scopes.Names.{constant_value, number_of}
 use Rattle.tm_syntax.specs.Scopes.Types.{array_length, named_type, own_type}
 use Rattle.tm_syntax.specs.Design.{DesignTree}
 use Rattle.tm_syntax.specs.Design.Scope.{index_type, length_in}
 use Rattle.tm_syntax.specs.Design.Cells.{Cell, in_state, in_step, cell, cell_type}
-use Rattle.tm_syntax.specs.Design.Sizes.{type_bits}
 use Rattle.tm_scope.specs.Cells.{CellTables, HasCells, IsCellNumber, ScopedCells, cell_at, scope_of, slot_in}
 use Rattle.tm_scope.specs.declared.cells.site_body.SiteBody.{SiteBody}
 use Rattle.tm_scope.specs.declared.cells.site_body.CellNumber.{CellNumber}
@@ -27,11 +25,12 @@ use Rattle.tm_term.specs.Value.{value_of, Extends}
 use Rattle.tm_term.proofs.Valued.{Extends-trans}
 use Rattle.tm_syntax.specs.Faults.Operands.{is_valued}
 use Rattle.tm_typing.specs.HasType.{HasType, IsOfSort, a_path, an_element_at, an_element}
-use Rattle.tm_sem.specs.Value.{Memory, read, value, overruns}
+use Rattle.tm_sem.specs.Value.{read, value, overruns}
 use Rattle.tm_flat.specs.Steps.{IsTerm}
 use Rattle.tm_flat_exprs.specs.declared.valued.Valued.{Valued}
-use Rattle.tm_flat_exprs.specs.Kept.{KeptTerms, Keeps, AreKept, type_at}
+use Rattle.tm_flat_exprs.specs.Kept.{IsCellKept, KeptTerms, type_at}
 use Rattle.tm_flat_exprs.specs.Made.{Makes, MakesTruth, truth_at}
+use Rattle.tm_flat_exprs.specs.Merged.{Reads}
 use Rattle.tm_design.specs.Settled.{constant_at}
 use Rattle.tm_design.specs.Typed.{context_at, HasTypeAt}
 use Rattle.tm_flat_exprs.specs.Valued.{bits_in, CellHasType, element_value, Finds, FindsCell, FindsElement, FindsElements}
@@ -90,34 +89,26 @@ Tells s names index found =
     option_and_then (cell_at s.tables s.at) found ≡ cell d (scope_of s.at) names index
 
 module _ (s : ScopedCells) (k : KeptTerms) (ty : Ty) where
-  -- the term that is kept in a cell
-  pub kept_found : (number : CellNumber) (at : SiteBody) (t : Table) (id : TermId) → s.at ≡ at → IsReady s t k →
-      type_at s.tables s.at number ≡ Some ty →
-      ((x : CellTables) (u : Table) (v : List ℕ) (m : Memory) (c : Cell) → Keeps x u v k m →
-      cell_at x at number ≡ Some c → read m c ≡ value_of u v id) →
-      ((x : CellTables) (t : Table) (ty : Ty) → AreKept x t k → type_at x at number ≡ Some ty →
-      IsTerm t (type_bits (spec_tree x.spec) ty) id) →
-      FindsTerm s k ty number t t id
-  kept_found number at t id same ready typed reads known = record {
-    grown = Extends-refl t;
-    ready = ready;
-    term = known s.tables t ty ready.kept (subst (λ a. type_at s.tables a number ≡ Some ty) same typed);
+  -- the term that a memory tells of a cell
+  pub read_found : (number : CellNumber) (at : SiteBody) (t n : Table) (id : TermId) → s.at ≡ at → IsReady s t k →
+      Reads t n k at number (bits_in s ty) id → FindsTerm s k ty number t n id
+  read_found number at t n id same ready reads = record {
+    grown = reads.grown;
+    ready = ready_along s t n k reads.grown reads.sound ready;
+    term = reads.term;
     value = λ u more v are m c keeps there.
-        reads s.tables u v m c keeps (subst (λ a. cell_at s.tables a number ≡ Some c) same there);
+        reads.value s.tables u v m c more are keeps (subst (λ a. cell_at s.tables a number ≡ Some c) same there);
   }
 
-  -- a cell in which no term is kept has the value 0
-  pub zero_found : (number : CellNumber) (at : SiteBody) (t n : Table) (id : TermId) → s.at ≡ at → IsReady s t k →
-      ((x : CellTables) (u : Table) (v : List ℕ) (m : Memory) (c : Cell) → Keeps x u v k m →
-      cell_at x at number ≡ Some c → read m c ≡ 0) →
-      Makes t n (bits_in s ty) id (λ u v. 0) → FindsTerm s k ty number t n id
-  zero_found number at t n id same ready reads made = record {
-    grown = made.grown;
-    ready = ready_along s t n k made.grown made.sound ready;
-    term = made.term;
-    value = λ u more v are m c keeps there.
-        reads s.tables u v m c keeps (subst (λ a. cell_at s.tables a number ≡ Some c) same there)
-        ∙ sym (made.value u more v are);
+  -- what is asked for then
+  pub cell_kept : (number : CellNumber) (at : SiteBody) (t : Table) → s.at ≡ at → IsReady s t k →
+      type_at s.tables s.at number ≡ Some ty → IsCellKept t k at number (bits_in s ty)
+  cell_kept number at t same ready typed = record {
+    tables = s.tables;
+    ty = ty;
+    kept = ready.kept;
+    typed = subst (λ a. type_at s.tables a number ≡ Some ty) same typed;
+    bits = refl;
   }
 
   module _ (names : List Ident) (index : Option ℕ) where

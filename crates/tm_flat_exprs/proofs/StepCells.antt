@@ -1,7 +1,6 @@
 -- Parameters and locals are told apart as their numbers are.
-use Rattle.std.proofs.Common.{◌≡◌, ℕ, Bool, true, false, Some, List, cond, refl, sym, ap, ◌∙◌, subst, arith, rules}
+use Rattle.std.proofs.Common.{◌≡◌, ℕ, Bool, true, false, refl, sym, ap, ◌∙◌, subst, arith, rules}
 use Rattle.std.specs.Prelude.{◌&&◌, nat_eq}
-use Rattle.std.specs.Map.{lookup}
 use Rattle.std.proofs.lemmas.Bool.Decides.{nat_tests}
 use Rattle.tm_syntax.specs.Design.Scope.{same_body, same_scope}
 use Rattle.tm_scope.specs.Cells.{scope_of}
@@ -11,10 +10,9 @@ use Rattle.tm_scope.specs.declared.context.BodyName.{BodyName}
 use Rattle.tm_scope.specs.declared.context.BodyName.TheVariants.{Process, Task, Outside}
 use Rattle.tm_scope.specs.declared.members.SlotNumber.{SlotNumber}
 use Rattle.tm_scope.specs.declared.members.SlotNumber.TheVariants.{Param, Local}
-use Rattle.tm_term.specs.declared.term.TermId.{TermId}
 use Rattle.tm_flat_exprs.specs.declared.memory.step_terms.StepCell.{StepCell}
 use Rattle.tm_flat_exprs.specs.contracts.memory.step_terms.StepCellPartialEq.TheImpl.{eq-value}
-use Rattle.tm_flat_exprs.specs.Kept.{same_slot, same_cell, step_term}
+use Rattle.tm_flat_exprs.specs.Versions.{same_slot, same_cell}
 
 pub both_true : (a b : Bool) → (a && b) ≡ true → (a ≡ true) × (b ≡ true)
 both_true true true h = (refl, refl)
@@ -95,19 +93,6 @@ exact a b h = search rules
 itself : (a : StepCell) → eq-value.it a a ≡ true
 itself a = search rules
 
--- what is found by the derived test is what is found by the numbers
-pub term_found : (entries : List (StepCell × TermId)) (cell : StepCell) →
-    lookup (eq-value.it cell) entries ≡ step_term entries cell
-term_found entries cell =
-    let same : eq-value.it cell ≡ same_cell cell = (λ i b. exact_test eq-value.it exact itself cell b i) in
-    ap (λ t. lookup t entries) same
-
--- after a term was put into one of them
-pub term_after : (old new : List (StepCell × TermId)) (cell other : StepCell) (id : TermId) →
-    lookup (eq-value.it other) new ≡ cond (eq-value.it cell other) (Some id) (lookup (eq-value.it other) old) →
-    step_term new other ≡ cond (same_cell cell other) (Some id) (step_term old other)
-term_after old new cell other id updates =
-    sym (term_found new other)
-    ∙ updates
-    ∙ ap (λ t. cond t (Some id) (lookup (eq-value.it other) old)) (exact_test eq-value.it exact itself cell other)
-    ∙ ap (cond (same_cell cell other) (Some id)) (term_found old other)
+-- the derived test is that of the numbers
+pub derived_test : (a b : StepCell) → eq-value.it a b ≡ same_cell a b
+derived_test = exact_test eq-value.it exact itself

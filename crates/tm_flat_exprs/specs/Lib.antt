@@ -5,3 +5,4 @@ pub mod Merged
 pub mod Operators
 pub mod Tables
 pub mod Valued
+pub mod Versions

@@ -1,7 +1,8 @@
 -- Two memories of terms as one: each cell has its term of the one where a truth holds, and else that of the other one.
-use Rattle.std.specs.Prelude.{◌≡◌, ℕ, ◌==◌, Option, Some, List, IfSome, length, slice_get, slice_set, if◌then◌else◌}
+use Rattle.std.specs.Prelude.{◌≡◌, ℕ, ◌==◌, Some, All, List, length, slice_get, slice_set, if◌then◌else◌}
 use Rattle.tm_syntax.specs.Scopes.Context.{Slot}
-use Rattle.tm_scope.specs.Cells.{CellTables, slot_in}
+use Rattle.tm_syntax.specs.Design.Cells.{Cell}
+use Rattle.tm_scope.specs.Cells.{CellTables, cell_at, slot_in}
 use Rattle.tm_scope.specs.declared.cells.site_body.SiteBody.{SiteBody}
 use Rattle.tm_scope.specs.declared.cells.site_body.CellNumber.{CellNumber}
 use Rattle.tm_scope.specs.declared.cells.site_body.CellNumber.TheVariants.{State, Step}
@@ -9,10 +10,9 @@ use Rattle.tm_scope.specs.declared.members.SlotNumber.{SlotNumber}
 use Rattle.tm_term.specs.declared.term.TermId.{TermId}
 use Rattle.tm_term.specs.Table.{Table, IsSound}
 use Rattle.tm_term.specs.Value.{AreInputs, value_of, Extends}
-use Rattle.tm_sem.specs.Value.{Memory}
+use Rattle.tm_sem.specs.Value.{Memory, read}
 use Rattle.tm_flat.specs.Steps.{IsTerm}
-use Rattle.tm_flat_exprs.specs.declared.memory.step_terms.StepCell.{StepCell}
-use Rattle.tm_flat_exprs.specs.Kept.{KeptTerms, Keeps, AreKept, step_term}
+use Rattle.tm_flat_exprs.specs.Kept.{KeptTerms, Keeps, AreKept, HasSlot}
 
 -- the parameters and locals of each body have names of their own
 pub record AreApart (x : CellTables) : Type 0 where
@@ -22,8 +22,7 @@ pub record AreApart (x : CellTables) : Type 0 where
 -- a memory of terms: one for each state variable, and others for parameters and locals of the text alone
 pub record IsMemory (x : CellTables) (t : Table) (k : KeptTerms) : Type 0 where
   pub count : length k.values ≡ length x.vars
-  pub slots : (cell : StepCell) (id : TermId) → step_term k.step cell ≡ Some id →
-      (s : Slot) × (slot_in x cell.at cell.slot ≡ Some s)
+  pub slots : All (HasSlot x) k.step
   pub kept : AreKept x t k
 
 -- the terms of the state variables after one was put into a cell
@@ -31,18 +30,26 @@ abbrev pub values_after : List TermId → CellNumber → TermId → List TermId
 values_after values (State number) id = slice_set values number id
 values_after values (Step _) id = values
 
--- two terms have one width, as far as they are there
-pub record AreOfWidth (t : Table) (a b : Option TermId) : Type 0 where
-  pub width : ℕ
-  pub first : IfSome a (λ id. IsTerm t width id)
-  pub second : IfSome b (λ id. IsTerm t width id)
+-- a term was made that has the value of a cell
+pub record Reads (t n : Table) (k : KeptTerms) (at : SiteBody) (cell : CellNumber) (width : ℕ) (id : TermId) :
+    Type 0 where
+  pub grown : Extends t n
+  pub sound : IsSound n
+  pub term : IsTerm n width id
+  pub value : (x : CellTables) (u : Table) (v : List ℕ) (m : Memory) (c : Cell) → Extends n u → AreInputs u v →
+      Keeps x u v k m → cell_at x at cell ≡ Some c → read m c ≡ value_of u v id
 
--- so have the terms of each cell in two memories
+-- two terms have one width
+pub record AreOfWidth (t : Table) (a b : TermId) : Type 0 where
+  pub width : ℕ
+  pub first : IsTerm t width a
+  pub second : IsTerm t width b
+
+-- so have the terms of each state variable in two memories
 pub record AreAlike (t : Table) (k l : KeptTerms) : Type 0 where
   pub count : length k.values ≡ length l.values
   pub values : (i : ℕ) (a b : TermId) → slice_get k.values i ≡ Some a → slice_get l.values i ≡ Some b →
-      AreOfWidth t (Some a) (Some b)
-  pub step : (cell : StepCell) → AreOfWidth t (step_term k.step cell) (step_term l.step cell)
+      AreOfWidth t a b
 
 -- one of two memories was made of both: it is the first where a truth holds, and else the second. A state variable of
 -- which both have one term keeps it

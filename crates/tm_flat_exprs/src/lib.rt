@@ -15,7 +15,7 @@ mod reader;
 mod valued;
 
 pub use gates::{denial, either, make, where_false, where_true};
-pub use memory::{StepCell, StepTerms, TermMemory};
+pub use memory::{StepCell, StepTerms, TermMemory, Version};
 pub use reader::TermReader;
 pub use valued::Valued;
 

@@ -11,19 +11,23 @@ ghost use Rattle.tm_term.specs.declared.term.TermId as ids;
 ghost use Rattle.tm_term.specs.Table.{IsSound, Table};
 ghost use Rattle.tm_term.specs.Value.{value_of};
 ghost use Rattle.tm_flat.specs.Steps.{IsTerm};
-ghost use Rattle.tm_flat_exprs.specs.Kept.{AreKept, Keeps, found_in, type_at};
-ghost use Rattle.tm_flat_exprs.specs.Merged.{AreAlike, AreApart, IsMemory, Merges, values_after};
-ghost use Rattle.tm_flat_exprs.specs.Made.{value_at};
+ghost use Rattle.tm_flat_exprs.specs.Kept.{IsCellKept, Keeps, type_at};
+ghost use Rattle.tm_flat_exprs.specs.Merged.{AreAlike, AreApart, IsMemory, Merges, Reads, values_after};
+ghost use Rattle.tm_base.specs.Arithmetic.{IsWidth};
+ghost use Rattle.tm_flat_exprs.specs.Made.{Makes, value_at};
 
 mod choices;
 mod step_terms;
+mod versions;
 
+use crate::gates::make;
 use choices::chosen_values;
 use std::alloc::{AllocError, Global};
 use std::marker::Model;
 pub use step_terms::{StepCell, StepTerms};
 use tm_scope::{CellNumber, SiteBody};
-use tm_term::{TermId, Terms};
+use tm_term::{Term, TermId, Terms};
+pub use versions::Version;
 
 /// The memory of a run: a term for each state variable by its number, and one for each parameter and local that lives
 /// for one step and has got a value.
@@ -60,14 +64,59 @@ impl TermMemory {
         }
     }
 
-    /// The term in a cell, as a body of an instance numbers it; where there is none the cell has the value 0.
-    pub fn read(&self, at: SiteBody, cell: CellNumber) -> Option<TermId>
-        ensures value { (x : CellTables) (u : Table) (v : List ℕ) (m : run.Memory) (c : Cell) → Keeps x u v self.now m
-            → cell_at x at cell ≡ Some c → run.read m c ≡ value_at u v result }
-        ensures term { (x : CellTables) (t : Table) (ty : Ty) → AreKept x t self.now → type_at x at cell ≡ Some ty
-            → IfSome result (λ id. IsTerm t (type_bits (spec_tree x.spec) ty) id) }
+    /// The term in a cell of a type of so many bits, as a body of an instance numbers it; where there is none the cell
+    /// has the value 0. What is asked for is the memory of a table that keeps its terms, with a cell of such a type.
+    pub fn read(
+        &self,
+        terms: &mut Terms,
+        at: SiteBody,
+        cell: CellNumber,
+        width: u8,
+    ) -> Result<TermId, AllocError>
+        requires sound { IsSound terms.old }
+        requires width { IsWidth width }
+        requires kept { IsCellKept terms.old self.now at cell width }
+        ensures { IfOk result (Reads terms.old terms.new self.now at cell width) }
     {
-        self.find(at, cell)
+        match cell {
+            CellNumber::State(number) => {
+                let id = self.read_variable(terms, number, width)?;
+                Ok(id)
+            }
+            CellNumber::Step(slot) => {
+                let id = self.step.read(terms, StepCell { at, slot }, width)?;
+                Ok(id)
+            }
+        }
+    }
+
+    // The term of a state variable of so many bits, and that of the number 0 where there is none.
+    fn read_variable(
+        &self,
+        terms: &mut Terms,
+        number: usize,
+        width: u8,
+    ) -> Result<TermId, AllocError>
+        requires sound { IsSound terms.old }
+        requires width { IsWidth width }
+        requires known { IfSome (slice_get self.now.values number) (IsTerm terms.old width) }
+        ensures { IfOk result (λ id. Makes terms.old terms.new width id
+            (λ u v. value_at u v (slice_get self.now.values number))) }
+    {
+        match self.variable(number) {
+            Some(id) => Ok(id),
+            None => {
+                let zero = make(terms, Term::Const(width, 0))?;
+                Ok(zero)
+            }
+        }
+    }
+
+    /// The term of the state variable of a number.
+    pub fn variable(&self, number: usize) -> Option<TermId>
+        ensures { result ≡ slice_get self.now.values number }
+    {
+        self.values.get(number).copied()
     }
 
     /// Puts a term into a cell, as a body of an instance numbers it, where the parameters and locals of each body have
@@ -99,7 +148,8 @@ impl TermMemory {
     }
 
     /// The memory that is this one where a truth holds, and else another one. A state variable of which both have one
-    /// term keeps it. Linear in the cells of both.
+    /// term keeps it; of parameters and locals no term is made before one is read. Linear in the cells of both, with a
+    /// comparison for each parameter and local that got a value.
     pub fn merge(
         self,
         alloc: Global,
@@ -113,12 +163,12 @@ impl TermMemory {
         ensures { IfOk result (Merges terms.old terms.new guard self other.now) }
     {
         let values = chosen_values(alloc, terms, guard, &self.values, &other.values)?;
-        let mut step = self.step;
-        step.merge(terms, guard, &other.step)?;
+        let step = self.step.merge(guard, &other.step)?;
         Ok(TermMemory { values, step })
     }
 
-    /// A copy, linear in the cells. `AllocError` is want of memory.
+    /// A copy, which shares what is told of parameters and locals: a word for each state variable, and one for each 64
+    /// parameters and locals that got a value. `AllocError` is want of memory.
     pub fn copied(&self, alloc: Global) -> Result<TermMemory, AllocError>
         ensures { IfOk result (λ copy. copy ≡ self.now) }
     {
@@ -126,15 +176,5 @@ impl TermMemory {
             values: Vec::from_slice(alloc, &self.values)?,
             step: self.step.copied()?,
         })
-    }
-
-    // The term in a cell, if there is one.
-    fn find(&self, at: SiteBody, cell: CellNumber) -> Option<TermId>
-        ensures { result ≡ found_in self.now at cell }
-    {
-        match cell {
-            CellNumber::State(number) => self.values.get(number).copied(),
-            CellNumber::Step(slot) => self.step.get(StepCell { at, slot }),
-        }
     }
 }

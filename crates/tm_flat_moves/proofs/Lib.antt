@@ -16,7 +16,6 @@ pub mod NextNumbers
 pub mod Parameters
 pub mod Picking
 pub mod Placed
-pub mod ReadTerms
 pub mod ReadingArguments
 pub mod Rows
 pub mod Running

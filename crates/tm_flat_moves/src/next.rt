@@ -11,7 +11,6 @@ use crate::mover::Mover;
 use std::alloc::{AllocError, Global};
 use tm_flat_bodies::Course;
 use tm_flat_exprs::{TermMemory, make};
-use tm_scope::{BodyName, CellNumber, SiteBody};
 use tm_term::{Term, TermId};
 
 // A list with a term in the place of the one of a number, if there is one.
@@ -57,11 +56,7 @@ impl<'s> Mover<'s> {
         requires { number < length memory.now.values }
         ensures { slice_get memory.now.values number ≡ Some result }
     {
-        let at = SiteBody {
-            instance: 0,
-            body: BodyName::Outside,
-        };
-        match memory.read(at, CellNumber::State(number)) {
+        match memory.variable(number) {
             Some(id) => id,
             None => unreachable!(),
         }

@@ -10,6 +10,7 @@ use Rattle.tm_blast.specs.Memory.{AreMade, Made}
 use Rattle.tm_blast.proofs.CallerLaws.{none_made}
 use Rattle.tm_dd.specs.declared.node.NodeId.{NodeId}
 use Rattle.tm_dd.specs.Table.{Table, Knows, means}
+use Rattle.tm_dd.proofs.CallerLaws.{rank_of-same}
 use Rattle.tm_ddops.specs.Copied.{MeanTheSame}
 use Rattle.tm_ddops.specs.Manager.{Diagrams, IsFunction}
 use Rattle.tm_flat.specs.Flat.{FlatTerms, flat_terms}
@@ -141,7 +142,8 @@ module _ (s t : Table) where
 
 -- ---- a game
 module _ (a : Inside) (is : IsGame a) (dd : Diagrams) (steps : GameDiagrams) (kept : Kept) (recent : Recent)
-    (levels : dd.table.levels ≡ a.dd.table.levels) (game : SameGame a.dd.table a.made.steps dd.table steps)
+    (levels : dd.table.levels ≡ a.dd.table.levels) (ranks : dd.table.ranks ≡ a.dd.table.ranks)
+    (game : SameGame a.dd.table a.made.steps dd.table steps)
     (same : SameKept a.dd.table a.kept dd.table kept) (bits : Made) (none : bits ≡ []) where
   -- what it is afterwards
   abbrev pub after : Inside
@@ -152,6 +154,13 @@ module _ (a : Inside) (is : IsGame a) (dd : Diagrams) (steps : GameDiagrams) (ke
     shape = is.shape;
     terms = is.terms;
     levels = omega (arith, is.levels, levels);
+    rises = λ j k above below.
+        omega (
+          arith,
+          rank_of-same a.dd.table dd.table levels ranks j,
+          rank_of-same a.dd.table dd.table levels ranks k,
+          is.rises j k above below,
+        );
     ready = record {
       levels = subst (λ (n : ℕ). AreLevels (setting_of a.encoding).terms n (setting_of a.encoding).levels) (sym levels)
           is.ready.levels;

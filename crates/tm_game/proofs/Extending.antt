@@ -1,8 +1,9 @@
 -- A game whose diagrams are extended.
-use Rattle.std.proofs.Common.{◌≡◌, true, List, refl, sym, subst, arith}
+use Rattle.std.proofs.Common.{◌≡◌, true, List, length, refl, sym, subst, arith}
 use Rattle.tm_dd.specs.declared.node.NodeId.{NodeId}
 use Rattle.tm_dd.specs.Reduced.{Extends}
 use Rattle.tm_dd.specs.Table.{Table, Knows, means}
+use Rattle.tm_dd.proofs.CallerLaws.{RanksRise-Extends}
 use Rattle.tm_ddops.specs.Manager.{Diagrams}
 use Rattle.tm_flat.specs.Flat.{FlatTerms, flat_terms}
 use Rattle.tm_game_bits.specs.declared.recent.Recent.{Recent}
@@ -72,6 +73,7 @@ extended a dd recent is e answers = record {
   shape = is.shape;
   terms = is.terms;
   levels = omega (arith, is.levels, e.same_levels);
+  rises = RanksRise-Extends a.dd.table dd.table e (length a.order.items) is.rises;
   ready = ready_kept (setting_of a.encoding) a.dd.table dd.table a.bits e is.ready;
   steps = made_kept a.dd.table dd.table e (setting_of a.encoding) (flat_terms a.flat) a.made is.steps;
   answers = answers;

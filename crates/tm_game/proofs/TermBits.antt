@@ -1,5 +1,5 @@
 -- The bits of terms over the levels of a game.
-use Rattle.std.proofs.Common.{◌≡◌, ℕ, List, Vec, ap, ◌∙◌, subst, arith}
+use Rattle.std.proofs.Common.{◌≡◌, ℕ, List, Vec, length, ap, ◌∙◌, subst, arith}
 use Rattle.std.specs.declared.alloc.Global.{Global}
 use Rattle.tm_game_bits.specs.Inputs.{input_levels}
 use Rattle.tm_blast.specs.Bits.{AreBits}
@@ -8,6 +8,7 @@ use Rattle.tm_blast.specs.Numbers.{level_lists}
 use Rattle.tm_dd.specs.declared.node.NodeId.{NodeId}
 use Rattle.tm_dd.specs.Reduced.{Extends}
 use Rattle.tm_dd.specs.Table.{Table}
+use Rattle.tm_dd.proofs.CallerLaws.{RanksRise-Extends}
 use Rattle.tm_ddops.specs.Manager.{Diagrams}
 use Rattle.tm_flat.specs.Flat.{flat_terms}
 use Rattle.tm_game_bits.proofs.Extended.{AreAnswers-Extends}
@@ -30,6 +31,7 @@ bits_extended a made dd levels same is e are = record {
   shape = is.shape;
   terms = is.terms;
   levels = omega (arith, is.levels, e.same_levels);
+  rises = RanksRise-Extends a.dd.table dd.table e (length a.order.items) is.rises;
   ready = ready_then a.encoding levels same a.dd.table dd.table a.bits made e is.ready are;
   steps = made_kept a.dd.table dd.table e (setting_of a.encoding) (flat_terms a.flat) a.made is.steps;
   answers = AreAnswers-Extends a.dd.table dd.table e a.made.steps a.recent is.steps.known is.answers;

@@ -198,6 +198,7 @@ terms_extended a t is e =
         short = is.shape.short;
       };
       levels = is.levels;
+      rises = is.rises;
       terms = has_terms_kept (setting_of a.encoding) t e (flat_terms a.flat) is.terms;
       ready = ready_more (setting_of a.encoding) t e a.dd.table a.bits is.ready;
       steps = record {

@@ -1,5 +1,6 @@
 -- How a game keeps its data.
 use Rattle.std.specs.Prelude.{◌+◌, ◌≤◌, length}
+use Rattle.tm_dd.specs.Reduced.{RanksRise}
 use Rattle.tm_flat.specs.Flat.{flat_terms}
 use Rattle.tm_game_bits.specs.Diagrams.{game_of}
 use Rattle.tm_game_bits.specs.Recent.{AreAnswers}
@@ -30,6 +31,7 @@ pub record IsGame (a : Inside) : Type 0 where
   pub shape : IsShape (setting_of a.encoding) (flat_terms a.flat) a.order.items
   pub terms : HasTerms (setting_of a.encoding) (flat_terms a.flat)
   pub levels : length a.order.items + 128 + length a.flat.pool.items ≤ a.dd.table.levels
+  pub rises : RanksRise (length a.order.items) a.dd.table
   pub ready : IsReady (setting_of a.encoding) a.dd.table a.bits
   pub steps : IsMadeGame (setting_of a.encoding) (flat_terms a.flat) a.dd.table a.made
   pub answers : AreAnswers a.dd.table (game_of a.dd.table a.made.steps) a.recent

@@ -62,6 +62,7 @@ fn copied(
     requires kept { (f : Id) → Contains (kept_ids kept.old) f → Knows dd.old.table f }
 
     ensures levels { dd.new.table.levels ≡ dd.old.table.levels }
+    ensures ranks { dd.new.table.ranks ≡ dd.old.table.ranks }
     ensures roots { OnOk result (MeanTheSame dd.old.table roots.old dd.new.table roots.new) }
     ensures game { OnOk result (SameGame dd.old.table steps.old dd.new.table steps.new) }
     ensures kept { OnOk result (SameKept dd.old.table kept.old dd.new.table kept.new) }

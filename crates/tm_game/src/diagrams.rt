@@ -1,7 +1,8 @@
 //! Operations on the diagrams of a game: those of its manager, without the counter.
 ghost use Rattle.std.specs.Prelude.{◌≡◌, ◌<◌, ◌&&◌, ◌||◌, ◌≤◌, Contains, IfOk, IsOkAnd, Ok, map, not, if◌then◌else◌};
 ghost use Rattle.tm_dd.specs.NodeId.{complement};
-ghost use Rattle.tm_dd.specs.Table.{Knows, level_of, means, node_of};
+ghost use Rattle.tm_dd.specs.Reduced.{IsDeeper};
+ghost use Rattle.tm_dd.specs.Table.{Knows, depth_of, means, node_of, rank_of};
 ghost use Rattle.tm_dd.specs.declared.node.NodeId.{NodeId as Id};
 ghost use Rattle.tm_ddops.specs.Connective.{larger, smaller, xor};
 ghost use Rattle.tm_ddops.specs.Manager.{Grows as DiagramsGrow, IsFunction, Remembers};
@@ -23,13 +24,14 @@ impl Game {
         requires level { level < self.old.diagrams.table.levels }
         requires lo_known { Knows self.old.diagrams.table lo }
         requires hi_known { Knows self.old.diagrams.table hi }
-        requires lo_deeper { level < level_of self.old.diagrams.table lo }
-        requires hi_deeper { level < level_of self.old.diagrams.table hi }
+        requires lo_deeper { IsDeeper self.old.diagrams.table level lo }
+        requires hi_deeper { IsDeeper self.old.diagrams.table level hi }
 
         ensures grows { Grows self.old self.new }
         ensures answer { IfOk result (λ id. IsFunction self.new.diagrams.table id (λ v.
             if v level then means self.new.diagrams.table hi v else means self.new.diagrams.table lo v)) }
-        ensures deep { IfOk result (λ id. level ≤ level_of self.new.diagrams.table id) }
+        ensures deep { IfOk result (λ id.
+            rank_of self.new.diagrams.table level ≤ depth_of self.new.diagrams.table id) }
         ensures node { IfOk result (λ id. ¬ (lo ≡ hi)
             → node_of self.new.diagrams.table id ≡ record { level = level; lo = lo; hi = hi }) }
         ensures makes { MakesNode (record { level = level; lo = lo; hi = hi }) self.old.diagrams self.new.diagrams
@@ -91,8 +93,8 @@ impl Game {
         Ok(f.complement())
     }
 
-    /// The function that is `g` where `f` is true, and `h` where it is false. The result is remembered, and a remembered
-    /// one is answered again.
+    /// The function that is `g` where `f` is true, and `h` where it is false. The result is remembered, and a
+    /// remembered one is answered again.
     pub fn ite(&mut self, f: NodeId, g: NodeId, h: NodeId) -> Result<NodeId, AllocError>
         requires f { Knows self.old.diagrams.table f }
         requires g { Knows self.old.diagrams.table g }

@@ -1,5 +1,6 @@
 //! The symbolic game of a design.
 ghost use Rattle.std.specs.Prelude.{◌≡◌, ◌+◌, ◌≤◌, length};
+ghost use Rattle.tm_dd.specs.Reduced.{RanksRise};
 ghost use Rattle.tm_flat.specs.Flat.{flat_terms};
 ghost use Rattle.tm_game.specs.Start.{state_bits_in};
 ghost use Rattle.tm_game_bits.specs.Order.{IsOrder};
@@ -42,11 +43,13 @@ impl Model for Game {
 }
 
 impl Game {
-    /// The place of the bit of each level of a state: each place once. Behind these levels stand 128 of bits of
-    /// arguments and of choices, and then one for each predicate of the pool. It takes no memory.
+    /// The place of the bit of each level of a state: each place once. In diagrams these levels stand in the order of
+    /// their numbers. Behind them come 128 of bits of arguments and of choices, and then one for each predicate of the
+    /// pool. It takes no memory.
     pub fn order(&self) -> &[u32]
         ensures value { result.now ≡ self.now.order }
         ensures places { IsOrder (state_bits_in self.now.flat) self.now.order }
+        ensures rises { RanksRise (length self.now.order) self.now.diagrams.table }
         ensures levels { length self.now.order + 128 ≤ self.now.diagrams.table.levels }
         ensures predicates { length self.now.order + 128 + length self.now.flat.pool
             ≤ self.now.diagrams.table.levels }

@@ -1,7 +1,7 @@
 //! A game from guarded updates and an order of the levels of a state.
 ghost use Rattle.std.specs.List.{range_with_len};
 ghost use Rattle.std.specs.Prelude.{◌≡◌, ◌+◌, ◌<◌, ◌≤◌, ◌^◌, IfOk, length};
-ghost use Rattle.tm_dd.specs.Reduced.{Extends as ExtendsDiagrams};
+ghost use Rattle.tm_dd.specs.Reduced.{Extends as ExtendsDiagrams, RanksRise};
 ghost use Rattle.tm_flat.specs.Flat.{flat_terms};
 ghost use Rattle.tm_game.specs.Game.{IsOf};
 ghost use Rattle.tm_game.specs.Inner.Starts.{AreSetsKept, IsStart};
@@ -21,7 +21,7 @@ use tm_blast::TermBits;
 use tm_dd::NodeId;
 use tm_ddops::Manager;
 use tm_flat::Flat;
-use tm_game_bits::{ROOM, Recent, place_order};
+use tm_game_bits::{ROOM, Recent, levels_above, place_order, ranks_among};
 use tm_game_steps::{Encoding, MadeGame};
 use tm_term::Terms;
 
@@ -75,7 +75,7 @@ impl Game {
         ensures of { IfOk result (λ g. (d : DesignTree) → CanStart d terms (flat_terms flat) → IsOf d g) }
     {
         let mut bits = TermBits::new(alloc);
-        let mut dd = manager(alloc, &flat, &order)?;
+        let mut dd = manager(alloc, &flat, &terms, &order)?;
         let start = prepare(alloc, &flat, terms, &order)?;
         let made = start.encoding.game(
             &flat,
@@ -99,13 +99,18 @@ impl Game {
     }
 }
 
-// A manager with the levels of a game.
-fn manager(alloc: Global, flat: &Flat, order: &[u32]) -> Result<Manager, AllocError>
+// A manager with the levels of a game. Those of bits of arguments and choices stand among those of a state in diagrams.
+fn manager(alloc: Global, flat: &Flat, terms: &Terms, order: &[u32]) -> Result<Manager, AllocError>
     requires { length order.now + 128 + length (flat_terms flat.now).pool < 2 ^ 32 }
-    ensures { IfOk result (λ m. m.table.levels ≡ length order.now + 128 + length (flat_terms flat.now).pool) }
+    ensures levels { IfOk result (λ m.
+        m.table.levels ≡ length order.now + 128 + length (flat_terms flat.now).pool) }
+    ensures rises { IfOk result (λ m. RanksRise (length order.now) m.table) }
 {
-    let levels = order.len() as u32 + 2 * ROOM + flat.pool.len() as u32;
-    let dd = Manager::new(alloc, levels)?;
+    let states = order.len() as u32;
+    let levels = states + 2 * ROOM + flat.pool.len() as u32;
+    let above = levels_above(alloc, flat, terms, order)?;
+    let ranks = ranks_among(alloc, states, levels, &above)?;
+    let dd = Manager::arranged(alloc, levels, ranks)?;
     Ok(dd)
 }
 

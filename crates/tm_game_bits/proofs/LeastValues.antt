@@ -5,8 +5,8 @@ use Rattle.std.proofs.lemmas.List.{length-map, map_push, same_from_push, take_al
 use Rattle.tm_dd.specs.declared.node.NodeId.{NodeId}
 use Rattle.tm_dd.specs.declared.node.TheConstants.{FALSE, TRUE}
 use Rattle.tm_dd.specs.Reduced.{Extends}
-use Rattle.tm_dd.specs.Table.{Table, Knows, assignment, level_of, means}
-use Rattle.tm_dd.proofs.CallerLaws.{Extends-refl, Extends-trans, level_of-IsConstant, means-FALSE, means-TRUE}
+use Rattle.tm_dd.specs.Table.{Table, Knows, assignment, means}
+use Rattle.tm_dd.proofs.CallerLaws.{Extends-refl, Extends-trans, means-FALSE, means-TRUE}
 use Rattle.tm_ddops.specs.Least.{IsLeast}
 use Rattle.tm_ddops.specs.Manager.{IsFunction}
 use Rattle.tm_sem.specs.StateBits.{comes_before}
@@ -14,17 +14,6 @@ use Rattle.tm_game_bits.specs.Inner.Narrowed.{IsCleared, IsNarrowed}
 use Rattle.tm_game_bits.specs.Least.{IsLeastAlong}
 
 -- ---- one level
--- a level is above the constants
-pub above_false : (s : Table) (level : ℕ) → level < s.levels → level < level_of s FALSE
-above_false s level h =
-    let bottom : level_of s FALSE ≡ s.levels = level_of-IsConstant s FALSE (omega arith) in
-    omega arith
-
-pub above_true : (s : Table) (level : ℕ) → level < s.levels → level < level_of s TRUE
-above_true s level h =
-    let bottom : level_of s TRUE ≡ s.levels = level_of-IsConstant s TRUE (omega arith) in
-    omega arith
-
 -- what a node means whose children are the constants
 clear_means : (t : Table) (clear : NodeId) (level : ℕ) →
     IsFunction t clear (λ v. cond (v level) (means t FALSE v) (means t TRUE v)) → (v : ℕ → Bool) →

@@ -16,6 +16,7 @@ pub mod Orders
 pub mod Partition
 pub mod Pieces
 pub mod Predecessors
+pub mod Ranked
 pub mod Remembered
 pub mod Rising
 pub mod Sets

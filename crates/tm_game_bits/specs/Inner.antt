@@ -2,4 +2,5 @@
 pub mod Loops
 pub mod Narrowed
 pub mod Pieces
+pub mod Ranks
 pub mod Weights

@@ -10,6 +10,8 @@ mod laws;
 mod levels;
 mod narrowing;
 mod order;
+mod ranks;
+mod readings;
 mod recent;
 mod step;
 mod told_laws;
@@ -24,6 +26,8 @@ pub use laws::{
 pub use levels::levels_by_place;
 pub use narrowing::least;
 pub use order::{place_order, weight_order};
+pub use ranks::ranks_among;
+pub use readings::levels_above;
 pub use recent::Recent;
 pub use step::StepDiagrams;
 pub use told_laws::told_games_are_those_of_their_designs;

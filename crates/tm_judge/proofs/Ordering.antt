@@ -19,14 +19,15 @@ use Rattle.tm_syntax.specs.Design.{DesignTree}
 use Rattle.tm_term.specs.Table.{Table}
 use Rattle.tm_term.specs.Value.{Extends}
 
+-- guarded updates of a design have as many bits of a state as the design
+pub counted : (d : DesignTree) (t : Table) (f : FlatTerms) → CanStart d t f → state_bits_in f ≡ sum (state_widths d)
+counted d t f can = ap sum (widths_are t d f can.flat)
+
 module _ (d : DesignTree) (t : Table) (f : FlatTerms) (can : CanStart d t f) (order : List ℕ)
     (is : IsOrder (sum (state_widths d)) order) where
-  counted : state_bits_in f ≡ sum (state_widths d)
-  counted = ap sum (widths_are t d f can.flat)
-
   -- an order of the bits of a state is one of those of the inputs in front of the choices
   pub order_starts : IsOrder (state_bits_in f) order
-  order_starts = subst (λ (n : ℕ). IsOrder n order) (sym counted) is
+  order_starts = subst (λ (n : ℕ). IsOrder n order) (sym (counted d t f can)) is
 
   long : length order ≡ sum (state_widths d)
   long =
@@ -48,7 +49,7 @@ module _ (d : DesignTree) (t : Table) (f : FlatTerms) (can : CanStart d t f) (or
           (subst (IsOrder (state_bits_in f)) (sym follows) order_starts);
       bits = ap length follows ∙ long;
       levels = levels;
-      few_levels = omega (arith, can.levels, counted, long, ap length follows);
+      few_levels = omega (arith, can.levels, counted d t f can, long, ap length follows);
       inputs = omega (arith, can.inputs, ap length terms.inputs);
       wide = subst (All (λ w. w ≤ 64)) (sym inputs_are) can.wide;
       goals =

@@ -1,5 +1,6 @@
 //! The game of a design.
-ghost use Rattle.std.specs.Prelude.{IfOk, sum};
+ghost use Rattle.std.specs.List.{range_with_len};
+ghost use Rattle.std.specs.Prelude.{◌≡◌, IfOk, sum};
 ghost use Rattle.tm_judge.specs.Inner.Updates.{AreUpdates};
 ghost use Rattle.tm_judge.specs.Ordered.{IsOrderedGame};
 ghost use Rattle.tm_flat.specs.Flat.{flat_terms};
@@ -44,6 +45,7 @@ pub fn game_of(alloc: Global, design: &Design) -> Result<Game, AllocError>
     requires sound { IsSound (design_tree design.now) }
     requires of_text { IsOfText (design_tree design.now).spec }
     ensures of { IfOk result (IsOf (design_tree design.now)) }
+    ensures order { IfOk result (λ g. g.order ≡ range_with_len 0 (sum (state_widths (design_tree design.now)))) }
     ensures pool { IfOk result (HasPool (design_tree design.now)) }
 {
     let made = make_updates(alloc, design)?;

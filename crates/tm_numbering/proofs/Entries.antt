@@ -6,20 +6,20 @@ use Rattle.tm_cert.specs.declared.cert.Entry.{Entry}
 use Rattle.tm_cert.specs.Nodes.{ids_of}
 use Rattle.tm_dd.specs.declared.node.NodeId.{NodeId}
 use Rattle.tm_dd.specs.declared.node.TheConstants.{FALSE, TRUE}
-use Rattle.tm_dd.specs.NodeId.{number_of}
-use Rattle.tm_dd.specs.Reduced.{IsReduced}
-use Rattle.tm_dd.specs.Table.{Table, level_of, means, node_of}
-use Rattle.tm_dd.proofs.CallerLaws.{means-FALSE, means-TRUE, same_number}
+use Rattle.tm_dd.specs.NodeId.{IsConstant, number_of}
+use Rattle.tm_dd.specs.Reduced.{IsReduced, RanksRise}
+use Rattle.tm_dd.specs.Table.{Table, depth_of, level_of, means, node_of, rank_of}
+use Rattle.tm_dd.proofs.CallerLaws.{means-FALSE, means-TRUE, number_rises, same_number}
 use Rattle.tm_verdict.specs.Fitting.{AreNodes}
 use Rattle.tm_verdict.specs.Sets.{id_holds}
 use Rattle.tm_verdict.proofs.Values.{always_holds, entry_holds, never_holds}
-use Rattle.tm_numbering.specs.Numbers.{AreNumbered, HasNumber, IsNodeOf, IsNumber}
+use Rattle.tm_numbering.specs.Numbers.{AreNumbered, HasNumber, IsNodeOf, IsNumber, IsOver}
 use Rattle.tm_numbering.proofs.Growth.{number_at, number_below, number_tells}
 use Rattle.tm_numbering.proofs.Items.{get_some, take_get}
 use Rattle.tm_numbering.proofs.Over.{level_within}
 
-module _ (s : Table) (reduced : IsReduced s) (bits : ℕ) (kept : List NodeId) (nodes : List Entry)
-    (numbered : AreNumbered s bits kept nodes) where
+module _ (s : Table) (reduced : IsReduced s) (bits : ℕ) (rise : RanksRise bits s) (kept : List NodeId)
+    (nodes : List Entry) (numbered : AreNumbered s bits kept nodes) where
   -- two entries that are equal are of one function, so of one id
   one_place : (j k : ℕ) (id : NodeId) (e : Entry) → IsNodeOf s bits kept k id e → slice_get kept k ≡ Some id →
       slice_get nodes j ≡ Some e → j ≡ k
@@ -40,15 +40,22 @@ module _ (s : Table) (reduced : IsReduced s) (bits : ℕ) (kept : List NodeId) (
       ∙ sym (node_two.meaning v)) in
       numbered.once j k id (subst (λ (x : NodeId). slice_get kept j ≡ Some x) same there.1) here
 
+  -- the level of an entry's id is one of the first
+  level_low : (id : NodeId) → IsOver s bits id → ¬ IsConstant id → level_of s id < bits
+  level_low id over inner =
+      omega (arith, (reduced.nodes id over.known inner).level, level_within s reduced bits id over inner)
+
   -- a child that has an entry has a greater level
-  child_deeper : (k : ℕ) (e : Entry) (id child : NodeId) (n : ℕ) → e.level ≡ level_of s id →
-      level_of s id < level_of s child → IsNumber kept k child n → (c : Entry) → 2 ≤ n →
+  child_deeper : (k : ℕ) (e : Entry) (id child : NodeId) (n : ℕ) → e.level ≡ level_of s id → e.level < bits →
+      depth_of s id < depth_of s child → IsNumber kept k child n → (c : Entry) → 2 ≤ n →
       slice_get (take k nodes) (n - 2) ≡ Some c → e.level < c.level
-  child_deeper k e id child n level below number c inner at =
+  child_deeper k e id child n level low below number c inner at =
       let place : n ≡ n - 2 + 2 = omega (arith, inner) in
       let own = numbered.each (n - 2) child c (number_at kept k child n (n - 2) number place)
       (take_get k nodes (n - 2) c at) in
-      omega (arith, level, below, own.level)
+      let above = number_rises s bits rise (level_of s id) (level_of s child) (omega (arith, level, low))
+      (level_low child own.over own.inner) below in
+      omega (arith, level, above, own.level)
 
   -- the entries are what a certificate may have
   pub nodes_valid : AreNodes bits nodes
@@ -59,19 +66,21 @@ module _ (s : Table) (reduced : IsReduced s) (bits : ℕ) (kept : List NodeId) (
       let id = there.0 in
       let node = numbered.each k id e there.1 is in
       let own = reduced.nodes id node.over.known node.inner in
+      let low : e.level < bits = omega (arith, node.level, level_low id node.over node.inner) in
+      let depth = ap (rank_of s) own.level in
       record {
-        level_below = omega (arith, node.level, own.level, level_within s reduced bits id node.over node.inner);
+        level_below = low;
         lo_before = omega (arith, number_below kept k (node_of s id).lo e.lo node.lo, long);
         hi_before = omega (arith, number_below kept k (node_of s id).hi e.hi node.hi, long);
         children_differ = λ same. own.differ
             (number_tells kept k k (node_of s id).lo (node_of s id).hi e.hi
             (subst (λ (n : ℕ). IsNumber kept k (node_of s id).lo n) same node.lo) node.hi);
         lo_deeper = λ child inner at.
-            child_deeper k e id (node_of s id).lo e.lo node.level (omega (arith, own.level, own.lo_rises)) node.lo child
-            inner at;
+            child_deeper k e id (node_of s id).lo e.lo node.level low (omega (arith, depth, own.lo_rises)) node.lo
+            child inner at;
         hi_deeper = λ child inner at.
-            child_deeper k e id (node_of s id).hi e.hi node.level (omega (arith, own.level, own.hi_rises)) node.hi child
-            inner at;
+            child_deeper k e id (node_of s id).hi e.hi node.level low (omega (arith, depth, own.hi_rises)) node.hi
+            child inner at;
         is_new = λ p.
             let same = one_place p.0 k id e node there.1
             (take_get k nodes p.0 e (slice_get-get_or (take k nodes) p.0 e p.1 ∙ ap Some p.2)) in

@@ -7,7 +7,7 @@ use Rattle.tm_dd.specs.declared.node.Node.{Node}
 use Rattle.tm_dd.specs.declared.node.NodeId.{NodeId}
 use Rattle.tm_dd.specs.NodeId.{IsConstant, number_of}
 use Rattle.tm_dd.specs.Reduced.{IsNode}
-use Rattle.tm_dd.specs.Table.{Table, level_of, node_of}
+use Rattle.tm_dd.specs.Table.{Table, depth_of, node_of, rank_of}
 use Rattle.tm_dd.proofs.CallerLaws.{same_number}
 use Rattle.tm_numbering.specs.Inner.Found.{IsAbsent}
 use Rattle.tm_numbering.specs.Numbers.{AreDeeper, AreNumbered, HasNumber, IsNodeOf, IsNumber, IsOver, Numbers, Stay}
@@ -126,42 +126,42 @@ module _ (s : Table) (bits : ℕ) (ids : List NodeId) (nodes : List Entry) (numb
 -- ---- an id that had no entry, from its children
 module _ (s : Table) (bits : ℕ) (id : NodeId) (over : IsOver s bits id) (inner : ¬ IsConstant id) (n : Node)
     (node : IsNode s id n) (is : n ≡ node_of s id) (old one other : List NodeId) (absent : IsAbsent old id)
-    (first : AreDeeper s (level_of s n.lo) old one) (second : AreDeeper s (level_of s n.hi) one other) where
-  lo_below : level_of s id < level_of s n.lo
-  lo_below = omega (arith, node.level, node.lo_rises)
+    (first : AreDeeper s (depth_of s n.lo) old one) (second : AreDeeper s (depth_of s n.hi) one other) where
+  lo_below : depth_of s id < depth_of s n.lo
+  lo_below = omega (arith, ap (rank_of s) node.level, node.lo_rises)
 
-  hi_below : level_of s id < level_of s n.hi
-  hi_below = omega (arith, node.level, node.hi_rises)
+  hi_below : depth_of s id < depth_of s n.hi
+  hi_below = omega (arith, ap (rank_of s) node.level, node.hi_rises)
 
   -- it has none while they get theirs
   pub still_absent : IsAbsent other id
   still_absent k at = in_other k (second k id at)
     where
-      in_one : (k : ℕ) → (slice_get old k ≡ Some id) ⊎ (level_of s n.lo ≤ level_of s id) → ⊥
+      in_one : (k : ℕ) → (slice_get old k ≡ Some id) ⊎ (depth_of s n.lo ≤ depth_of s id) → ⊥
       in_one k (inl p) = absent k p
       in_one k (inr l) = omega (arith, l, lo_below)
 
-      in_other : (k : ℕ) → (slice_get one k ≡ Some id) ⊎ (level_of s n.hi ≤ level_of s id) → ⊥
+      in_other : (k : ℕ) → (slice_get one k ≡ Some id) ⊎ (depth_of s n.hi ≤ depth_of s id) → ⊥
       in_other k (inl p) = in_one k (first k id p)
       in_other k (inr l) = omega (arith, l, hi_below)
 
-  deeper_then : AreDeeper s (level_of s id) old (other ++ id ∷ [])
+  deeper_then : AreDeeper s (depth_of s id) old (other ++ id ∷ [])
   deeper_then k x at = last (get_more other id k x at)
     where
-      in_one : (slice_get old k ≡ Some x) ⊎ (level_of s n.lo ≤ level_of s x) →
-          (slice_get old k ≡ Some x) ⊎ (level_of s id ≤ level_of s x)
+      in_one : (slice_get old k ≡ Some x) ⊎ (depth_of s n.lo ≤ depth_of s x) →
+          (slice_get old k ≡ Some x) ⊎ (depth_of s id ≤ depth_of s x)
       in_one (inl p) = inl p
       in_one (inr l) = inr (omega (arith, l, lo_below))
 
-      in_other : (slice_get one k ≡ Some x) ⊎ (level_of s n.hi ≤ level_of s x) →
-          (slice_get old k ≡ Some x) ⊎ (level_of s id ≤ level_of s x)
+      in_other : (slice_get one k ≡ Some x) ⊎ (depth_of s n.hi ≤ depth_of s x) →
+          (slice_get old k ≡ Some x) ⊎ (depth_of s id ≤ depth_of s x)
       in_other (inl p) = in_one (first k x p)
       in_other (inr l) = inr (omega (arith, l, hi_below))
 
       last : (slice_get other k ≡ Some x) ⊎ ((k ≡ length other) × (id ≡ x)) →
-          (slice_get old k ≡ Some x) ⊎ (level_of s id ≤ level_of s x)
+          (slice_get old k ≡ Some x) ⊎ (depth_of s id ≤ depth_of s x)
       last (inl p) = in_other (second k x p)
-      last (inr p) = inr (subst (λ (y : NodeId). level_of s id ≤ level_of s y) p.1 (omega arith))
+      last (inr p) = inr (subst (λ (y : NodeId). depth_of s id ≤ depth_of s y) p.1 (omega arith))
 
   -- then it gets its number
   pub numbers_node : (new : List NodeId) (nodes later : List Entry) (e : Entry) (number : ℕ) → Stay old one →

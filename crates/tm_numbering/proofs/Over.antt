@@ -5,7 +5,7 @@ use Rattle.tm_dd.specs.declared.node.Node.{Node}
 use Rattle.tm_dd.specs.declared.node.NodeId.{NodeId}
 use Rattle.tm_dd.specs.NodeId.{IsConstant}
 use Rattle.tm_dd.specs.Reduced.{IsNode, IsReduced}
-use Rattle.tm_dd.specs.Table.{Table, Knows, level_of, means, node_of}
+use Rattle.tm_dd.specs.Table.{Table, Knows, depth_of, means, node_of, rank_of}
 use Rattle.tm_ddops.specs.Support.{with_value}
 use Rattle.tm_numbering.specs.Numbers.{IsOver}
 
@@ -43,11 +43,11 @@ module _ (s : Table) (reduced : IsReduced s) (bits : ℕ) (id : NodeId) (over : 
   level = (node_of s id).level
 
   -- a deeper function does not read the level
-  deeper_reads : (f : NodeId) → Knows s f → level < level_of s f → (v : ℕ → Bool) (b : Bool) →
+  deeper_reads : (f : NodeId) → Knows s f → rank_of s level < depth_of s f → (v : ℕ → Bool) (b : Bool) →
       means s f (with_value v level b) ≡ means s f v
   deeper_reads f known below v b =
       reduced.independent f known (with_value v level b) v
-      (λ k from _. value_elsewhere v level b k (λ same. omega (arith, same, from, below)))
+      (λ k from _. value_elsewhere v level b k (λ same. omega (arith, ap (rank_of s) same, from, below)))
 
   -- each child is the function where the level has a value
   hi_means : (v : ℕ → Bool) → means s id (with_value v level true) ≡ means s (node_of s id).hi v

@@ -5,7 +5,7 @@ use Rattle.std.specs.Prelude.{◌≡◌, ◌⊎◌, ℕ, ◌+◌, ◌<◌, ◌�
 use Rattle.tm_cert.specs.declared.cert.Entry.{Entry}
 use Rattle.tm_dd.specs.declared.node.NodeId.{NodeId}
 use Rattle.tm_dd.specs.NodeId.{IsConstant, number_of}
-use Rattle.tm_dd.specs.Table.{Table, Knows, level_of, means, node_of}
+use Rattle.tm_dd.specs.Table.{Table, Knows, depth_of, level_of, means, node_of}
 
 -- an id is known, and its function reads the first so many levels alone
 pub record IsOver (s : Table) (bits : ℕ) (id : NodeId) : Type 0 where
@@ -40,15 +40,15 @@ pub record AreNumbered (s : Table) (bits : ℕ) (ids : List NodeId) (nodes : Lis
 pub record Stay (old new : List NodeId) : Type 0 where
   pub stay : (k : ℕ) (id : NodeId) → slice_get old k ≡ Some id → slice_get new k ≡ Some id
 
--- each id that was added has this level or a greater one
+-- each id that was added stands at this depth or a greater one
 abbrev pub AreDeeper : Table → ℕ → List NodeId → List NodeId → Type 0
-AreDeeper s level old new =
-    (k : ℕ) (id : NodeId) → slice_get new k ≡ Some id → (slice_get old k ≡ Some id) ⊎ (level ≤ level_of s id)
+AreDeeper s depth old new =
+    (k : ℕ) (id : NodeId) → slice_get new k ≡ Some id → (slice_get old k ≡ Some id) ⊎ (depth ≤ depth_of s id)
 
 -- n is the number of an id now: it was, or the id was added with all that it stands on
 pub record Numbers (s : Table) (bits : ℕ) (id : NodeId) (old new : List NodeId) (nodes : List Entry) (n : ℕ) :
     Type 0 where
   pub numbered : AreNumbered s bits new nodes
   pub stay : Stay old new
-  pub deeper : AreDeeper s (level_of s id) old new
+  pub deeper : AreDeeper s (depth_of s id) old new
   pub number : HasNumber new id n

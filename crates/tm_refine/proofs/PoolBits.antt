@@ -6,8 +6,8 @@ use Rattle.std.proofs.lemmas.List.Elements.{All-nil, All-cons, All-head, All-tai
 use Rattle.tm_abs.specs.Split.{IsCut, PartsAreOne}
 use Rattle.tm_dd.specs.declared.node.NodeId.{NodeId}
 use Rattle.tm_dd.specs.declared.node.TheConstants.{FALSE, TRUE}
-use Rattle.tm_dd.specs.Table.{Table, level_of, means}
-use Rattle.tm_dd.proofs.CallerLaws.{level_of-IsConstant, means-FALSE, means-TRUE}
+use Rattle.tm_dd.specs.Table.{Table, means}
+use Rattle.tm_dd.proofs.CallerLaws.{means-FALSE, means-TRUE}
 use Rattle.tm_ddops.specs.Manager.{IsFunction}
 use Rattle.tm_flat_pool.specs.Cells.{SameCell}
 use Rattle.tm_flat_pool.specs.Predicates.{Predicate, predicate_holds}
@@ -35,12 +35,6 @@ module _ (t : Table) (level : ℕ) (id : NodeId)
     (made : IsFunction t id (λ v. if v level then means t TRUE v else means t FALSE v)) where
   pub bit_means : (v : Assignment) → means t id v ≡ v level
   bit_means v = made.meaning v ∙ bit_here t v (v level)
-
-pub below_false : (t : Table) (level : ℕ) → level < t.levels → level < level_of t FALSE
-below_false t level low = subst (λ (n : ℕ). level < n) (sym (level_of-IsConstant t FALSE (omega arith))) low
-
-pub below_true : (t : Table) (level : ℕ) → level < t.levels → level < level_of t TRUE
-below_true t level low = subst (λ (n : ℕ). level < n) (sym (level_of-IsConstant t TRUE (omega arith))) low
 
 -- it is a set of states
 pub bit_set : (g : GameData) (level : ℕ) (id : NodeId) → level < length g.order →

@@ -11,8 +11,8 @@ use Rattle.tm_base.proofs.NumberBits.{number_is_its_bits}
 use Rattle.tm_dd.specs.declared.node.NodeId.{NodeId}
 use Rattle.tm_dd.specs.declared.node.TheConstants.{FALSE, TRUE}
 use Rattle.tm_dd.specs.Reduced.{Extends}
-use Rattle.tm_dd.specs.Table.{Table, Knows, level_of, means}
-use Rattle.tm_dd.proofs.CallerLaws.{Extends-refl, Extends-trans, level_of-IsConstant, means-FALSE, means-TRUE}
+use Rattle.tm_dd.specs.Table.{Table, Knows, means}
+use Rattle.tm_dd.proofs.CallerLaws.{Extends-refl, Extends-trans, means-FALSE, means-TRUE}
 use Rattle.tm_ddops.specs.Manager.{IsFunction}
 use Rattle.tm_game_bits.proofs.Numbers.{number_below}
 use Rattle.tm_numbering.proofs.Items.{get_more}
@@ -58,13 +58,6 @@ pub level_below : (levels : List ℕ) (count many k : ℕ) → All (λ l. l < co
 level_below levels count many k below same within =
     let low = below k 0 within in
     omega (arith, low, same)
-
--- the constants lie below a level
-pub below_false : (s : Table) (level : ℕ) → level < s.levels → level < level_of s FALSE
-below_false s level low = subst (λ (n : ℕ). level < n) (sym (level_of-IsConstant s FALSE (omega arith))) low
-
-pub below_true : (s : Table) (level : ℕ) → level < s.levels → level < level_of s TRUE
-below_true s level low = subst (λ (n : ℕ). level < n) (sym (level_of-IsConstant s TRUE (omega arith))) low
 
 either_bit : (b : Bool) → (if b then true else false) ≡ b
 either_bit true = refl

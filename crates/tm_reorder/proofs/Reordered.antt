@@ -7,7 +7,7 @@ use Rattle.tm_cert.specs.declared.cert.Rank.{Rank}
 use Rattle.tm_cert.specs.Cert.{DriverData, EnvData, LevelData}
 use Rattle.tm_cert.specs.Nodes.{ids_of}
 use Rattle.tm_dd.specs.declared.node.NodeId.{NodeId}
-use Rattle.tm_dd.specs.Reduced.{IsReduced}
+use Rattle.tm_dd.specs.Reduced.{IsReduced, RanksRise}
 use Rattle.tm_dd.specs.Table.{Table}
 use Rattle.tm_game_bits.specs.Order.{IsOrder}
 use Rattle.tm_numbering.specs.Numbers.{AreNumbered}
@@ -20,19 +20,23 @@ use Rattle.tm_reorder.specs.Inner.Told.{ChainTold, DriverTold, EnvironmentTold, 
 use Rattle.tm_verdict.specs.Fitting.{AreNodes, FitsDriver, FitsEnvironment, FitsLevel, FitsRank}
 
 -- ---- numbers given anew
-module _ (order : List ℕ) (s : Table) (reduced : IsReduced s) (count : s.levels ≡ length order)
-    (see : (ℕ → Bool) → ℕ → Bool) (old_nodes : List Entry) (ids kept : List NodeId) (nodes : List Entry)
+module _ (order : List ℕ) (s : Table) (reduced : IsReduced s) (rise : RanksRise (length order) s)
+    (count : s.levels ≡ length order) (see : (ℕ → Bool) → ℕ → Bool) (old_nodes : List Entry) (ids kept : List NodeId)
+    (nodes : List Entry)
     (loaded : AreMoved s see old_nodes ids) (numbered : AreNumbered s s.levels kept nodes) where
+  all_rise : RanksRise s.levels s
+  all_rise = subst (λ (m : ℕ). RanksRise m s) (sym count) rise
+
   set_told : (k n : ℕ) → Stands ids kept k n → IsTold see old_nodes nodes k n
   set_told k n stands = record {
-    within = number_within s reduced s.levels kept nodes numbered stands.0 n stands.2;
+    within = number_within s reduced s.levels all_rise kept nodes numbered stands.0 n stands.2;
     same = λ v.
-        worth s reduced s.levels kept nodes numbered v stands.0 n stands.2
+        worth s reduced s.levels all_rise kept nodes numbered v stands.0 n stands.2
         ∙ (loaded.each k stands.0 stands.1).meaning v;
   }
 
   nodes_told : AreNodes (length order) nodes
-  nodes_told = subst (λ (m : ℕ). AreNodes m nodes) count (nodes_valid s reduced s.levels kept nodes numbered)
+  nodes_told = subst (λ (m : ℕ). AreNodes m nodes) count (nodes_valid s reduced s.levels all_rise kept nodes numbered)
 
   rank_told : (r q : Rank) → RankStands ids kept r q → RankTold see old_nodes nodes r q
   rank_told r q stands = (stands.0, set_told r.set q.set stands.1)

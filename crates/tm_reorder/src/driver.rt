@@ -2,7 +2,7 @@
 ghost use Rattle.std.specs.Prelude.{◌≡◌, ◌<◌, ◌^◌, ℕ, Bool, IfOk, length, map, sum};
 ghost use Rattle.tm_agreement.specs.Agreement.{DriversAgree};
 ghost use Rattle.tm_cert.specs.Nodes.{ids_of};
-ghost use Rattle.tm_dd.specs.Reduced.{IsReduced};
+ghost use Rattle.tm_dd.specs.Reduced.{IsReduced, RanksRise};
 ghost use Rattle.tm_game_bits.specs.Order.{IsOrder};
 ghost use Rattle.tm_reorder.specs.Fields.{AreFields};
 ghost use Rattle.tm_reorder.specs.Inner.Clamped.{HavePlaces};
@@ -36,6 +36,7 @@ pub fn reorder_driver(
     order: &[u32],
 ) -> Result<DriverCert, AllocError>
     requires levels { dd.old.table.levels ≡ length order.now }
+    requires ranks { RanksRise (length order.now) dd.old.table }
     requires count { length order.now < 2 ^ 32 }
     requires order { IsOrder (length order.now) order.now }
     requires fits { (goals fairs : ℕ) × FitsDriver (length order.now) goals fairs cert.now }
@@ -62,6 +63,7 @@ pub fn clamp_driver(
     fields: &[Field],
 ) -> Result<DriverCert, AllocError>
     requires levels { dd.old.table.levels ≡ length order.now }
+    requires ranks { RanksRise (length order.now) dd.old.table }
     requires count { length order.now < 2 ^ 32 }
     requires order { IsOrder (length order.now) order.now }
     requires fits { (goals fairs : ℕ) × FitsDriver (length order.now) goals fairs cert.now }
@@ -86,6 +88,7 @@ fn move_driver(
     fields: &[Field],
 ) -> Result<DriverCert, AllocError>
     requires levels { dd.old.table.levels ≡ length order.now }
+    requires ranks { RanksRise (length order.now) dd.old.table }
     requires count { length order.now < 2 ^ 32 }
     requires order { IsOrder (length order.now) order.now }
     requires fits { (goals fairs : ℕ) × FitsDriver (length order.now) goals fairs cert.now }
@@ -115,6 +118,7 @@ fn renumber_driver(
 ) -> Result<DriverCert, AllocError>
     requires reduced { IsReduced store.now }
     requires levels { store.now.levels ≡ length order.now }
+    requires ranks { RanksRise (length order.now) store.now }
     requires fits { (goals fairs : ℕ) × FitsDriver (length order.now) goals fairs cert.now }
     requires ids { AreIds store.now ids.now }
     requires count { length ids.now ≡ ids_of cert.now.nodes }

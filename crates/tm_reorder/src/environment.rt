@@ -2,7 +2,7 @@
 ghost use Rattle.std.specs.Prelude.{◌≡◌, ◌<◌, ◌^◌, ℕ, Bool, IfOk, length, sum};
 ghost use Rattle.tm_agreement.specs.Agreement.{LevelsAgree};
 ghost use Rattle.tm_cert.specs.Nodes.{ids_of};
-ghost use Rattle.tm_dd.specs.Reduced.{IsReduced};
+ghost use Rattle.tm_dd.specs.Reduced.{IsReduced, RanksRise};
 ghost use Rattle.tm_game_bits.specs.Order.{IsOrder};
 ghost use Rattle.tm_reorder.specs.Fields.{AreFields};
 ghost use Rattle.tm_reorder.specs.Inner.Clamped.{HavePlaces};
@@ -37,6 +37,7 @@ pub fn reorder_environment(
     order: &[u32],
 ) -> Result<EnvCert, AllocError>
     requires levels { dd.old.table.levels ≡ length order.now }
+    requires ranks { RanksRise (length order.now) dd.old.table }
     requires count { length order.now < 2 ^ 32 }
     requires order { IsOrder (length order.now) order.now }
     requires fits { (goals fairs : ℕ) × FitsEnvironment (length order.now) goals fairs cert.now }
@@ -62,6 +63,7 @@ pub fn clamp_environment(
     fields: &[Field],
 ) -> Result<EnvCert, AllocError>
     requires levels { dd.old.table.levels ≡ length order.now }
+    requires ranks { RanksRise (length order.now) dd.old.table }
     requires count { length order.now < 2 ^ 32 }
     requires order { IsOrder (length order.now) order.now }
     requires fits { (goals fairs : ℕ) × FitsEnvironment (length order.now) goals fairs cert.now }
@@ -85,6 +87,7 @@ fn move_environment(
     fields: &[Field],
 ) -> Result<EnvCert, AllocError>
     requires levels { dd.old.table.levels ≡ length order.now }
+    requires ranks { RanksRise (length order.now) dd.old.table }
     requires count { length order.now < 2 ^ 32 }
     requires order { IsOrder (length order.now) order.now }
     requires fits { (goals fairs : ℕ) × FitsEnvironment (length order.now) goals fairs cert.now }
@@ -114,6 +117,7 @@ fn renumber_environment(
 ) -> Result<EnvCert, AllocError>
     requires reduced { IsReduced store.now }
     requires levels { store.now.levels ≡ length order.now }
+    requires ranks { RanksRise (length order.now) store.now }
     requires fits { (goals fairs : ℕ) × FitsEnvironment (length order.now) goals fairs cert.now }
     requires ids { AreIds store.now ids.now }
     requires count { length ids.now ≡ ids_of cert.now.nodes }

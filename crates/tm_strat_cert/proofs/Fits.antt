@@ -8,7 +8,7 @@ use Rattle.tm_cert.specs.declared.cert.Rank.{Rank}
 use Rattle.tm_cert.specs.Cert.{DriverData, EnvData, LevelData}
 use Rattle.tm_cert.specs.Nodes.{ids_of}
 use Rattle.tm_dd.specs.declared.node.NodeId.{NodeId}
-use Rattle.tm_dd.specs.Reduced.{IsReduced}
+use Rattle.tm_dd.specs.Reduced.{IsReduced, RanksRise}
 use Rattle.tm_game.specs.Game.{GameData, IsOf}
 use Rattle.tm_game.specs.Start.{state_bits_in}
 use Rattle.tm_game.proofs.Ordered.{order_is}
@@ -36,8 +36,8 @@ all_items : {A : Type 0} (P : A → Type 0) (xs : List A) → ((k : ℕ) (x : A)
 all_items P xs each k d below = each k (get_or xs k d) (slice_get-get_or xs k d below)
 
 module _ (g : GameData) (d : DesignTree) (of : IsOf d g) (places : IsOrder (state_bits_in g.flat) g.order)
-    (reduced : IsReduced g.diagrams.table) (kept : List NodeId) (nodes : List Entry)
-    (numbered : IsNumbering g kept nodes) where
+    (reduced : IsReduced g.diagrams.table) (rise : RanksRise (length g.order) g.diagrams.table) (kept : List NodeId)
+    (nodes : List Entry) (numbered : IsNumbering g kept nodes) where
   order_fits : IsOrder (sum (state_widths d)) g.order
   order_fits = order_is g.terms d g.flat of.flat g.order places
 
@@ -47,10 +47,11 @@ module _ (g : GameData) (d : DesignTree) (of : IsOf d g) (places : IsOrder (stat
   nodes_fit : AreNodes (sum (state_widths d)) nodes
   nodes_fit =
       subst (λ (bits : ℕ). AreNodes bits nodes) (length_order (sum (state_widths d)) g.order order_fits)
-      (nodes_valid g.diagrams.table reduced (length g.order) kept nodes numbered)
+      (nodes_valid g.diagrams.table reduced (length g.order) rise kept nodes numbered)
 
   within : (id : NodeId) (n : ℕ) → HasNumber kept id n → n < ids_of nodes
-  within id n number = number_within g.diagrams.table reduced (length g.order) kept nodes numbered id n number
+  within id n number = number_within g.diagrams.table reduced (length g.order) rise kept nodes numbered id n
+      number
 
   -- ---- a driver's
   module _ (it : Iterates) (order : List ℕ) (region : ℕ) (goals : List (List Rank)) (same : order ≡ g.order)
@@ -62,7 +63,7 @@ module _ (g : GameData) (d : DesignTree) (of : IsOf d g) (places : IsOrder (stat
     own_waits : WaitForConditions d (certificate.driver_sets d cert)
     own_waits =
         subst (WaitForConditions d)
-        (sym (driver_told g d of reduced kept nodes numbered it order region goals same number placed)) waits
+        (sym (driver_told g d of reduced rise kept nodes numbered it order region goals same number placed)) waits
 
     rank_fits : (j k : ℕ) (ranks : List Rank) (q : Rank) → slice_get goals j ≡ Some ranks → slice_get ranks k ≡ Some q →
         FitsRank (length (conditions d)) (ids_of nodes) q
@@ -101,7 +102,7 @@ module _ (g : GameData) (d : DesignTree) (of : IsOf d g) (places : IsOrder (stat
 
     own_shape : HasShape d (certificate.levels_of d env)
     own_shape =
-        subst (HasShape d) (sym (levels_told g d of reduced kept nodes numbered it order levels same placed)) shape
+        subst (HasShape d) (sym (levels_told g d of reduced rise kept nodes numbered it order levels same placed)) shape
 
     sets_fit : (c : Chain) (sets : List ℕ) → SetsPlaced kept c.sets.items sets →
         All (λ (set : ℕ). set < ids_of nodes) sets

@@ -4,7 +4,7 @@ use Rattle.tm_cert.specs.declared.cert.Entry.{Entry}
 use Rattle.tm_cert.specs.declared.cert.Rank.{Rank}
 use Rattle.tm_cert.specs.Cert.{LevelData}
 use Rattle.tm_dd.specs.declared.node.NodeId.{NodeId}
-use Rattle.tm_dd.specs.Reduced.{IsReduced}
+use Rattle.tm_dd.specs.Reduced.{IsReduced, RanksRise}
 use Rattle.tm_dd.specs.Table.{means}
 use Rattle.tm_game.specs.Game.{GameData, IsOf}
 use Rattle.tm_game.proofs.Ordered.{widths_are}
@@ -26,8 +26,9 @@ use Rattle.tm_syntax.specs.Design.{DesignTree}
 use Rattle.tm_verdict.specs.Sets as certificate
 use Rattle.tm_verdict.specs.Sets.{bit_at, id_holds}
 
-module _ (g : GameData) (d : DesignTree) (of : IsOf d g) (reduced : IsReduced g.diagrams.table) (kept : List NodeId)
-    (nodes : List Entry) (numbered : IsNumbering g kept nodes) where
+module _ (g : GameData) (d : DesignTree) (of : IsOf d g) (reduced : IsReduced g.diagrams.table)
+    (rise : RanksRise (length g.order) g.diagrams.table) (kept : List NodeId) (nodes : List Entry)
+    (numbered : IsNumbering g kept nodes) where
   -- the bits of a state by the certificate are its levels in the game
   same_bits : (s : StateData) → bit_at d g.order s ≡ (coding g).assignment_of s
   same_bits s = λ i. λ level.
@@ -41,7 +42,7 @@ module _ (g : GameData) (d : DesignTree) (of : IsOf d g) (reduced : IsReduced g.
     where
       at : (s : StateData) → certificate.set_of d g.order nodes n s ≡ exact.set_of g id s
       at s =
-          worth g.diagrams.table reduced (length g.order) kept nodes numbered (bit_at d g.order s) id n number
+          worth g.diagrams.table reduced (length g.order) rise kept nodes numbered (bit_at d g.order s) id n number
           ∙ ap (means g.diagrams.table id) (same_bits s)
 
   -- ---- a driver's

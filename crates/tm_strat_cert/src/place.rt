@@ -1,6 +1,6 @@
 //! The numbers of sets of states among the entries of a certificate.
-ghost use Rattle.std.specs.Prelude.{◌≡◌, IfOk};
-ghost use Rattle.tm_dd.specs.Reduced.{IsReduced};
+ghost use Rattle.std.specs.Prelude.{◌≡◌, IfOk, length};
+ghost use Rattle.tm_dd.specs.Reduced.{IsReduced, RanksRise};
 ghost use Rattle.tm_game.specs.Start.{state_bits_in};
 ghost use Rattle.tm_game_bits.specs.Order.{IsOrder};
 ghost use Rattle.tm_numbering.specs.Numbers.{HasNumber};
@@ -35,6 +35,7 @@ pub(crate) fn order_of(alloc: Global, game: &Game) -> Result<Vec<u32>, AllocErro
     ensures order { IfOk result (λ order. order.items ≡ game.now.order) }
     ensures places { IsOrder (state_bits_in game.now.flat) game.now.order }
     ensures reduced { IsReduced game.now.diagrams.table }
+    ensures rises { RanksRise (length game.now.order) game.now.diagrams.table }
 {
     let _store = game.manager().store();
     Vec::from_slice(alloc, game.order())

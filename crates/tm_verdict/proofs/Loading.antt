@@ -5,9 +5,9 @@ use Rattle.std.proofs.lemmas.List.{get_or-take, get_or_at, get_or_append_left, l
 use Rattle.std.proofs.lemmas.Option.{get_or_from_slice_get, slice_get-get_or, slice_get_read, slice_get_within}
 use Rattle.tm_dd.specs.declared.node.NodeId.{NodeId}
 use Rattle.tm_dd.specs.declared.node.TheConstants.{FALSE, TRUE}
-use Rattle.tm_dd.specs.Reduced.{Extends}
-use Rattle.tm_dd.specs.Table.{Table, entry_at, level_of, means}
-use Rattle.tm_dd.proofs.Meaning.{means-FALSE, means-TRUE}
+use Rattle.tm_dd.specs.Reduced.{Extends, IsDeeper, RanksRise}
+use Rattle.tm_dd.specs.Table.{Table, Knows, depth_of, means, rank_of}
+use Rattle.tm_dd.proofs.CallerLaws.{depth_of-Extends, means-FALSE, means-TRUE, rank_of-Extends}
 use Rattle.tm_ddops.specs.Manager.{IsFunction}
 use Rattle.tm_cert.specs.declared.cert.Entry.{Entry}
 use Rattle.tm_cert.specs.CertValue.{IsAboveChild, IsNode}
@@ -18,58 +18,54 @@ use Rattle.tm_verdict.specs.Inner.Loading.{AreFirst, IsLoaded}
 use Rattle.tm_verdict.specs.Loaded.{AreLoaded}
 
 -- ---- constants
-constant_level : (s : Table) → level_of s FALSE ≡ s.levels
-unfolding level_of entry_at
-constant_level s = refl
-
-other_constant_level : (s : Table) → level_of s TRUE ≡ s.levels
-unfolding level_of entry_at
-other_constant_level s = refl
-
-false_loaded : (s : Table) (nodes : List Entry) → IsLoaded s nodes 0 FALSE
-false_loaded s nodes = record {
+false_loaded : (s : Table) (bits : ℕ) (nodes : List Entry) → IsLoaded s bits nodes 0 FALSE
+false_loaded s bits nodes = record {
   function = record {
     known = omega arith;
     meaning = λ v. means-FALSE s v ∙ sym (never_holds nodes v);
   };
-  deep = λ level below above. subst (λ (n : ℕ). level < n) (sym (constant_level s)) below;
+  deep = λ level below above. inl (omega arith);
 }
 
-true_loaded : (s : Table) (nodes : List Entry) → IsLoaded s nodes 1 TRUE
-true_loaded s nodes = record {
+true_loaded : (s : Table) (bits : ℕ) (nodes : List Entry) → IsLoaded s bits nodes 1 TRUE
+true_loaded s bits nodes = record {
   function = record {
     known = omega arith;
     meaning = λ v. means-TRUE s v ∙ sym (always_holds nodes v);
   };
-  deep = λ level below above. subst (λ (n : ℕ). level < n) (sym (other_constant_level s)) below;
+  deep = λ level below above. inl (omega arith);
 }
 
-pub begun : (s : Table) (nodes : List Entry) → AreFirst s nodes 0 (FALSE ∷ TRUE ∷ [])
-begun s nodes = record { count = refl; each = each }
+pub begun : (s : Table) (bits : ℕ) (nodes : List Entry) → AreFirst s bits nodes 0 (FALSE ∷ TRUE ∷ [])
+begun s bits nodes = record { count = refl; each = each }
   where
-    each : (k : ℕ) (id : NodeId) → slice_get (FALSE ∷ TRUE ∷ []) k ≡ Some id → IsLoaded s nodes k id
-    each zero id is = let same : FALSE ≡ id = cc in subst (IsLoaded s nodes 0) same (false_loaded s nodes)
-    each (suc zero) id is = let same : TRUE ≡ id = cc in subst (IsLoaded s nodes 1) same (true_loaded s nodes)
+    each : (k : ℕ) (id : NodeId) → slice_get (FALSE ∷ TRUE ∷ []) k ≡ Some id → IsLoaded s bits nodes k id
+    each zero id is = let same : FALSE ≡ id = cc in subst (IsLoaded s bits nodes 0) same (false_loaded s bits nodes)
+    each (suc zero) id is = let same : TRUE ≡ id = cc in subst (IsLoaded s bits nodes 1) same (true_loaded s bits nodes)
     each (suc (suc k)) id is = absurd (cc)
 
 -- ---- what was loaded stays so
-loaded_kept : (s t : Table) (nodes : List Entry) (k : ℕ) (id : NodeId) → Extends s t → IsLoaded s nodes k id →
-    IsLoaded t nodes k id
-loaded_kept s t nodes k id grows is = record {
+deeper_kept : (s t : Table) → Extends s t → (level : ℕ) (id : NodeId) → Knows s id → IsDeeper s level id →
+    IsDeeper t level id
+deeper_kept s t grows level id known (inl constant) = inl constant
+deeper_kept s t grows level id known (inr deeper) =
+    inr (omega (arith, rank_of-Extends s t grows level, depth_of-Extends s t grows id known, deeper))
+
+loaded_kept : (s t : Table) (bits : ℕ) (nodes : List Entry) (k : ℕ) (id : NodeId) → Extends s t →
+    IsLoaded s bits nodes k id → IsLoaded t bits nodes k id
+loaded_kept s t bits nodes k id grows is = record {
   function = record {
     known = omega (arith, grows.rises, is.function.known);
     meaning = λ v. grows.same_meaning id is.function.known v ∙ is.function.meaning v;
   };
-  deep = λ level below above.
-      subst (λ (n : ℕ). level < n) (sym (grows.same_level id is.function.known))
-      (is.deep level (subst (λ (n : ℕ). level < n) grows.same_levels below) above);
+  deep = λ level below above. deeper_kept s t grows level id is.function.known (is.deep level below above);
 }
 
-pub first_kept : (s t : Table) (nodes : List Entry) (done : ℕ) (ids : List NodeId) → Extends s t →
-    AreFirst s nodes done ids → AreFirst t nodes done ids
-first_kept s t nodes done ids grows are = record {
+pub first_kept : (s t : Table) (bits : ℕ) (nodes : List Entry) (done : ℕ) (ids : List NodeId) → Extends s t →
+    AreFirst s bits nodes done ids → AreFirst t bits nodes done ids
+first_kept s t bits nodes done ids grows are = record {
   count = are.count;
-  each = λ k id is. loaded_kept s t nodes k id grows (are.each k id is);
+  each = λ k id is. loaded_kept s t bits nodes k id grows (are.each k id is);
 }
 
 -- ---- an entry
@@ -94,39 +90,41 @@ module _ (bits : ℕ) (nodes : List Entry) (nodes_are : AreNodes bits nodes) (do
   pub level_below : (s : Table) → bits ≤ s.levels → e.level < s.levels
   level_below s few = let below = node.level_below in omega arith
 
-  pub lo_before : (ids : List NodeId) (s : Table) → AreFirst s nodes done ids → e.lo < length ids
+  pub lo_before : (ids : List NodeId) (s : Table) → AreFirst s bits nodes done ids → e.lo < length ids
   lo_before ids s are = omega (arith, node.lo_before, before, are.count)
 
-  pub hi_before : (ids : List NodeId) (s : Table) → AreFirst s nodes done ids → e.hi < length ids
+  pub hi_before : (ids : List NodeId) (s : Table) → AreFirst s bits nodes done ids → e.hi < length ids
   hi_before ids s are = omega (arith, node.hi_before, before, are.count)
 
   -- what is read at a child's id
-  pub lo_is : (ids : List NodeId) (s : Table) (lo : NodeId) → AreFirst s nodes done ids → lo ≡ get_or ids e.lo lo →
+  pub lo_is : (ids : List NodeId) (s : Table) (lo : NodeId) → AreFirst s bits nodes done ids → lo ≡ get_or ids e.lo lo →
       slice_get ids e.lo ≡ Some lo
   lo_is ids s lo are read = slice_get_read ids (length ids) e.lo lo refl (lo_before ids s are) read
 
-  pub hi_is : (ids : List NodeId) (s : Table) (hi : NodeId) → AreFirst s nodes done ids → hi ≡ get_or ids e.hi hi →
+  pub hi_is : (ids : List NodeId) (s : Table) (hi : NodeId) → AreFirst s bits nodes done ids → hi ≡ get_or ids e.hi hi →
       slice_get ids e.hi ≡ Some hi
   hi_is ids s hi are read = slice_get_read ids (length ids) e.hi hi refl (hi_before ids s are) read
 
-  pub lo_deeper : (ids : List NodeId) (s : Table) (lo : NodeId) → bits ≤ s.levels → AreFirst s nodes done ids →
-      slice_get ids e.lo ≡ Some lo → e.level < level_of s lo
-  lo_deeper ids s lo few are is =
-      (are.each e.lo lo is).deep e.level (level_below s few)
+  pub lo_deeper : (ids : List NodeId) (s : Table) (lo : NodeId) → AreFirst s bits nodes done ids →
+      slice_get ids e.lo ≡ Some lo → IsDeeper s e.level lo
+  lo_deeper ids s lo are is =
+      (are.each e.lo lo is).deep e.level node.level_below
       (child_above e.lo (omega (arith, node.lo_before, before)) node.lo_deeper)
 
-  pub hi_deeper : (ids : List NodeId) (s : Table) (hi : NodeId) → bits ≤ s.levels → AreFirst s nodes done ids →
-      slice_get ids e.hi ≡ Some hi → e.level < level_of s hi
-  hi_deeper ids s hi few are is =
-      (are.each e.hi hi is).deep e.level (level_below s few)
+  pub hi_deeper : (ids : List NodeId) (s : Table) (hi : NodeId) → AreFirst s bits nodes done ids →
+      slice_get ids e.hi ≡ Some hi → IsDeeper s e.level hi
+  hi_deeper ids s hi are is =
+      (are.each e.hi hi is).deep e.level node.level_below
       (child_above e.hi (omega (arith, node.hi_before, before)) node.hi_deeper)
 
   -- the entry is loaded behind those before it
-  pub one_more : (ids : List NodeId) (s : Table) (lo hi id : NodeId) → AreFirst s nodes done ids →
+  pub one_more : (ids : List NodeId) (s : Table) → RanksRise bits s → (lo hi id : NodeId) →
+      AreFirst s bits nodes done ids →
       slice_get ids e.lo ≡ Some lo → slice_get ids e.hi ≡ Some hi →
-      IsFunction s id (λ v. if v e.level then means s hi v else means s lo v) → e.level ≤ level_of s id →
-      AreFirst s nodes (done + 1) (ids ++ id ∷ [])
-  one_more ids s lo hi id are lo_is hi_is is deep = record {
+      IsFunction s id (λ v. if v e.level then means s hi v else means s lo v) →
+      rank_of s e.level ≤ depth_of s id →
+      AreFirst s bits nodes (done + 1) (ids ++ id ∷ [])
+  one_more ids s rise lo hi id are lo_is hi_is is deep = record {
     count = omega (arith, length_push ids id, are.count);
     each = each;
   }
@@ -136,7 +134,7 @@ module _ (bits : ℕ) (nodes : List Entry) (nodes_are : AreNodes bits nodes) (do
       chosen true v = (are.each e.hi hi hi_is).function.meaning v
       chosen false v = (are.each e.lo lo lo_is).function.meaning v
 
-      last : IsLoaded s nodes (done + 2) id
+      last : IsLoaded s bits nodes (done + 2) id
       last = record {
         function = record {
           known = is.known;
@@ -145,10 +143,10 @@ module _ (bits : ℕ) (nodes : List Entry) (nodes_are : AreNodes bits nodes) (do
         deep = λ level below above.
             let same : done + 2 - 2 ≡ done = omega arith in
             let higher = above e (omega arith) (ap (slice_get nodes) same ∙ at) in
-            omega arith;
+            inr (omega (arith, rise level e.level higher node.level_below, deep));
       }
 
-      each : (k : ℕ) (other : NodeId) → slice_get (ids ++ id ∷ []) k ≡ Some other → IsLoaded s nodes k other
+      each : (k : ℕ) (other : NodeId) → slice_get (ids ++ id ∷ []) k ≡ Some other → IsLoaded s bits nodes k other
       each k other there = by (earlier_or_last k (slice_get_within (ids ++ id ∷ []) k other there))
         where
           earlier_or_last : (n : ℕ) → n < length (ids ++ id ∷ []) → (n < length ids) ⊎ (length ids ≡ n)
@@ -157,7 +155,7 @@ module _ (bits : ℕ) (nodes : List Entry) (nodes_are : AreNodes bits nodes) (do
           read : get_or (ids ++ id ∷ []) k other ≡ other
           read = get_or_from_slice_get (ids ++ id ∷ []) k other other there
 
-          by : (k < length ids) ⊎ (length ids ≡ k) → IsLoaded s nodes k other
+          by : (k < length ids) ⊎ (length ids ≡ k) → IsLoaded s bits nodes k other
           by (inl before) =
               are.each k other
               (slice_get-get_or ids k other before
@@ -165,12 +163,12 @@ module _ (bits : ℕ) (nodes : List Entry) (nodes_are : AreNodes bits nodes) (do
           by (inr here) =
               let same : id ≡ other = sym (get_or_at ids id [] other k here) ∙ read in
               let place : done + 2 ≡ k = omega (arith, are.count, here) in
-              subst (IsLoaded s nodes k) same (subst (λ (n : ℕ). IsLoaded s nodes n id) place last)
+              subst (IsLoaded s bits nodes k) same (subst (λ (n : ℕ). IsLoaded s bits nodes n id) place last)
 
 -- all are loaded
-pub all_loaded : (s : Table) (nodes : List Entry) (done : ℕ) (ids : List NodeId) → length nodes ≡ done →
-    AreFirst s nodes done ids → AreLoaded s nodes ids
-all_loaded s nodes done ids all are = record {
+pub all_loaded : (s : Table) (bits : ℕ) (nodes : List Entry) (done : ℕ) (ids : List NodeId) → length nodes ≡ done →
+    AreFirst s bits nodes done ids → AreLoaded s nodes ids
+all_loaded s bits nodes done ids all are = record {
   count = are.count ∙ ap (λ n. n + 2) (sym all);
   each = λ k id is. (are.each k id is).function;
 }

@@ -24,6 +24,8 @@ pub fn load_nodes(
     ensures grows { Grows game.old game.new }
     ensures loaded { IfOk result (λ ids. AreLoaded game.new.diagrams.table nodes.now ids.items) }
 {
+    // The call says that levels of states stand in the order of their numbers.
+    let _order = game.order();
     let mut ids = Vec::new(alloc);
     ids.push(FALSE)?;
     ids.push(TRUE)?;

@@ -1,17 +1,24 @@
 //! The terms of parameters and locals that live for one step.
-ghost use Rattle.std.specs.Prelude.{◌≡◌, [], IfOk, Some, OnOk, true, slice_get, if◌then◌else◌};
-ghost use Rattle.std.specs.Map.{keys_of};
-ghost use Rattle.tm_flat_exprs.specs.Kept.{same_cell, step_term};
-ghost use Rattle.tm_term.specs.Table.{IsSound};
+ghost use Rattle.std.specs.Prelude.{◌≡◌, ◌+◌, ◌^◌, ◌++◌, ◌∷◌, ◌≤◌, ◌<◌, [], ℕ, All, IfOk, IfSome, List, OnOk, length, map};
+ghost use Rattle.std.specs.Prelude.{slice_index};
+ghost use Rattle.tm_base.specs.Arithmetic.{IsWidth};
+ghost use Rattle.tm_term.specs.Table.{IsSound, Table};
+ghost use Rattle.tm_term.specs.Value.{value_of};
 ghost use Rattle.tm_flat.specs.Steps.{IsTerm};
-ghost use Rattle.tm_flat_exprs.specs.Inner.Merging.{AreOfWidths, MergesDue, MergesNew, MergesOne, MergesSteps, has_term, is_new};
+ghost use Rattle.tm_flat_exprs.specs.Made.{Makes};
+ghost use Rattle.tm_flat_exprs.specs.Versions.{HasWidth, IsLatest, next_value, step_value};
+ghost use Rattle.tm_flat_exprs.specs.Inner.Appending.{appended, moved, moved_number};
+ghost use Rattle.tm_flat_exprs.specs.Inner.Merging.{Appends, MergesSteps};
+ghost use Rattle.tm_flat_exprs.specs.Inner.Shared.{HaveSame};
+ghost use Rattle.tm_flat_exprs.specs.declared.memory.versions.Version.TheVariants as made;
 
-use crate::memory::choices::chosen_of;
-use indexmap::IndexMap;
+use crate::gates::make;
+use crate::memory::choices::chosen;
+use crate::memory::versions::{Version, Versions};
 use std::alloc::{AllocError, Global};
 use std::marker::Model;
 use tm_scope::{SiteBody, SlotNumber};
-use tm_term::{TermId, Terms};
+use tm_term::{Term, TermId, Terms};
 
 /// A parameter or local that lives for one step: the body of an instance that has it, and its number there.
 #[derive(Clone, Copy, PartialEq, Eq, Hash, Debug)]
@@ -20,22 +27,22 @@ pub struct StepCell {
     pub slot: SlotNumber,
 }
 
-/// The terms of parameters and locals that live for one step, each found in constant time.
+/// The terms of parameters and locals that live for one step, by the versions that they had: where memories become one,
+/// no term is made before one is read.
 ///
-/// Contracts see those that got a value, with their terms.
+/// Contracts see the versions.
 #[derive(Drop)]
 pub struct StepTerms {
-    kept: IndexMap<StepCell, TermId>,
+    versions: Versions,
 }
 
 impl Model for StepTerms {
     ghost use Rattle.std.specs.Prelude.{List};
-    ghost use Rattle.tm_term.specs.declared.term.TermId.{TermId};
-    ghost use Rattle.tm_flat_exprs.specs.declared.memory.step_terms.StepCell.{StepCell};
+    ghost use Rattle.tm_flat_exprs.specs.declared.memory.versions.Version.{Version};
 
-    ghost Value = { List (StepCell × TermId) };
+    ghost Value = { List Version };
 
-    ghost view = { λ v. v.kept.entries };
+    ghost view = { λ v. v.versions };
 }
 
 impl StepTerms {
@@ -44,165 +51,227 @@ impl StepTerms {
         ensures { result ≡ [] }
     {
         StepTerms {
-            kept: IndexMap::new(alloc),
+            versions: Versions::new(alloc),
         }
-    }
-
-    /// The term of a parameter or local that got a value.
-    pub fn get(&self, cell: StepCell) -> Option<TermId>
-        ensures { result ≡ step_term self.now cell }
-    {
-        self.kept.get(&cell).copied()
     }
 
     /// Gives a parameter or local a term. `AllocError` is want of memory.
     pub fn set(&mut self, cell: StepCell, id: TermId) -> Result<(), AllocError>
-        ensures terms { OnOk result ((other : StepCell) → step_term self.new other
-            ≡ (if same_cell cell other then Some id else step_term self.old other)) }
-        ensures keys { OnOk result (has_term self.old cell ≡ true → keys_of self.new ≡ keys_of self.old) }
+        ensures { OnOk result (self.new ≡ self.old ++ made.Put cell id ∷ []) }
     {
-        self.kept.insert(cell, id)?;
+        self.versions.push(Version::Put(cell, id))?;
         Ok(())
     }
 
-    /// A copy. `AllocError` is want of memory.
+    /// A copy: a word for each 64 versions. `AllocError` is want of memory.
     pub fn copied(&self) -> Result<StepTerms, AllocError>
         ensures { IfOk result (λ copy. copy ≡ self.now) }
     {
         Ok(StepTerms {
-            kept: self.kept.clone()?,
+            versions: self.versions.copied()?,
         })
     }
 
-    /// Makes of this list the one that is this one where a truth holds, and else another one; a parameter or local that
-    /// either lacks has the value 0 there. Where both have one term it stays. Linear in both lists: as long as they
-    /// come from one list, what stands at an index in one stands there in the other one, too.
-    pub(crate) fn merge(
-        &mut self,
+    /// The term of a parameter or local, of so many bits. Where memories became one since it got its term that is made
+    /// of those of all versions, and else it is found.
+    pub(crate) fn read(
+        &self,
         terms: &mut Terms,
-        guard: TermId,
-        other: &StepTerms,
-    ) -> Result<(), AllocError>
-        requires sound { IsSound terms.old }
-        requires guard { IsTerm terms.old 1 guard }
-        requires widths { AreOfWidths terms.old self.old other.now }
-        ensures { OnOk result (MergesSteps terms.old terms.new guard self.old other.now self.new) }
-    {
-        self.merge_own(terms, guard, other)?;
-        self.merge_others(terms, guard, other)?;
-        Ok(())
-    }
-
-    // Chooses the terms of those that this list has.
-    fn merge_own(
-        &mut self,
-        terms: &mut Terms,
-        guard: TermId,
-        other: &StepTerms,
-    ) -> Result<(), AllocError>
-        requires sound { IsSound terms.old }
-        requires guard { IsTerm terms.old 1 guard }
-        requires widths { AreOfWidths terms.old self.old other.now }
-        ensures { OnOk result
-            (MergesDue terms.old terms.new guard other.now (has_term self.old) self.old self.new) }
-    {
-        for index in 0..self.kept.len() {
-            if let Some(cell) = self.cell_at(index) {
-                self.merge_one(terms, guard, other, index, cell)?;
-            }
-        }
-        Ok(())
-    }
-
-    // Chooses the terms of those that another list alone has.
-    fn merge_others(
-        &mut self,
-        terms: &mut Terms,
-        guard: TermId,
-        other: &StepTerms,
-    ) -> Result<(), AllocError>
-        requires sound { IsSound terms.old }
-        requires guard { IsTerm terms.old 1 guard }
-        requires widths { AreOfWidths terms.old self.old other.now }
-        ensures { OnOk result
-            (MergesDue terms.old terms.new guard other.now (is_new self.old other.now) self.old self.new) }
-    {
-        for index in 0..other.kept.len() {
-            if let Some(cell) = other.cell_at(index) {
-                self.merge_new(terms, guard, other, index, cell)?;
-            }
-        }
-        Ok(())
-    }
-
-    // Chooses the term of a parameter or local, unless this list has it.
-    fn merge_new(
-        &mut self,
-        terms: &mut Terms,
-        guard: TermId,
-        other: &StepTerms,
-        index: usize,
         cell: StepCell,
-    ) -> Result<(), AllocError>
+        width: u8,
+    ) -> Result<TermId, AllocError>
         requires sound { IsSound terms.old }
-        requires guard { IsTerm terms.old 1 guard }
-        requires widths { AreOfWidths terms.old self.old other.now }
-        ensures { OnOk result
-            (MergesNew terms.old terms.new guard other.now cell self.old self.new) }
+        requires width { IsWidth width }
+        requires versions { All (HasWidth terms.old cell width) self.now }
+        ensures { IfOk result (λ id. Makes terms.old terms.new width id (λ u v. step_value u v self.now cell)) }
     {
-        if self.get_near(index, cell).is_some() {
-            return Ok(());
+        let zero = make(terms, Term::Const(width, 0))?;
+        match self.latest(cell, zero) {
+            Some(id) => Ok(id),
+            None => {
+                let id = self.chosen(terms, cell, width, zero)?;
+                Ok(id)
+            }
         }
-        self.merge_one(terms, guard, other, index, cell)?;
-        Ok(())
     }
 
-    // Chooses the term of a parameter or local that may stand at an index in both lists.
-    fn merge_one(
-        &mut self,
+    // The term that a parameter or local has got since the last choice. Where there is no choice, and it has got none,
+    // it is that of the number 0.
+    fn latest(&self, cell: StepCell, zero: TermId) -> Option<TermId>
+        ensures { IfSome result (IsLatest self.now cell zero) }
+    {
+        let count = self.versions.len();
+        for behind in 0..count {
+            match self.versions.get(count - 1 - behind) {
+                Some(Version::Put(found, id)) => {
+                    if found == cell {
+                        return Some(id);
+                    }
+                }
+                _ => return None,
+            }
+        }
+        Some(zero)
+    }
+
+    // The term of a parameter or local in the last version, by those in all before it.
+    fn chosen(
+        &self,
         terms: &mut Terms,
-        guard: TermId,
-        other: &StepTerms,
-        index: usize,
         cell: StepCell,
-    ) -> Result<(), AllocError>
-        requires sound { IsSound terms.old }
-        requires guard { IsTerm terms.old 1 guard }
-        requires widths { AreOfWidths terms.old self.old other.now }
-        ensures { OnOk result
-            (MergesOne terms.old terms.new guard other.now cell self.old self.new) }
+        width: u8,
+        zero: TermId,
+    ) -> Result<TermId, AllocError>
+        requires zero { Makes terms.old terms.old width zero (λ u v. 0) }
+        requires versions { All (HasWidth terms.old cell width) self.now }
+        ensures { IfOk result (λ id. Makes terms.old terms.new width id (λ u v. step_value u v self.now cell)) }
     {
-        let own = self.get_near(index, cell);
-        let others = other.get_near(index, cell);
-        let Some(id) = chosen_of(terms, guard, own, others)? else {
-            return Ok(());
-        };
-        if let Some(before) = own {
-            if before == id {
-                return Ok(());
+        let mut ids = Vec::new(self.versions.allocator());
+        ids.push(zero)?;
+        let mut last = zero;
+        for index in 0..self.versions.len() {
+            if let Some(version) = self.versions.get(index) {
+                last = next_term(terms, cell, &ids, last, version, width, zero)?;
+                ids.push(last)?;
             }
         }
-        self.set(cell, id)?;
-        Ok(())
+        Ok(last)
     }
 
-    // The parameter or local of an index.
-    fn cell_at(&self, index: usize) -> Option<StepCell>
-        ensures { result ≡ slice_get (keys_of self.now) index }
+    /// Makes of these terms those that are these where a truth holds, and else other ones; a parameter or local that
+    /// either lacks has the value 0 there. Linear in the versions of both, with a comparison for each that they have in
+    /// common.
+    pub(crate) fn merge(self, guard: TermId, other: &StepTerms) -> Result<StepTerms, AllocError>
+        ensures { IfOk result (MergesSteps guard self other.now) }
     {
-        let (cell, _) = self.kept.get_index(index)?;
-        Some(*cell)
-    }
-
-    // The term of a parameter or local that got a value, looked up only where it does not stand at an index.
-    fn get_near(&self, index: usize, cell: StepCell) -> Option<TermId>
-        ensures { result ≡ step_term self.now cell }
-    {
-        if let Some((found, id)) = self.kept.get_index(index) {
-            if *found == cell {
-                return Some(*id);
-            }
+        let common = self.versions.common(&other.versions);
+        let own = self.versions.len();
+        let others = other.versions.len();
+        if own == common && others == common {
+            return Ok(self);
         }
-        self.get(cell)
+        if others <= own {
+            let mut all = self.versions;
+            let behind = append(&mut all, guard, &other.versions, common)?;
+            all.push(Version::Choice(guard, own, behind))?;
+            return Ok(StepTerms { versions: all });
+        }
+        let mut all = other.versions.copied()?;
+        let behind = append(&mut all, guard, &self.versions, common)?;
+        all.push(Version::Choice(guard, behind, others))?;
+        Ok(StepTerms { versions: all })
     }
+}
+
+// The term of the version of a number, and that of the number 0 if there is none.
+fn term_at(ids: &[TermId], number: usize, zero: TermId) -> TermId
+    ensures value { (u : Table) (v : List ℕ) → value_of u v zero ≡ 0
+        → value_of u v result ≡ slice_index (map (value_of u v) ids.now) number }
+    ensures width { (t : Table) (w : ℕ) → IsTerm t w zero → All (IsTerm t w) ids.now → IsTerm t w result }
+{
+    if number < ids.len() {
+        return ids[number];
+    }
+    zero
+}
+
+// The term of a parameter or local in a version, by those in the versions before it and in the last of them.
+fn next_term(
+    terms: &mut Terms,
+    cell: StepCell,
+    ids: &[TermId],
+    last: TermId,
+    version: Version,
+    width: u8,
+    zero: TermId,
+) -> Result<TermId, AllocError>
+    requires zero { Makes terms.old terms.old width zero (λ u v. 0) }
+    requires ids { All (IsTerm terms.old width) ids.now }
+    requires last { IsTerm terms.old width last }
+    requires version { HasWidth terms.old cell width version }
+    ensures { IfOk result (λ id. Makes terms.old terms.new width id
+        (λ u v. next_value u v cell (map (value_of u v) ids.now) (value_of u v last) version)) }
+{
+    match version {
+        Version::Put(found, id) => {
+            if found == cell {
+                return Ok(id);
+            }
+            Ok(last)
+        }
+        Version::Choice(guard, a, b) => {
+            let first = term_at(ids, a, zero);
+            let second = term_at(ids, b, zero);
+            let id = chosen(terms, guard, first, second)?;
+            Ok(id)
+        }
+    }
+}
+
+// The number that a version gets behind other ones: those in common keep theirs, the later ones move on.
+fn number_behind(number: usize, common: usize, index: usize, by: usize) -> usize
+    requires { index + by < 2 ^ 64 }
+    ensures { result ≡ moved_number by common index number }
+{
+    if number <= common {
+        return number;
+    }
+    if number <= index {
+        return number + by;
+    }
+    0
+}
+
+// A version by the new numbers.
+fn version_behind(version: Version, common: usize, index: usize, by: usize) -> Version
+    requires { index + by < 2 ^ 64 }
+    ensures { result ≡ moved by common index version }
+{
+    match version {
+        Version::Put(cell, id) => Version::Put(cell, id),
+        Version::Choice(guard, a, b) => Version::Choice(
+            guard,
+            number_behind(a, common, index, by),
+            number_behind(b, common, index, by),
+        ),
+    }
+}
+
+// Puts the versions of a list behind those of another one, with which it has the first ones in common.
+fn append_rest(
+    all: &mut Versions,
+    guard: TermId,
+    other: &Versions,
+    common: usize,
+) -> Result<(), AllocError>
+    requires { common ≤ length all.old }
+    ensures { OnOk result (all.new ≡ appended guard all.old other.now common) }
+{
+    let start = all.len();
+    all.push(Version::Choice(guard, common, common))?;
+    for index in common..other.len() {
+        if let Some(version) = other.get(index) {
+            let by = all.len() - index;
+            all.push(version_behind(version, common, index, by))?;
+        }
+    }
+    Ok(())
+}
+
+// Puts the versions of a list behind those of another one, as far as they are not in common, and answers the number
+// that its last one has got.
+fn append(
+    all: &mut Versions,
+    guard: TermId,
+    other: &Versions,
+    common: usize,
+) -> Result<usize, AllocError>
+    requires { HaveSame common 0 all.old other.now }
+    ensures { IfOk result (Appends guard all.old other.now all.new) }
+{
+    if other.len() == common {
+        return Ok(common);
+    }
+    append_rest(all, guard, other, common)?;
+    Ok(all.len())
 }

@@ -49,13 +49,9 @@ impl<'s> TermReader<'s> {
         ensures { IfOk result (λ id.
             FindsTerm self.now memory.now (ty_of ty.entry) cell terms.old terms.new id) }
     {
-        match memory.read(self.at, cell) {
-            Some(id) => Ok(id),
-            None => {
-                let zero = self.number_term(terms, 0, ty)?;
-                Ok(zero)
-            }
-        }
+        let width = self.bits(ty);
+        let id = memory.read(terms, self.at, cell, width)?;
+        Ok(id)
     }
 
     /// The term in the cell that a path means, with the index of an element where there is one. `text` is a buffer.

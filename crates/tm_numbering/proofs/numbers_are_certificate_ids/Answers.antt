@@ -6,7 +6,8 @@ use Rattle.tm_numbering.proofs.numbers_are_certificate_ids.Goals as goal
 
 pub returns : goal.returns
 returns c = record {
-  entries = λ s bits ids nodes reduced numbered. nodes_valid s reduced bits ids nodes numbered;
-  values = λ s bits ids nodes id n v reduced numbered number. worth s reduced bits ids nodes numbered v id n number;
+  entries = λ s bits ids nodes reduced rise numbered. nodes_valid s reduced bits rise ids nodes numbered;
+  values = λ s bits ids nodes id n v reduced rise numbered number.
+      worth s reduced bits rise ids nodes numbered v id n number;
   one_id = λ ids id other n one two. number_tells ids (length ids) (length ids) id other n one two;
 }

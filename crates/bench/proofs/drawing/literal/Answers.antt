@@ -1,44 +1,20 @@
-use Rattle.std.proofs.Common.{arith, sym, ◌∙◌}
-use Rattle.tm_dd.proofs.CallerLaws.{level_of-IsConstant, means-FALSE, means-TRUE}
+use Rattle.std.proofs.Common.{inl, arith, sym, ◌∙◌}
+use Rattle.tm_dd.proofs.CallerLaws.{means-FALSE, means-TRUE}
 use Rattle.tm_dd.specs.declared.node.TheConstants.{FALSE, TRUE}
 use Rattle.bench.proofs.Drawn.{level_set}
 use Rattle.bench.proofs.drawing.literal.Goals as goal
 
 pub make-requires-clause-lo_deeper : goal.make-requires-clause-lo_deeper
-make-requires-clause-lo_deeper c =
-    omega (
-      arith,
-      level_of-IsConstant c.args.game.now.diagrams.table FALSE (omega arith),
-      c.requires,
-      c.order-order.ensures.levels,
-    )
+make-requires-clause-lo_deeper c = inl (omega arith)
 
 pub make-requires-clause-hi_deeper : goal.make-requires-clause-hi_deeper
-make-requires-clause-hi_deeper c =
-    omega (
-      arith,
-      level_of-IsConstant c.args.game.now.diagrams.table TRUE (omega arith),
-      c.requires,
-      c.order-order.ensures.levels,
-    )
+make-requires-clause-hi_deeper c = inl (omega arith)
 
 pub make-requires-else-value-clause-lo_deeper : goal.make-requires-else-value-clause-lo_deeper
-make-requires-else-value-clause-lo_deeper c =
-    omega (
-      arith,
-      level_of-IsConstant c.args.game.now.diagrams.table TRUE (omega arith),
-      c.requires,
-      c.order-order.ensures.levels,
-    )
+make-requires-else-value-clause-lo_deeper c = inl (omega arith)
 
 pub make-requires-else-value-clause-hi_deeper : goal.make-requires-else-value-clause-hi_deeper
-make-requires-else-value-clause-hi_deeper c =
-    omega (
-      arith,
-      level_of-IsConstant c.args.game.now.diagrams.table FALSE (omega arith),
-      c.requires,
-      c.order-order.ensures.levels,
-    )
+make-requires-else-value-clause-hi_deeper c = inl (omega arith)
 
 pub returns-then-value-clause-set : goal.returns-then-value-clause-set
 returns-then-value-clause-set c =

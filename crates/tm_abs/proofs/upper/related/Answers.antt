@@ -1,9 +1,8 @@
-use Rattle.std.proofs.Common.{not, ◌&&◌, IfOk, subst, arith}
+use Rattle.std.proofs.Common.{inl, not, ◌&&◌, IfOk, subst, arith}
 use Rattle.std.proofs.lemmas.Result.{IfOk-weaker}
 use Rattle.tm_abs.proofs.Turning.{related_then}
-use Rattle.tm_dd.proofs.CallerLaws.{level_of-IsConstant}
 use Rattle.tm_dd.specs.declared.node.NodeId.{NodeId}
-use Rattle.tm_dd.specs.declared.node.TheConstants.{FALSE, TRUE}
+use Rattle.tm_dd.specs.declared.node.TheConstants.{TRUE}
 use Rattle.tm_dd.specs.NodeId.{complement}
 use Rattle.tm_dd.specs.Table.{means}
 use Rattle.tm_ddops.specs.Connective.{xor}
@@ -12,12 +11,10 @@ use Rattle.tm_game.proofs.Growing.{grows_then, known_kept}
 use Rattle.tm_abs.proofs.upper.related.Goals as goal
 
 pub make-requires-clause-lo_deeper : goal.make-requires-clause-lo_deeper
-make-requires-clause-lo_deeper c =
-    omega (arith, level_of-IsConstant c.args.game.now.diagrams.table FALSE (omega arith), c.requires.level)
+make-requires-clause-lo_deeper c = inl (omega arith)
 
 pub make-requires-clause-hi_deeper : goal.make-requires-clause-hi_deeper
-make-requires-clause-hi_deeper c =
-    omega (arith, level_of-IsConstant c.args.game.now.diagrams.table TRUE (omega arith), c.requires.level)
+make-requires-clause-hi_deeper c = inl (omega arith)
 
 pub xor-requires : goal.xor-requires
 xor-requires c = record {

@@ -1,16 +1,12 @@
-use Rattle.std.proofs.Common.{◌-◌, length, refl, true, false, arith}
-use Rattle.tm_blast.proofs.Places.{input_more, level_above}
+use Rattle.std.proofs.Common.{inl, refl, arith}
+use Rattle.tm_blast.proofs.Places.{input_more}
 use Rattle.tm_blast.proofs.place.input.Goals as goal
 
 pub make-requires-clause-lo_deeper : goal.make-requires-clause-lo_deeper
-make-requires-clause-lo_deeper c =
-    level_above c.args.dd.now.table c.loop-i.dd.table _ false c.loop-i.invariant.extends
-    (c.requires (length c.args.levels.now - 1 - c.loop-i.i) 0 (omega (arith, c.loop-i-test.true)))
+make-requires-clause-lo_deeper c = inl (omega arith)
 
 pub make-requires-clause-hi_deeper : goal.make-requires-clause-hi_deeper
-make-requires-clause-hi_deeper c =
-    level_above c.args.dd.now.table c.loop-i.dd.table _ true c.loop-i.invariant.extends
-    (c.requires (length c.args.levels.now - 1 - c.loop-i.i) 0 (omega (arith, c.loop-i-test.true)))
+make-requires-clause-hi_deeper c = inl (omega arith)
 
 pub loop-i-preserved : goal.loop-i-preserved
 loop-i-preserved c =

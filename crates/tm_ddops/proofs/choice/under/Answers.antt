@@ -1,7 +1,7 @@
 use Rattle.std.proofs.Common.{◌≡◌, not, sym, ap, subst, ◌∙◌, arith}
 use Rattle.tm_dd.specs.Table.{means}
 use Rattle.tm_dd.specs.NodeId.{IsConstant, complement}
-use Rattle.tm_dd.proofs.CallerLaws.{means-complement}
+use Rattle.tm_dd.proofs.CallerLaws.{depth_of-IsConstant, depth_of-within, means-complement}
 use Rattle.tm_ddops.proofs.Facts.{same_ids, constant_of-complement}
 use Rattle.tm_ddops.proofs.choice.under.Goals as goal
 
@@ -22,12 +22,16 @@ returns-then-eq-2-clause-meaning c s v h =
 
 pub returns-then-eq-clause-deep : goal.returns-then-eq-clause-deep
 returns-then-eq-clause-deep c s reduced known =
-    omega (arith, reduced.constants c.constant.result c.constant.ensures.constant, reduced.within c.args.branch known)
+    omega (
+      arith,
+      depth_of-IsConstant s reduced c.constant.result c.constant.ensures.constant,
+      depth_of-within s reduced c.args.branch,
+    )
 
 pub returns-then-eq-2-clause-deep : goal.returns-then-eq-2-clause-deep
 returns-then-eq-2-clause-deep c s reduced known =
     omega (
       arith,
-      reduced.constants c.constant-then-eq-2.result c.constant-then-eq-2.ensures.constant,
-      reduced.within c.args.branch known,
+      depth_of-IsConstant s reduced c.constant-then-eq-2.result c.constant-then-eq-2.ensures.constant,
+      depth_of-within s reduced c.args.branch,
     )

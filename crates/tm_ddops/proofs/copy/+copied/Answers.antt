@@ -1,7 +1,7 @@
-use Rattle.std.proofs.Common.{◌≢◌, ℕ, ap, refl, sym}
+use Rattle.std.proofs.Common.{◌≢◌, ◌∙◌, ℕ, ap, refl, sym}
 use Rattle.tm_dd.specs.NodeId.{IsConstant}
 use Rattle.tm_ddops.specs.Copied.{AreCopies, IsCopy}
-use Rattle.tm_ddops.proofs.Copies.{AreCopies-Extends, adds_node, copies_differ, copy_constant, copy_inner, copy_of_branches}
+use Rattle.tm_ddops.proofs.Copies.{AreCopies-Extends, adds_node, copies_differ, copy_constant, copy_inner, copy_of_branches, hi_deeper, lo_deeper}
 use Rattle.tm_ddops.proofs.FoundLemmas.{found_insert, found_unchanged}
 use Rattle.tm_ddops.proofs.copy.+copied.Goals as goal
 use Rattle.tm_ddops.proofs.copy.+copied.Goals.{After-make, In_ok-id}
@@ -33,7 +33,12 @@ answer t c =
     c.node-node.ensures.is_node
     c.copied.new.to c.copied-2.new.to c.copied-2.ensures.extends c.in_ok-lo.lo c.in_ok-hi.hi c.in_ok-lo.ensures.answer
     c.in_ok-hi.ensures.answer
-    c.make.new.self c.in_ok-id.id c.in_ok-id.ensures.known c.in_ok-id.ensures.deep c.in_ok-id.ensures.meaning
+    c.make.new.self
+    (c.make.ensures.extends.same_levels ∙ c.copied-2.ensures.extends.same_levels ∙ c.copied.ensures.extends.same_levels
+    ∙ c.requires.levels)
+    (c.make.ensures.extends.same_ranks ∙ c.copied-2.ensures.extends.same_ranks ∙ c.copied.ensures.extends.same_ranks
+    ∙ c.requires.ranks)
+    c.in_ok-id.id c.in_ok-id.ensures.known c.in_ok-id.ensures.deep c.in_ok-id.ensures.meaning
 
 pub returns-clause-found : goal.returns-clause-found
 returns-clause-found t c =
@@ -61,3 +66,19 @@ returns-clause-reached t c =
     (answer t (goal.at.returns-clause-reached t c).In_ok-id) inner)
     (ap (λ n. n.lo) (c.in_ok-id.ensures.node apart)) (ap (λ n. n.hi) (c.in_ok-id.ensures.node apart))
     c.in_ok-id.ensures.added
+
+pub make-requires-clause-lo_deeper : goal.make-requires-clause-lo_deeper
+make-requires-clause-lo_deeper t c =
+    lo_deeper c.args.from.now c.requires.from c.args.f c.requires.known c.node-node.result c.node-node.ensures.is_node
+    c.copied.new.to c.copied-2.new.to c.copied-2.ensures.extends c.in_ok-lo.lo c.in_ok-hi.hi c.in_ok-lo.ensures.answer
+    c.in_ok-hi.ensures.answer
+    (c.copied-2.ensures.extends.same_levels ∙ c.copied.ensures.extends.same_levels ∙ c.requires.levels)
+    (c.copied-2.ensures.extends.same_ranks ∙ c.copied.ensures.extends.same_ranks ∙ c.requires.ranks)
+
+pub make-requires-clause-hi_deeper : goal.make-requires-clause-hi_deeper
+make-requires-clause-hi_deeper t c =
+    hi_deeper c.args.from.now c.requires.from c.args.f c.requires.known c.node-node.result c.node-node.ensures.is_node
+    c.copied.new.to c.copied-2.new.to c.copied-2.ensures.extends c.in_ok-lo.lo c.in_ok-hi.hi c.in_ok-lo.ensures.answer
+    c.in_ok-hi.ensures.answer
+    (c.copied-2.ensures.extends.same_levels ∙ c.copied.ensures.extends.same_levels ∙ c.requires.levels)
+    (c.copied-2.ensures.extends.same_ranks ∙ c.copied.ensures.extends.same_ranks ∙ c.requires.ranks)

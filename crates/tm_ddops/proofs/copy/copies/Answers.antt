@@ -21,6 +21,7 @@ loop-root-preserved c =
     record {
       reduced = c.copied.ensures.reduced;
       levels = c.copied.ensures.extends.same_levels ∙ c.loop-root.invariant.levels;
+      ranks = c.copied.ensures.extends.same_ranks ∙ c.loop-root.invariant.ranks;
       found = c.copied.ensures.found;
       same =
           subst (λ xs. MeanTheSame from xs c.copied.new.to c.push.new.self.items)

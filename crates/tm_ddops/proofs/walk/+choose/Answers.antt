@@ -1,5 +1,5 @@
 use Rattle.std.proofs.Common.{true, false, sym, subst, arith}
-use Rattle.std.proofs.lemmas.Result.{on_err_weaker}
+use Rattle.std.proofs.lemmas.Result.{on_err_weaker, on_ok_weaker}
 use Rattle.tm_dd.proofs.CallerLaws.{Extends-trans}
 use Rattle.tm_ddops.specs.Choice.{IsChoice, IsOpen}
 use Rattle.tm_ddops.proofs.Choices.{KnowsChoice-Extends, IsChoice-Extends}
@@ -162,3 +162,13 @@ pub returns-clause-refused_nodes : goal.returns-clause-refused_nodes
 returns-clause-refused_nodes g t c =
     on_err_weaker c.join.result (λ h. omega (arith, h, c.in_ok-lo.ensures.nodes, c.in_ok-hi.ensures.nodes))
     c.join.ensures.refused_nodes
+
+pub returns-clause-requests : goal.returns-clause-requests
+returns-clause-requests g t c =
+    on_ok_weaker c.join.result (λ h. omega (arith, h, c.in_ok-lo.ensures.requests, c.in_ok-hi.ensures.requests))
+    c.join.ensures.requests
+
+pub returns-clause-nodes : goal.returns-clause-nodes
+returns-clause-nodes g t c =
+    on_ok_weaker c.join.result (λ h. omega (arith, h, c.in_ok-lo.ensures.nodes, c.in_ok-hi.ensures.nodes))
+    c.join.ensures.nodes

@@ -1,15 +1,15 @@
-use Rattle.std.proofs.Common.{arith}
+use Rattle.std.proofs.Common.{inl, arith}
 use Rattle.tm_dd.specs.declared.node.TheConstants.{FALSE}
 use Rattle.tm_dd.specs.Table.{Knows}
 use Rattle.tm_ddops.proofs.Facts.{ids_apart, same_ids}
-use Rattle.tm_game_bits.proofs.LeastValues.{above_false, above_true, cleared_empty, cleared_low, is_low}
+use Rattle.tm_game_bits.proofs.LeastValues.{cleared_empty, cleared_low, is_low}
 use Rattle.tm_game_bits.proofs.narrowing.cleared.Goals as goal
 
 pub make-requires-clause-lo_deeper : goal.make-requires-clause-lo_deeper
-make-requires-clause-lo_deeper c = above_true c.args.dd.now.table c.args.level c.requires.level
+make-requires-clause-lo_deeper c = inl (omega arith)
 
 pub make-requires-clause-hi_deeper : goal.make-requires-clause-hi_deeper
-make-requires-clause-hi_deeper c = above_false c.args.dd.now.table c.args.level c.requires.level
+make-requires-clause-hi_deeper c = inl (omega arith)
 
 pub returns-then-eq-clause-answer : goal.returns-then-eq-clause-answer
 returns-then-eq-clause-answer c =

@@ -1,4 +1,5 @@
-use Rattle.std.proofs.Common.{ℕ, List, refl, subst, arith}
+use Rattle.std.proofs.Common.{ℕ, List, length, refl, subst, arith}
+use Rattle.tm_dd.proofs.CallerLaws.{RanksRise-numbers}
 use Rattle.tm_cir.specs.Answer.{Answers}
 use Rattle.tm_cir.specs.View.{trees_of}
 use Rattle.tm_sem.specs.Strategy.{Good}
@@ -13,6 +14,11 @@ overflow_cast-order c =
     let few = few_places (design_tree c.args.design.now) c.args.order.now c.args.order.now c.requires.order refl
     c.requires.can.sound in
     omega (arith, few)
+
+pub reorder_driver-requires-clause-ranks : goal.reorder_driver-requires-clause-ranks
+reorder_driver-requires-clause-ranks c =
+    RanksRise-numbers c.in_ok-dd.dd.table c.in_ok-dd.ensures.ranks (length c.args.order.now)
+    (omega (arith, c.in_ok-dd.ensures.levels))
 
 pub reorder_driver-requires-clause-count : goal.reorder_driver-requires-clause-count
 reorder_driver-requires-clause-count c =

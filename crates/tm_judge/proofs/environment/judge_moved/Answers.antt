@@ -1,4 +1,5 @@
-use Rattle.std.proofs.Common.{List, refl, subst, arith}
+use Rattle.std.proofs.Common.{List, length, refl, subst, arith}
+use Rattle.tm_dd.proofs.CallerLaws.{RanksRise-numbers}
 use Rattle.tm_envcheck.specs.Verdict.{IsLostWithin}
 use Rattle.tm_sem.specs.Certificates.{Level}
 use Rattle.tm_syntax.specs.Design.View.{design_tree}
@@ -12,6 +13,11 @@ overflow_cast-order c =
     let few = few_places (design_tree c.args.design.now) c.args.order.now c.args.order.now c.requires.order refl
     c.requires.can.sound in
     omega (arith, few)
+
+pub reorder_environment-requires-clause-ranks : goal.reorder_environment-requires-clause-ranks
+reorder_environment-requires-clause-ranks c =
+    RanksRise-numbers c.in_ok-dd.dd.table c.in_ok-dd.ensures.ranks (length c.args.order.now)
+    (omega (arith, c.in_ok-dd.ensures.levels))
 
 pub reorder_environment-requires-clause-count : goal.reorder_environment-requires-clause-count
 reorder_environment-requires-clause-count c =

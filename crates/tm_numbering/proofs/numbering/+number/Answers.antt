@@ -1,5 +1,7 @@
-use Rattle.std.proofs.Common.{◌≡◌, ℕ, ◌+◌, ◌∷◌, ◌++◌, [], Result, Ok, Err, length, refl, arith}
+use Rattle.std.proofs.Common.{◌≡◌, ℕ, ◌+◌, ◌∷◌, ◌++◌, [], Result, Ok, Err, length, refl, ap, arith}
 use Rattle.std.specs.Prelude.{IfOk, OnOk}
+use Rattle.tm_dd.specs.Table.{rank_of}
+use Rattle.tm_dd.proofs.Ranks.{rank_of-below}
 use Rattle.tm_numbering.specs.Numbers.{AreNumbered, IsOver, Numbers}
 use Rattle.tm_numbering.proofs.Growth.{numbers_node, still_absent}
 use Rattle.tm_numbering.proofs.Over.{hi_over_at, lo_over_at}
@@ -12,7 +14,9 @@ number-requires t c =
     let bits = c.requires.0 in
     let over = lo_over_at c.args.store.now c.node-node.ensures.reduced bits c.args.id c.requires.1
     c.in_default.ensures.0 c.node-node.result c.node-node.ensures.value in
-    (omega (arith, node.level, node.below, node.lo_rises, c.decreases), (bits, over, c.requires.2))
+    let depth = ap (rank_of c.args.store.now) node.level in
+    let below = rank_of-below c.args.store.now c.node-node.ensures.reduced.ranks c.node-node.result.level node.below in
+    (omega (arith, depth, below, node.lo_rises, c.decreases), (bits, over, c.requires.2))
 
 pub number-requires-2 : goal.number-requires-2
 number-requires-2 t c =
@@ -21,8 +25,11 @@ number-requires-2 t c =
     let lo = lo_over_at c.args.store.now c.node-node.ensures.reduced bits c.args.id c.requires.1
     c.in_default.ensures.0 c.node-node.result c.node-node.ensures.value in
     let hi = hi_over_at c.args.store.now c.node-node.ensures.reduced bits c.args.id c.requires.1
-    c.in_default.ensures.0 c.node-node.result c.node-node.ensures.value in (
-      omega (arith, node.level, node.below, node.hi_rises, c.decreases),
+    c.in_default.ensures.0 c.node-node.result c.node-node.ensures.value in
+    let depth = ap (rank_of c.args.store.now) node.level in
+    let below = rank_of-below c.args.store.now c.node-node.ensures.reduced.ranks c.node-node.result.level
+    node.below in (
+      omega (arith, depth, below, node.hi_rises, c.decreases),
       (
         bits,
         hi,

@@ -1,7 +1,7 @@
-use Rattle.std.proofs.Common.{ℕ, ◌<◌, List, length, subst, sym, arith}
+use Rattle.std.proofs.Common.{inl, ℕ, ◌<◌, List, length, subst, sym, arith}
 use Rattle.std.proofs.lemmas.Result.{IfOk-weaker}
 use Rattle.tm_game.proofs.Growing.{grows_then}
-use Rattle.tm_refine.proofs.PoolBits.{below_false, below_true, bit_set, bit_told}
+use Rattle.tm_refine.proofs.PoolBits.{bit_set, bit_told}
 use Rattle.tm_refine.proofs.PoolKeeps.{can_grown, decide_grown, has_pooled, pooled_of}
 use Rattle.tm_refine.proofs.parting.cut_by_bit.Goals as goal
 
@@ -9,14 +9,10 @@ pub make-requires-clause-level : goal.make-requires-clause-level
 make-requires-clause-level c = omega (arith, c.requires.level, c.order-order.ensures.levels)
 
 pub make-requires-clause-lo_deeper : goal.make-requires-clause-lo_deeper
-make-requires-clause-lo_deeper c =
-    below_false c.args.game.now.diagrams.table c.args.level
-    (omega (arith, c.requires.level, c.order-order.ensures.levels))
+make-requires-clause-lo_deeper c = inl (omega arith)
 
 pub make-requires-clause-hi_deeper : goal.make-requires-clause-hi_deeper
-make-requires-clause-hi_deeper c =
-    below_true c.args.game.now.diagrams.table c.args.level
-    (omega (arith, c.requires.level, c.order-order.ensures.levels))
+make-requires-clause-hi_deeper c = inl (omega arith)
 
 pub split-requires-clause-pool : goal.split-requires-clause-pool
 split-requires-clause-pool c =

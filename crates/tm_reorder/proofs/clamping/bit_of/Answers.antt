@@ -1,12 +1,13 @@
+use Rattle.std.proofs.Common.{inl, arith}
 use Rattle.std.proofs.lemmas.Result.{IfOk-weaker}
-use Rattle.tm_reorder.proofs.ClampedBits.{below_false, below_true, bit_is}
+use Rattle.tm_reorder.proofs.ClampedBits.{bit_is}
 use Rattle.tm_reorder.proofs.clamping.bit_of.Goals as goal
 
 pub make-requires-clause-lo_deeper : goal.make-requires-clause-lo_deeper
-make-requires-clause-lo_deeper c = below_false c.args.dd.now.table c.args.level c.requires
+make-requires-clause-lo_deeper c = inl (omega arith)
 
 pub make-requires-clause-hi_deeper : goal.make-requires-clause-hi_deeper
-make-requires-clause-hi_deeper c = below_true c.args.dd.now.table c.args.level c.requires
+make-requires-clause-hi_deeper c = inl (omega arith)
 
 pub returns-clause-answer : goal.returns-clause-answer
 returns-clause-answer c =

@@ -1,8 +1,9 @@
-use Rattle.std.proofs.Common.{refl, sym, ap, ◌∙◌, subst}
+use Rattle.std.proofs.Common.{length, refl, sym, ap, ◌∙◌, subst}
 use Rattle.std.proofs.lemmas.Result.{IfOk-weaker}
 use Rattle.tm_cert.specs.Cert.{DriverData}
-use Rattle.tm_dd.specs.Reduced.{IsReduced}
+use Rattle.tm_dd.specs.Reduced.{IsReduced, RanksRise}
 use Rattle.tm_dd.specs.Table.{Table}
+use Rattle.tm_dd.proofs.CallerLaws.{RanksRise-Extends}
 use Rattle.tm_reorder.specs.Inner.Moved.{seen}
 use Rattle.tm_reorder.proofs.Places.{bits_given, have_given, levels_given, moved_given, nodes_given, places_given, right_given}
 use Rattle.tm_reorder.proofs.Reordered.{ids_over}
@@ -52,6 +53,14 @@ pub renumber_driver-requires-clause-levels : goal.renumber_driver-requires-claus
 renumber_driver-requires-clause-levels c =
     ap (λ (s : Table). s.levels) c.store.ensures.value ∙ c.load_moved.ensures.extends.same_levels
     ∙ c.clamped_bits.ensures.extends.same_levels ∙ c.requires.levels
+
+pub renumber_driver-requires-clause-ranks : goal.renumber_driver-requires-clause-ranks
+renumber_driver-requires-clause-ranks c =
+    subst (RanksRise (length c.args.order.now)) (sym c.store.ensures.value)
+    (RanksRise-Extends c.clamped_bits.new.dd.table c.load_moved.new.dd.table c.load_moved.ensures.extends
+    (length c.args.order.now)
+    (RanksRise-Extends c.args.dd.now.table c.clamped_bits.new.dd.table c.clamped_bits.ensures.extends
+    (length c.args.order.now) c.requires.ranks))
 
 pub renumber_driver-requires-clause-ids : goal.renumber_driver-requires-clause-ids
 renumber_driver-requires-clause-ids c =

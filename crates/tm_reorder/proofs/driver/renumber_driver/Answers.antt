@@ -61,6 +61,7 @@ returns c = λ see moved.
     (λ (o : List ℕ). DriverTold c.args.order.now see c.args.cert.now
     (record { order = o; nodes = nodes; region = c.in_ok-region.region; goals = news }))
     (sym c.in_ok-order.ensures.items)
-    (driver_told c.args.order.now c.args.store.now c.requires.reduced c.requires.levels see c.args.cert.now.nodes
+    (driver_told c.args.order.now c.args.store.now c.requires.reduced c.requires.ranks c.requires.levels see
+    c.args.cert.now.nodes
     c.args.ids.now c.place_goals.new.kept.keys nodes moved c.in_ok-goals.ensures.numbered c.args.cert.now.order
     c.args.cert.now.region c.in_ok-region.region c.args.cert.now.goals news (region_stands at) (goals_stand at))

@@ -39,6 +39,7 @@ returns c = λ see moved.
     (λ (o : List ℕ). EnvironmentTold c.args.order.now see c.args.cert.now
     (record { order = o; nodes = nodes; levels = news }))
     (sym c.in_ok-order.ensures.items)
-    (environment_told c.args.order.now c.args.store.now c.requires.reduced c.requires.levels see c.args.cert.now.nodes
+    (environment_told c.args.order.now c.args.store.now c.requires.reduced c.requires.ranks c.requires.levels see
+    c.args.cert.now.nodes
     c.args.ids.now c.place_levels.new.kept.keys nodes moved c.in_ok-levels.ensures.numbered c.args.cert.now.order
     c.args.cert.now.levels news (levels_stand at))

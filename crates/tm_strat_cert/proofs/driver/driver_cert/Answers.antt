@@ -37,7 +37,8 @@ returns-clause-ranks c =
 
 pub returns-clause-sets : goal.returns-clause-sets
 returns-clause-sets c d of =
-    driver_told c.args.game.now d of c.in_ok-order.ensures.reduced c.place_goals.new.kept.keys
+    driver_told c.args.game.now d of c.in_ok-order.ensures.reduced c.in_ok-order.ensures.rises
+    c.place_goals.new.kept.keys
     c.place_goals.new.nodes.items c.in_ok-goals.ensures.numbered c.args.iterates.now c.in_ok-order.order.items
     c.in_ok-region.region (map (λ (v : Vec Rank Global). v.items) c.in_ok-goals.goals.items) c.in_ok-order.ensures.order
     (set_later c.place.new.kept.keys c.place_goals.new.kept.keys c.in_ok-goals.ensures.stay
@@ -49,6 +50,7 @@ returns-clause-sets c d of =
 pub returns-clause-fits : goal.returns-clause-fits
 returns-clause-fits c d of count waits =
     driver_fits c.args.game.now d of c.in_ok-order.ensures.places c.in_ok-order.ensures.reduced
+    c.in_ok-order.ensures.rises
     c.place_goals.new.kept.keys c.place_goals.new.nodes.items c.in_ok-goals.ensures.numbered c.args.iterates.now
     c.in_ok-order.order.items c.in_ok-region.region (map (λ (v : Vec Rank Global). v.items) c.in_ok-goals.goals.items)
     c.in_ok-order.ensures.order

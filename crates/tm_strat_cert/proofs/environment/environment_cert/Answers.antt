@@ -20,7 +20,8 @@ place_levels-requires-clause-numbered c =
 
 pub returns-clause-sets : goal.returns-clause-sets
 returns-clause-sets c d of =
-    levels_told c.args.game.now d of c.in_ok-order.ensures.reduced c.place_levels.new.kept.keys
+    levels_told c.args.game.now d of c.in_ok-order.ensures.reduced c.in_ok-order.ensures.rises
+    c.place_levels.new.kept.keys
     c.place_levels.new.nodes.items c.in_ok-levels.ensures.numbered c.args.iterates.now c.in_ok-order.order.items
     c.in_ok-levels.levels.items c.in_ok-order.ensures.order
     (subst (λ (xs : List LevelSet). LevelsPlaced c.place_levels.new.kept.keys xs c.in_ok-levels.levels.items)
@@ -29,6 +30,7 @@ returns-clause-sets c d of =
 pub returns-clause-fits : goal.returns-clause-fits
 returns-clause-fits c d of shape =
     environment_fits c.args.game.now d of c.in_ok-order.ensures.places c.in_ok-order.ensures.reduced
+    c.in_ok-order.ensures.rises
     c.place_levels.new.kept.keys c.place_levels.new.nodes.items c.in_ok-levels.ensures.numbered
     c.args.iterates.now c.in_ok-order.order.items c.in_ok-levels.levels.items c.in_ok-order.ensures.order
     (subst (λ (xs : List LevelSet). LevelsPlaced c.place_levels.new.kept.keys xs c.in_ok-levels.levels.items)

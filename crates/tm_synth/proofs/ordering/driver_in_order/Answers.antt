@@ -1,8 +1,14 @@
-use Rattle.std.proofs.Common.{sym, subst}
+use Rattle.std.proofs.Common.{length, sym, subst, arith}
 use Rattle.std.proofs.lemmas.Result.{IfOk-weaker}
+use Rattle.tm_dd.proofs.CallerLaws.{RanksRise-numbers}
 use Rattle.tm_reorder.specs.Fields.{AreFields}
 use Rattle.tm_syntax.specs.Design.View.{design_tree}
 use Rattle.tm_synth.proofs.ordering.driver_in_order.Goals as goal
+
+pub clamp_driver-moved-requires-clause-ranks : goal.clamp_driver-moved-requires-clause-ranks
+clamp_driver-moved-requires-clause-ranks c =
+    RanksRise-numbers c.in-Ok-new.dd.table c.in-Ok-new.ensures.ranks (length c.args.order.now)
+    (omega (arith, c.in-Ok-new.ensures.levels))
 
 pub clamp_driver-moved-requires-clause-fields : goal.clamp_driver-moved-requires-clause-fields
 clamp_driver-moved-requires-clause-fields c = (

@@ -1,5 +1,6 @@
 use Rattle.std.proofs.Common.{◌≡◌, ◌+◌, List, [], ◌∷◌, ◌++◌, length, sym, ap, ◌∙◌, subst, arith}
 use Rattle.std.proofs.lemmas.Option.{slice_get-get_or}
+use Rattle.tm_dd.proofs.CallerLaws.{RanksRise-Extends}
 use Rattle.tm_dd.specs.declared.node.NodeId.{NodeId}
 use Rattle.tm_dd.specs.declared.node.TheConstants.{FALSE, TRUE}
 use Rattle.tm_verdict.specs.Inner.Loading.{AreFirst}
@@ -15,8 +16,9 @@ loop-entry-init c =
     (c.in_ok-push.ensures.items ∙ ap (λ (ids : List NodeId). ids ++ FALSE ∷ []) c.new-ids.ensures.items) in
     record {
       grows = grows_none c.args.game.now;
-      first = subst (AreFirst c.args.game.now.diagrams.table c.args.nodes.now 0) (sym items)
-          (begun c.args.game.now.diagrams.table c.args.nodes.now);
+      first = subst (AreFirst c.args.game.now.diagrams.table (length c.args.game.now.order) c.args.nodes.now 0)
+          (sym items)
+          (begun c.args.game.now.diagrams.table (length c.args.game.now.order) c.args.nodes.now);
     }
 
 pub index-requires : goal.index-requires
@@ -67,7 +69,7 @@ make-requires-clause-lo_deeper c =
     (slice_get-get_or c.args.nodes.now c.loop-entry.entry-index (record { level = 0; lo = 0; hi = 0 })
     c.loop-entry-test.true)
     c.loop-entry.ids.items c.loop-entry.game.diagrams.table c.index.result.now
-    (omega (arith, c.requires.levels, c.loop-entry.invariant.grows.diagrams.same_levels)) c.loop-entry.invariant.first
+    c.loop-entry.invariant.first
     (lo_is (length c.args.game.now.order) c.args.nodes.now c.requires.nodes c.loop-entry.entry-index _
     (slice_get-get_or c.args.nodes.now c.loop-entry.entry-index (record { level = 0; lo = 0; hi = 0 })
     c.loop-entry-test.true)
@@ -80,7 +82,7 @@ make-requires-clause-hi_deeper c =
     (slice_get-get_or c.args.nodes.now c.loop-entry.entry-index (record { level = 0; lo = 0; hi = 0 })
     c.loop-entry-test.true)
     c.loop-entry.ids.items c.loop-entry.game.diagrams.table c.index-in-loop-entry.result.now
-    (omega (arith, c.requires.levels, c.loop-entry.invariant.grows.diagrams.same_levels)) c.loop-entry.invariant.first
+    c.loop-entry.invariant.first
     (hi_is (length c.args.game.now.order) c.args.nodes.now c.requires.nodes c.loop-entry.entry-index _
     (slice_get-get_or c.args.nodes.now c.loop-entry.entry-index (record { level = 0; lo = 0; hi = 0 })
     c.loop-entry-test.true)
@@ -95,13 +97,18 @@ returns-in_err-push-3-clause-grows c = grows_then _ _ _ c.loop-entry.invariant.g
 
 pub loop-entry-preserved : goal.loop-entry-preserved
 loop-entry-preserved c =
-    let grown = first_kept c.loop-entry.game.diagrams.table c.make.new.self.diagrams.table c.args.nodes.now
-    c.loop-entry.entry-index c.loop-entry.ids.items c.make.ensures.grows.diagrams c.loop-entry.invariant.first in
+    let grown = first_kept c.loop-entry.game.diagrams.table c.make.new.self.diagrams.table
+    (length c.args.game.now.order) c.args.nodes.now c.loop-entry.entry-index c.loop-entry.ids.items
+    c.make.ensures.grows.diagrams c.loop-entry.invariant.first in
     let more = one_more (length c.args.game.now.order) c.args.nodes.now c.requires.nodes c.loop-entry.entry-index _
     (slice_get-get_or c.args.nodes.now c.loop-entry.entry-index (record { level = 0; lo = 0; hi = 0 })
     c.loop-entry-test.true)
-    c.loop-entry.ids.items c.make.new.self.diagrams.table c.index.result.now c.index-in-loop-entry.result.now
-    c.in_ok-id.id grown
+    c.loop-entry.ids.items c.make.new.self.diagrams.table
+    (RanksRise-Extends c.loop-entry.game.diagrams.table c.make.new.self.diagrams.table c.make.ensures.grows.diagrams
+    (length c.args.game.now.order)
+    (RanksRise-Extends c.args.game.now.diagrams.table c.loop-entry.game.diagrams.table
+    c.loop-entry.invariant.grows.diagrams (length c.args.game.now.order) c.order-order.ensures.rises))
+    c.index.result.now c.index-in-loop-entry.result.now c.in_ok-id.id grown
     (lo_is (length c.args.game.now.order) c.args.nodes.now c.requires.nodes c.loop-entry.entry-index _
     (slice_get-get_or c.args.nodes.now c.loop-entry.entry-index (record { level = 0; lo = 0; hi = 0 })
     c.loop-entry-test.true)
@@ -115,11 +122,13 @@ loop-entry-preserved c =
     c.in_ok-id.ensures.answer c.in_ok-id.ensures.deep in
     record {
       grows = grows_then _ _ _ c.loop-entry.invariant.grows c.make.ensures.grows;
-      first = subst (AreFirst c.make.new.self.diagrams.table c.args.nodes.now (c.loop-entry.entry-index + 1))
+      first = subst (AreFirst c.make.new.self.diagrams.table (length c.args.game.now.order) c.args.nodes.now
+          (c.loop-entry.entry-index + 1))
           (sym c.in_ok-push-3.ensures.items) more;
     }
 
 pub returns-clause-loaded : goal.returns-clause-loaded
 returns-clause-loaded c =
-    all_loaded c.loop-entry.game.diagrams.table c.args.nodes.now c.loop-entry.entry-index c.loop-entry.ids.items
+    all_loaded c.loop-entry.game.diagrams.table (length c.args.game.now.order) c.args.nodes.now c.loop-entry.entry-index
+    c.loop-entry.ids.items
     (omega arith) c.loop-entry.invariant.first

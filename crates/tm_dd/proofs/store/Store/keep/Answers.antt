@@ -29,9 +29,11 @@ invariant_of-self-2 c =
     let s = c.args.self.now in
     let n = c.args.node in
     let levels = ap (λ (t : Table). t.levels) c.self.view_is in
+    let ranks = ap (λ (t : Table). t.ranks) c.self.view_is in
     let after = keys c.self.inside.levels s c.self.inside.entries.keys c.insert_full.new.self.keys n levels
     (c.self.invariant.layout ∙ ap entries c.self.view_is) c.in_ok-position.ensures.keys in
-    let table = table-inserted s n c.self.inside.levels c.insert_full.new.self.keys levels after in
+    let table = table-inserted s n c.self.inside.levels c.self.inside.ranks.items c.insert_full.new.self.keys levels
+    ranks after in
     record {
       layout = after ∙ sym (ap entries table);
       unique = subst IsUniqueTable (sym table)
@@ -43,9 +45,11 @@ returns-clause-kept c =
     let s = c.args.self.now in
     let n = c.args.node in
     let levels = ap (λ (t : Table). t.levels) c.self.view_is in
+    let ranks = ap (λ (t : Table). t.ranks) c.self.view_is in
     let after = keys c.self.inside.levels s c.self.inside.entries.keys c.insert_full.new.self.keys n levels
     (c.self.invariant.layout ∙ ap entries c.self.view_is) c.in_ok-position.ensures.keys in
-    let table = table-inserted s n c.self.inside.levels c.insert_full.new.self.keys levels after in
+    let table = table-inserted s n c.self.inside.levels c.self.inside.ranks.items c.insert_full.new.self.keys levels
+    ranks after in
     let stored = c.in_ok-position.ensures.stored in
     subst (λ t. IsKept s t n c.in_ok-position.position) (sym table)
     (IsKept-inserted s n c.in_ok-position.position stored.0

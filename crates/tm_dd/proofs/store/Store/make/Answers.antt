@@ -1,4 +1,4 @@
-use Rattle.std.proofs.Common.{◌≡◌, ℕ, ◌+◌, Bool, true, false, Ok, eqb, if◌then◌else◌, ◌∙◌, sym, ap, subst, refl}
+use Rattle.std.proofs.Common.{◌≡◌, ℕ, ◌+◌, Bool, true, false, Ok, eqb, if◌then◌else◌, ◌∙◌, sym, ap, subst, refl, arith}
 use Rattle.std.proofs.lemmas.Bool.{eqb-true, eqb-false}
 use Rattle.tm_dd.specs.declared.node.Node.{Node}
 use Rattle.tm_dd.specs.declared.node.NodeId.{NodeId}
@@ -9,6 +9,7 @@ use Rattle.tm_dd.specs.Unique.{IsEntry, IsKept, IsUniqueTable}
 use Rattle.tm_dd.proofs.Canonical.{ids_canonical}
 use Rattle.tm_dd.proofs.Made.{IsEntry-marked, IsMade, made, not_found}
 use Rattle.tm_dd.proofs.NodeIdLemmas.{same_number}
+use Rattle.tm_dd.proofs.Ranks.{deeper_depth}
 use Rattle.tm_dd.proofs.Nodes.{marked_id, marked_node, reduced}
 use Rattle.tm_dd.proofs.store.Store.make.Given as given
 use Rattle.tm_dd.proofs.store.Store.make.Goals as goal
@@ -34,6 +35,13 @@ returns-then-eq-clause-found g c id known same =
     ∙ ap (λ h. if v c.args.level then means s h v else means s lo v) (sym equal) ∙ sym (same v)) in
     ap Ok e
 
+pub returns-then-eq-clause-deep : goal.returns-then-eq-clause-deep
+returns-then-eq-clause-deep g c =
+    let unique = subst IsUniqueTable c.self.view_is c.self.invariant.unique in
+    let deeper = deeper_depth c.args.self.now unique.ranks c.args.level c.requires.level c.args.lo
+    c.requires.lo_deeper in
+    omega (arith, deeper)
+
 -- ---- a node to keep
 
 -- the node that is kept is the one that was asked for, under the mark of its `lo`
@@ -54,8 +62,8 @@ keep-requires g c =
     (ap (λ b. marked_node b n) (sym m)
     ∙ sym (marked c.args.level c.args.lo c.args.hi _ _ _ c.complement_if.ensures.value
     c.complement_if-2.ensures.value))
-    (IsEntry-marked s c.args.level c.args.lo c.args.hi c.requires.level c.requires.lo_known c.requires.hi_known
-    c.requires.lo_deeper c.requires.hi_deeper
+    (IsEntry-marked s (subst IsUniqueTable c.self.view_is c.self.invariant.unique) c.args.level c.args.lo c.args.hi
+    c.requires.level c.requires.lo_known c.requires.hi_known c.requires.lo_deeper c.requires.hi_deeper
     (different c.args.lo c.args.hi c.if-eq.ensures))
 
 pub returns-in_err-position-clause-reduced : goal.returns-in_err-position-clause-reduced
@@ -70,8 +78,8 @@ no_such_id g c id known same =
     let m = c.is_marked-marked.ensures in
     let kept_node = marked c.args.level c.args.lo c.args.hi _ _ _ c.complement_if.ensures.value
     c.complement_if-2.ensures.value ∙ ap (λ b. marked_node b n) m in
-    let ok = IsEntry-marked s c.args.level c.args.lo c.args.hi c.requires.level c.requires.lo_known c.requires.hi_known
-    c.requires.lo_deeper c.requires.hi_deeper
+    let ok = IsEntry-marked s (subst IsUniqueTable c.self.view_is c.self.invariant.unique) c.args.level c.args.lo
+    c.args.hi c.requires.level c.requires.lo_known c.requires.hi_known c.requires.lo_deeper c.requires.hi_deeper
     (different c.args.lo c.args.hi c.if-eq.ensures) in
     not_found s (subst IsUniqueTable c.self.view_is c.self.invariant.unique) n (is_marked c.args.lo) c.requires.level
     c.requires.lo_known c.requires.hi_known ok

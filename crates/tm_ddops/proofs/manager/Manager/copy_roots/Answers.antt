@@ -16,5 +16,5 @@ pub invariant_of-self : goal.invariant_of-self
 invariant_of-self c = record {
   manager = manager_empty _ c.copies.ensures.reduced c.in_ok-cache.ensures.empty;
   room = c.in_ok-cache.ensures.room;
-  tables = c.new-2.ensures c.copies.new.to;
+  tables = c.new.ensures c.copies.new.to;
 }

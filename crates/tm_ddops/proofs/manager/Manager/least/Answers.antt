@@ -33,10 +33,8 @@ returns c =
     let new = c.fill.new.values in
     let old = c.in_ok-values.values.items in
     let same : length new ≡ length c.deref_mut.result.now = c.fill.auto.values in
-    let known = subst (λ m. Knows m.table c.args.f) (sym c.self.view_is) c.requires in
     subst (IsLeast c.args.self.now.table c.args.f)
     (sym (back_is new old c.in_ok-values.values.len (same ∙ ap length c.deref_mut.ensures.value)
     c.in_ok-values.values.ok.0))
     (subst (λ m. IsLeast m.table c.args.f new) c.self.view_is
-    (least_of_filled c.self.inside.store c.args.f (c.levels.ensures.reduced.within c.args.f known)
-    c.deref_mut.result.now new (same ∙ many d) (clear d) c.fill.ensures))
+    (least_of_filled c.self.inside.store c.args.f c.deref_mut.result.now new (same ∙ many d) (clear d) c.fill.ensures))

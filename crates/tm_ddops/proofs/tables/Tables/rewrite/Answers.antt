@@ -1,5 +1,5 @@
-use Rattle.std.proofs.Common.{IfOk, sym, ap, subst, ◌∙◌, arith}
-use Rattle.tm_ddops.specs.Changed.{IsChanged, KnowsParts, change_of}
+use Rattle.std.proofs.Common.{IfOk, sym, subst, arith}
+use Rattle.tm_ddops.specs.Changed.{IsChanged, IsDepth, KnowsParts, change_of}
 use Rattle.tm_ddops.specs.Inner.Memo.{AreChoices}
 use Rattle.tm_ddops.specs.Inner.Tables.{AreTrue, AreVisits}
 use Rattle.tm_ddops.proofs.Changing.{changed_below}
@@ -17,13 +17,13 @@ tables c = record {
       c.requires.tables.visits);
 }
 
-pub returns-then-depth-level-clause-answer : goal.returns-then-depth-level-clause-answer
-returns-then-depth-level-clause-answer c =
+pub returns-then-depth-clause-answer : goal.returns-then-depth-clause-answer
+returns-then-depth-clause-answer c =
     changed_below c.args.store.now c.requires.reduced (change_of c.args.changes) c.args.f c.requires.known
     c.requires.parts
-    (λ k deep below. ap (λ l. change_of l k) (sym c.as_slice.ensures)
-    ∙ c.depth.ensures.deepest k (omega (arith, below, c.levels.ensures.value))
-    (omega (arith, deep, c.if-depth-level.true, c.level.ensures.value)))
+    c.depth.result
+    (subst (λ l. IsDepth c.args.store.now (change_of l) c.depth.result) c.as_slice.ensures c.depth.ensures.depth)
+    (omega (arith, c.if-depth.true, c.depth-2.ensures.value))
 
 pub returns-in_err-number-clause-tables : goal.returns-in_err-number-clause-tables
 returns-in_err-number-clause-tables c = tables (goal.at.returns-in_err-number-clause-tables c).After-number

@@ -27,7 +27,7 @@ returns-in_ok-set-in-Step-clause-keeps c = λ x u v m d apart keeps is.
     let n : KeptTerms = record { values = c.self.inside.values.items; step = c.set.new.self } in
     let cell : StepCell = record { at = c.args.at; slot = c.in-Step.slot } in
     step_put x u v k m (subst (λ k. Keeps x u v k m) (sym c.self.view_is) keeps) apart cell d c.args.id n refl
-    (subst (λ n. cell_at x c.args.at n ≡ Some d) c.in-Step.is is) c.in_ok-set-in-Step.ensures.terms
+    (subst (λ n. cell_at x c.args.at n ≡ Some d) c.in-Step.is is) c.in_ok-set-in-Step.ensures
 
 pub returns-in_ok-set-in-Step-clause-memory : goal.returns-in_ok-set-in-Step-clause-memory
 returns-in_ok-set-in-Step-clause-memory c = λ x t ty memory typed term.
@@ -35,4 +35,4 @@ returns-in_ok-set-in-Step-clause-memory c = λ x t ty memory typed term.
     let n : KeptTerms = record { values = c.self.inside.values.items; step = c.set.new.self } in
     let cell : StepCell = record { at = c.args.at; slot = c.in-Step.slot } in
     step_memory x t k (subst (IsMemory x t) (sym c.self.view_is) memory) ty c.args.id term cell n
-    (subst (λ n. type_at x c.args.at n ≡ Some ty) c.in-Step.is typed) refl c.in_ok-set-in-Step.ensures.terms
+    (subst (λ n. type_at x c.args.at n ≡ Some ty) c.in-Step.is typed) refl c.in_ok-set-in-Step.ensures

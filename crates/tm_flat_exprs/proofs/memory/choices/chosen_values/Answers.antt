@@ -1,4 +1,4 @@
-use Rattle.std.proofs.Common.{◌+◌, ◌<◌, Some, length, sym, subst, arith}
+use Rattle.std.proofs.Common.{◌+◌, ◌<◌, length, sym, subst, arith}
 use Rattle.std.specs.Prelude.{slice_index_or}
 use Rattle.std.proofs.lemmas.Option.{slice_get-get_or}
 use Rattle.tm_term.specs.declared.term.TermId.{TermId}
@@ -13,7 +13,7 @@ chosen-requires-clause-width c =
     let b : TermId = slice_index_or c.args.second.now c.loop-index.index none in
     let below : c.loop-index.index < length c.args.first.now = omega arith in
     let within : c.loop-index.index < length c.args.second.now = omega (arith, c.requires.long) in
-    width_along c.args.terms.now c.loop-index.terms (Some a) (Some b) c.loop-index.invariant.grown
+    width_along c.args.terms.now c.loop-index.terms a b c.loop-index.invariant.grown
     (c.requires.widths c.loop-index.index a b (slice_get-get_or c.args.first.now c.loop-index.index none below)
     (slice_get-get_or c.args.second.now c.loop-index.index none within))
 

@@ -41,23 +41,28 @@ returns-in_err-copied-clause-refused c =
 pub invariant_of-self-2 : goal.invariant_of-self-2
 invariant_of-self-2 c =
     game_copied c.self.inside c.self.invariant c.copied.new.dd c.copied.new.steps c.copied.new.kept _
-    c.copied.ensures.levels c.in_ok-copied.ensures.game c.in_ok-copied.ensures.kept _ c.new.ensures
+    c.copied.ensures.levels c.copied.ensures.ranks c.in_ok-copied.ensures.game c.in_ok-copied.ensures.kept _
+    c.new.ensures
     (c.new-self-inside.ensures c.copied.new.dd.table (game_of c.copied.new.dd.table c.copied.new.steps))
 
 pub returns-clause-game : goal.returns-clause-game
 returns-clause-game c =
     subst (λ (g : GameData). IsCopied g (game_data (after c.self.inside c.self.invariant c.copied.new.dd
-    c.copied.new.steps c.copied.new.kept c.new-self-inside.result c.copied.ensures.levels c.in_ok-copied.ensures.game
+    c.copied.new.steps c.copied.new.kept c.new-self-inside.result c.copied.ensures.levels c.copied.ensures.ranks
+    c.in_ok-copied.ensures.game
     c.in_ok-copied.ensures.kept c.new.result c.new.ensures))) c.self.view_is
     (copied_so c.self.inside c.self.invariant c.copied.new.dd c.copied.new.steps c.copied.new.kept
     c.new-self-inside.result
-    c.copied.ensures.levels c.in_ok-copied.ensures.game c.in_ok-copied.ensures.kept c.new.result c.new.ensures)
+    c.copied.ensures.levels c.copied.ensures.ranks c.in_ok-copied.ensures.game c.in_ok-copied.ensures.kept
+    c.new.result c.new.ensures)
 
 pub returns-clause-of : goal.returns-clause-of
 returns-clause-of c =
     subst (λ (g : GameData). (d : DesignTree) → IsOf d g → IsOf d (game_data (after c.self.inside c.self.invariant
     c.copied.new.dd c.copied.new.steps c.copied.new.kept c.new-self-inside.result c.copied.ensures.levels
+    c.copied.ensures.ranks
     c.in_ok-copied.ensures.game c.in_ok-copied.ensures.kept c.new.result c.new.ensures))) c.self.view_is
     (copied_of c.self.inside c.self.invariant c.copied.new.dd c.copied.new.steps c.copied.new.kept
     c.new-self-inside.result
-    c.copied.ensures.levels c.in_ok-copied.ensures.game c.in_ok-copied.ensures.kept c.new.result c.new.ensures)
+    c.copied.ensures.levels c.copied.ensures.ranks c.in_ok-copied.ensures.game c.in_ok-copied.ensures.kept
+    c.new.result c.new.ensures)

@@ -1,5 +1,6 @@
 use Rattle.std.proofs.Common.{◌<◌, sym, subst}
-use Rattle.tm_dd.specs.Table.{Knows, level_of}
+use Rattle.tm_dd.specs.Reduced.{IsDeeper}
+use Rattle.tm_dd.specs.Table.{Knows}
 use Rattle.tm_game.specs.Game.{GameData}
 use Rattle.tm_game.specs.Operations.{MakesNode}
 use Rattle.tm_game.proofs.Extending.{extended_only, grows_from}
@@ -15,12 +16,12 @@ make-requires-clause-hi_known c =
 
 pub make-requires-clause-lo_deeper : goal.make-requires-clause-lo_deeper
 make-requires-clause-lo_deeper c =
-    subst (λ (g : GameData). c.args.level < level_of g.diagrams.table c.args.lo) (sym c.self.view_is)
+    subst (λ (g : GameData). IsDeeper g.diagrams.table c.args.level c.args.lo) (sym c.self.view_is)
     c.requires.lo_deeper
 
 pub make-requires-clause-hi_deeper : goal.make-requires-clause-hi_deeper
 make-requires-clause-hi_deeper c =
-    subst (λ (g : GameData). c.args.level < level_of g.diagrams.table c.args.hi) (sym c.self.view_is)
+    subst (λ (g : GameData). IsDeeper g.diagrams.table c.args.level c.args.hi) (sym c.self.view_is)
     c.requires.hi_deeper
 
 pub make-requires-clause-level : goal.make-requires-clause-level

@@ -1,4 +1,5 @@
 use Rattle.std.proofs.Common.{◌+◌, ◌≤◌, length, subst, arith}
+use Rattle.tm_dd.specs.Reduced.{RanksRise}
 use Rattle.tm_flat.specs.Flat.{flat_terms}
 use Rattle.tm_game.specs.Game.{GameData}
 use Rattle.tm_game.specs.Start.{state_bits_in}
@@ -12,6 +13,10 @@ returns-clause-places c =
     subst (λ (g : GameData). IsOrder (state_bits_in g.flat) g.order) c.self.view_is
     (places_permuted (setting_of c.self.inside.encoding) (flat_terms c.self.inside.flat) c.self.inside.order.items
     c.self.invariant.shape)
+
+pub returns-clause-rises : goal.returns-clause-rises
+returns-clause-rises c =
+    subst (λ (g : GameData). RanksRise (length g.order) g.diagrams.table) c.self.view_is c.self.invariant.rises
 
 pub returns-clause-levels : goal.returns-clause-levels
 returns-clause-levels c =

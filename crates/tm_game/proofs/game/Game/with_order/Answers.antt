@@ -1,4 +1,6 @@
-use Rattle.std.proofs.Common.{length, sym, ap, subst, arith}
+use Rattle.std.proofs.Common.{ℕ, List, length, sym, ap, subst, arith}
+use Rattle.tm_dd.specs.Reduced.{RanksRise}
+use Rattle.tm_dd.proofs.CallerLaws.{RanksRise-Extends}
 use Rattle.tm_blast.specs.Memory.{Made}
 use Rattle.tm_flat.specs.Flat.{flat_terms}
 use Rattle.tm_game_bits.specs.Diagrams.{game_of}
@@ -54,7 +56,7 @@ game-requires-clause-ready c =
     (sym c.new-bits.ensures) (c.in_ok-start.ensures.ready c.in_ok-dd.dd.table
     (omega (
       arith,
-      c.in_ok-dd.ensures,
+      c.in_ok-dd.ensures.levels,
       c.in_ok-start.ensures.shape.count,
       ap length c.deref.ensures.value,
       ap length c.deref-2.ensures.value,
@@ -82,11 +84,16 @@ invariant_of-result c = record {
   terms = c.in_ok-start.ensures.terms;
   levels = omega (
     arith,
-    c.in_ok-dd.ensures,
+    c.in_ok-dd.ensures.levels,
     ap length c.deref.ensures.value,
     c.game.ensures.earlier.same_levels,
     c.kept_ids.ensures.earlier.same_levels,
   );
+  rises = RanksRise-Extends c.game.new.dd.table c.kept_ids.new.dd.table c.kept_ids.ensures.earlier
+      (length c.args.order.items)
+      (RanksRise-Extends c.in_ok-dd.dd.table c.game.new.dd.table c.game.ensures.earlier (length c.args.order.items)
+      (subst (λ (o : List ℕ). RanksRise (length o) c.in_ok-dd.dd.table) c.deref.ensures.value
+      c.in_ok-dd.ensures.rises));
   ready = c.kept_ids.ensures.ready;
   steps = made_kept c.game.new.dd.table c.kept_ids.new.dd.table c.kept_ids.ensures.earlier
       (setting_of c.in_ok-start.start.encoding) (flat_terms c.args.flat) c.in_ok-made.made c.in_ok-made.ensures.game;

@@ -1,13 +1,29 @@
-use Rattle.tm_flat_exprs.proofs.Turning.{both_merged, widths_turned}
+use Rattle.std.proofs.Common.{sym, ◌∙◌, subst}
+use Rattle.tm_flat_exprs.specs.Inner.Merging.{Appends, MergesSteps}
+use Rattle.tm_flat_exprs.proofs.Appending.{both_same, first_kept, second_kept}
 use Rattle.tm_flat_exprs.proofs.memory.step_terms.StepTerms.merge.Goals as goal
 
-pub merge_others-requires-clause-widths : goal.merge_others-requires-clause-widths
-merge_others-requires-clause-widths c =
-    widths_turned c.args.terms.now c.merge_own.new.terms c.args.guard c.args.other.now c.args.self.now
-    c.merge_own.new.self c.requires.widths c.in_ok-merge_own.ensures.turns
+pub returns-then-others-common : goal.returns-then-others-common
+returns-then-others-common c =
+    subst (λ ws. MergesSteps c.args.guard ws c.args.other.now ws) c.self.view_is
+    (subst (λ ws. MergesSteps c.args.guard c.self.inside.versions ws c.self.inside.versions) c.other.view_is
+    (both_same c.args.guard c.self.inside.versions c.other.inside.versions c.common-common.result
+    c.common-common.ensures (sym c.len-own.ensures ∙ c.if-own-common.true)
+    (sym c.len-others.ensures ∙ c.if-others-common.true)))
+
+pub returns-then-others-own : goal.returns-then-others-own
+returns-then-others-own c =
+    subst (λ ws. MergesSteps c.args.guard ws c.args.other.now c.push.new.self) c.self.view_is
+    (subst (λ ws. MergesSteps c.args.guard c.self.inside.versions ws c.push.new.self) c.other.view_is
+    (first_kept c.args.guard c.self.inside.versions c.other.inside.versions c.append.new.all c.push.new.self
+    c.len-own.result c.in_ok-behind.behind c.len-own.ensures c.in_ok-behind.ensures c.in_ok-push.ensures))
 
 pub returns : goal.returns
 returns c =
-    both_merged c.args.terms.now c.merge_own.new.terms c.merge_others.new.terms c.args.guard c.args.self.now
-    c.args.other.now c.merge_own.new.self c.merge_others.new.self c.in_ok-merge_own.ensures
-    c.in_ok-merge_others.ensures
+    subst (λ ws. MergesSteps c.args.guard ws c.args.other.now c.push-2.new.self) c.self.view_is
+    (subst (λ ws. MergesSteps c.args.guard c.self.inside.versions ws c.push-2.new.self) c.other.view_is
+    (second_kept c.args.guard c.self.inside.versions c.other.inside.versions c.append-2.new.all c.push-2.new.self
+    c.len-others.result c.in_ok-behind-2.behind c.len-others.ensures
+    (subst (λ ws. Appends c.args.guard ws c.self.inside.versions c.append-2.new.all c.in_ok-behind-2.behind)
+    c.in_ok-all.ensures c.in_ok-behind-2.ensures)
+    c.in_ok-push-2.ensures))
