@@ -41,12 +41,7 @@ fn told(alloc: Global, decision: &Decision, tally: &Tally) -> Result<String, All
 }
 
 // The line that tells it.
-fn line(
-    alloc: Global,
-    winner: &str,
-    trace: &Trace,
-    tally: &Tally,
-) -> Result<String, AllocError> {
+fn line(alloc: Global, winner: &str, trace: &Trace, tally: &Tally) -> Result<String, AllocError> {
     let added = trace.added.len();
     let tracked = added.saturating_add(trace.first as usize);
     let rounds = tally.rounds;
