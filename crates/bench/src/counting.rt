@@ -5,14 +5,60 @@ use tm_refine::Arena;
 use tm_sem::state::State;
 use tm_solve::Iterates;
 
-/// A game over predicates, and how often it was asked for what is asked once in a step of its decision.
+/// How many solutions over cells were sought, and how many of them in rounds.
+///
+/// A solution asks for parts over the cells of its predicates alone, and the next one has more or fewer predicates. The
+/// solutions of rounds come first, each over more predicates than the one before.
+#[derive(Drop)]
+pub struct Tally {
+    /// How many solutions were sought.
+    pub solutions: u32,
+    /// How many of them were sought in rounds.
+    pub rounds: u32,
+    /// How many predicates the last one had.
+    pub predicates: Option<usize>,
+}
+
+impl Tally {
+    /// Of no solution.
+    pub fn new() -> Tally {
+        Tally {
+            solutions: 0,
+            rounds: 0,
+            predicates: None,
+        }
+    }
+
+    // Counts a solution over the cells of so many predicates, where it is not the last one still.
+    fn note(&mut self, predicates: usize) {
+        let is_another = match self.predicates {
+            Some(last) => last != predicates,
+            None => true,
+        };
+        if is_another {
+            self.count(predicates);
+        }
+    }
+
+    // Counts a solution over the cells of so many predicates.
+    fn count(&mut self, predicates: usize) {
+        let rises = match self.predicates {
+            Some(last) => last < predicates,
+            None => true,
+        };
+        if rises && self.rounds == self.solutions {
+            self.rounds = self.rounds.saturating_add(1);
+        }
+        self.solutions = self.solutions.saturating_add(1);
+        self.predicates = Some(predicates);
+    }
+}
+
+/// A game over predicates, and what is counted of its decision.
 #[derive(Drop)]
 pub struct Counted<A> {
     pub arena: A,
-    /// How often sets were forgotten: once between two rounds.
-    pub forgotten: u32,
-    /// How often it was asked whether the driver loses: once of the exact solution, and once of each one over cells.
-    pub tested: u32,
+    pub tally: Tally,
 }
 
 impl<A: Arena> Arena for Counted<A> {
@@ -60,11 +106,11 @@ impl<A: Arena> Arena for Counted<A> {
     }
 
     fn side(&mut self, tracked: &[u32], upper: bool, set: NodeId) -> Result<NodeId, AllocError> {
+        self.tally.note(tracked.len());
         self.arena.side(tracked, upper, set)
     }
 
     fn leaves_out(&mut self, set: NodeId) -> Result<bool, AllocError> {
-        self.tested = self.tested.saturating_add(1);
         self.arena.leaves_out(set)
     }
 
@@ -92,8 +138,11 @@ impl<A: Arena> Arena for Counted<A> {
         self.arena.hint()
     }
 
+    fn is_full(&self) -> bool {
+        self.arena.is_full()
+    }
+
     fn forget(&mut self, set: NodeId) -> Result<NodeId, AllocError> {
-        self.forgotten = self.forgotten.saturating_add(1);
         self.arena.forget(set)
     }
 

@@ -2,7 +2,7 @@
 ghost use Rattle.tm_syntax.specs.Design.View.{design_tree};
 ghost use Rattle.tm_syntax.specs.Faults.{IsOfText, IsSound};
 
-use crate::counting::Counted;
+use crate::counting::{Counted, Tally};
 use crate::games::exact_of;
 use std::alloc::{AllocError, Global};
 use tm_refine::{Decision, Pooled, Sided, Trace, decide};
@@ -22,42 +22,30 @@ pub fn refined(alloc: Global, design: &Design, word: &str) -> Result<String, All
     let mut sided = Sided {
         arena: Counted {
             arena: pooled,
-            forgotten: 0,
-            tested: 0,
+            tally: Tally::new(),
         },
         tracked: Vec::new(alloc),
         upper: false,
     };
     let decision = decide(alloc, &mut sided, None)?;
-    let rounds = sided.arena.forgotten.saturating_add(1);
-    let solutions = sided.arena.tested.saturating_sub(1);
-    told(alloc, &decision, rounds, solutions)
+    told(alloc, &decision, &sided.arena.tally)
 }
 
-// What comes of a decision that took so many rounds and solutions over cells.
-fn told(
-    alloc: Global,
-    decision: &Decision,
-    rounds: u32,
-    solutions: u32,
-) -> Result<String, AllocError> {
+// What comes of a decision with these solutions.
+fn told(alloc: Global, decision: &Decision, tally: &Tally) -> Result<String, AllocError> {
     match decision {
-        Decision::Driver(_, trace) => line(alloc, "driver", trace, rounds, solutions),
-        Decision::Environment(_, trace) => line(alloc, "environment", trace, rounds, solutions),
-        Decision::Spent(trace) => line(alloc, "undecided", trace, rounds, solutions),
+        Decision::Driver(_, trace) => line(alloc, "driver", trace, tally),
+        Decision::Environment(_, trace) => line(alloc, "environment", trace, tally),
+        Decision::Spent(trace) => line(alloc, "undecided", trace, tally),
     }
 }
 
 // The line that tells it.
-fn line(
-    alloc: Global,
-    winner: &str,
-    trace: &Trace,
-    rounds: u32,
-    solutions: u32,
-) -> Result<String, AllocError> {
+fn line(alloc: Global, winner: &str, trace: &Trace, tally: &Tally) -> Result<String, AllocError> {
     let added = trace.added.len();
     let tracked = added.saturating_add(trace.first as usize);
+    let rounds = tally.rounds;
+    let solutions = tally.solutions;
     format!(in alloc;
         "{winner}, predicates {tracked}, added {added}, rounds {rounds}, solutions {solutions}"
     )

@@ -1,3 +1,4 @@
+mod Carrying
 mod DecideSteps
 mod DriverKeeps
 mod EnvironmentTakes

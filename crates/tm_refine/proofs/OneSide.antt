@@ -17,6 +17,7 @@ use Rattle.tm_solve.specs.Iterates.{driver_sets, levels_of}
 use Rattle.tm_solve.specs.Levels.{LevelsFit}
 use Rattle.tm_solve.specs.Ranks.{RanksFit}
 use Rattle.tm_solve.specs.Sides.{IsBelow, with_part}
+use Rattle.tm_refine.specs.Carried.{own_tests}
 use Rattle.tm_refine.specs.Parts.{TellCells, agree, alike, lower_game, upper_game}
 use Rattle.tm_refine.specs.PartLaws.{agree_is, is_agree, lower_below, upper_above}
 use Rattle.tm_game_pool.specs.Separating.{Separates}
@@ -52,9 +53,6 @@ module _ (g : Game) (low high : StateSet → StateSet → StateSet → ℕ → �
   }
 
 -- ---- the predicates' own tests
-abbrev pub own_tests : DesignTree → List Predicate → List StateSet
-own_tests d predicates = map (λ (p : Predicate). λ (s : StateData). predicate_holds d s p) predicates
-
 module _ (d : DesignTree) (s t : StateData) where
   abbrev Same : Predicate → Type 0
   Same p = predicate_holds d s p ≡ predicate_holds d t p

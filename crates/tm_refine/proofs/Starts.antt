@@ -79,7 +79,7 @@ module _ (ps qs : List StateSet) (g : Game)
           (λ t in_t like. lower_holds g.states ps (g.part z y x j i) s h t in_t (finer s t among in_t like));
     }
 
-    upper_less : IsBelow g.states (upper_game qs g).part (upper_game ps g).part
+    pub upper_less : IsBelow g.states (upper_game qs g).part (upper_game ps g).part
     upper_less = record {
       below = λ z y x j i s among h. let m = upper_meets g.states qs (g.part z y x j i) s h in
           upper_when g.states ps (g.part z y x j i) s m.0 m.1 (finer s m.0 among m.1 m.2) m.3;

@@ -1,4 +1,5 @@
 pub mod Apart
+pub mod Carried
 pub mod Decided
 pub mod Numbers
 pub mod PartLaws

@@ -158,8 +158,11 @@ pub trait Arena {
     fn hint(&self) -> NodeId
         ensures known { (ids self.now).knows result };
 
-    /// Forgets all sets but one, where there are many more than after the last such call, and answers the id of that
-    /// one then. Ids that were known before may mean nothing any more.
+    /// Whether there are so many sets that those which are not needed should be forgotten.
+    fn is_full(&self) -> bool;
+
+    /// Forgets all sets but one, and answers the id of that one then. Ids that were known before may mean nothing any
+    /// more.
     fn forget(&mut self, set: NodeId) -> Result<NodeId, AllocError>
         requires set_known { (ids self.old).knows set }
         ensures value { IfOk result (λ id. Is (game self.old).states (ids self.new) id ((ids self.old).means set)) }

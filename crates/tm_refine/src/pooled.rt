@@ -9,6 +9,9 @@ use std::alloc::Global;
 use tm_dd::NodeId;
 use tm_solve_exact::Exact;
 
+// No sets are forgotten below so many nodes.
+pub(crate) const ROOM: u64 = 1_000_000;
+
 /// The symbolic game of a design, to be decided over the predicates of its pool.
 #[derive(Drop)]
 pub struct Pooled {

@@ -9,7 +9,7 @@ use crate::arena::Arena;
 use crate::forgetting::forget;
 use crate::parting::apart;
 use crate::parts::{leaves_out, side, split};
-use crate::pooled::{Pooled, noted};
+use crate::pooled::{Pooled, ROOM, noted};
 use crate::sets::{both, either, part, rest};
 use crate::telling::first_apart;
 use std::alloc::{AllocError, Global};
@@ -99,11 +99,12 @@ impl Arena for Pooled {
         }
     }
 
-    fn forget(&mut self, set: NodeId) -> Result<NodeId, AllocError> {
+    fn is_full(&self) -> bool {
         let kept = self.exact.game.manager().store().kept();
-        if kept / 2 <= self.kept {
-            return Ok(set);
-        }
+        kept > ROOM && kept / 2 > self.kept
+    }
+
+    fn forget(&mut self, set: NodeId) -> Result<NodeId, AllocError> {
         self.hint = None;
         let set = forget(&mut self.exact.game, set)?;
         self.kept = self.exact.game.manager().store().kept();

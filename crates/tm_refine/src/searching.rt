@@ -2,6 +2,7 @@
 ghost use Rattle.std.specs.Prelude.{◌≡◌, ◌<◌, ◌++◌, ℕ, IfOk, List, MatchOption, length};
 ghost use Rattle.tm_flat_pool.specs.Predicates.{pool};
 ghost use Rattle.tm_game_pool.specs.Separating.{predicates_at};
+ghost use Rattle.tm_refine.specs.Carried.{CarriesOn, IsCarried};
 ghost use Rattle.tm_refine.specs.Searching.{IsNamed, IsOneMore, IsParted, IsSearching, IsWon, KnowsSome, NoneOf};
 ghost use Rattle.tm_refine.specs.declared.trace.Added.{Added as Addition};
 ghost use Rattle.tm_solve.specs.Fixpoints.{Holds, InRegion};
@@ -16,20 +17,27 @@ use crate::trace::Added;
 use std::alloc::{AllocError, Global};
 use tm_dd::NodeId;
 use tm_sem::state::State;
-use tm_solve::Iterates;
+use tm_solve::{Iterates, copied};
 
-// Solves the side over the cells of the tracked predicates, and says whether it wins.
+// Solves the side over the cells of the tracked predicates, and says whether it wins. Where the upper side fails, `far`
+// is how far it came.
 pub(crate) fn solve_side<A: Arena>(
     alloc: Global,
     sided: &mut Sided<A>,
     region: NodeId,
+    far: &mut Iterates,
 ) -> Result<Option<Iterates>, AllocError>
     requires region_known { (A.ids sided.old.arena).knows region }
     requires holds { Holds (A.game sided.old.arena).states ((A.ids sided.old.arena).means region)
         (InRegion (A.game sided.old.arena)) }
+    requires carried { (d : DesignTree) × (A.ids sided.old.arena).of d × IsCarried d
+        (predicates_at (pool d) sided.old.tracked.items) (A.game sided.old.arena) (A.ids sided.old.arena) far.old }
     ensures found { IfOk result (λ o. (d : DesignTree) → (A.ids sided.old.arena).of d → MatchOption o
         (NoneOf d (predicates_at (pool d) sided.old.tracked.items) sided.old.upper)
         (λ it. IsWon d (predicates_at (pool d) sided.old.tracked.items) sided.old.upper (A.ids sided.new.arena) it)) }
+    ensures carried { IfOk result (λ o. (d : DesignTree) → (A.ids sided.old.arena).of d → CarriesOn d
+        (predicates_at (pool d) sided.old.tracked.items) (A.game sided.old.arena) (A.ids sided.old.arena)
+        (A.ids sided.new.arena) far.old far.new o) }
     ensures known { IfOk result (KnowsSome (A.ids sided.new.arena)) }
     ensures tracked { sided.new.tracked.items ≡ sided.old.tracked.items }
     ensures side { sided.new.upper ≡ sided.old.upper }
@@ -37,10 +45,12 @@ pub(crate) fn solve_side<A: Arena>(
     ensures stay { Stay (A.ids sided.old.arena) (A.ids sided.new.arena) }
 {
     if sided.upper {
-        let high = solve_upper(alloc, sided)?;
+        let begun = copied(alloc, far)?;
+        let high = solve_upper(alloc, sided, begun)?;
         if sided.arena.leaves_out(high.region)? {
             return Ok(Some(high));
         }
+        *far = high;
         return Ok(None);
     }
     let low = solve_lower_in(alloc, sided, region)?;

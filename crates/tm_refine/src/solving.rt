@@ -2,6 +2,7 @@
 ghost use Rattle.std.specs.Prelude.{◌≡◌, IfOk, false, true};
 ghost use Rattle.tm_flat_pool.specs.Predicates.{pool};
 ghost use Rattle.tm_game_pool.specs.Separating.{predicates_at};
+ghost use Rattle.tm_refine.specs.Carried.{IsCarried};
 ghost use Rattle.tm_refine.specs.Parts.{IsUnionOf, lower_game};
 ghost use Rattle.tm_refine.specs.Solved.{IsLowerOf, IsUpperOf};
 ghost use Rattle.tm_sem.specs.State.{StateData};
@@ -15,7 +16,7 @@ use crate::arena::Arena;
 use crate::sided::Sided;
 use std::alloc::{AllocError, Global};
 use tm_dd::NodeId;
-use tm_solve::{Iterates, solve, solve_from};
+use tm_solve::{Iterates, advance, same, solve_from};
 
 // Solves over the lower parts, from the lower part of the exact region.
 pub(crate) fn solve_lower_in<A: Arena>(
@@ -65,14 +66,20 @@ fn solve_lower_from<A: Arena>(
     solve_from(alloc, sided, start)
 }
 
-// Solves over the upper parts.
+// Solves over the upper parts, from where a solution over fewer cells was left, until an initial state is lost or no
+// more states are. So either the levels are a certificate, or no levels over these cells are.
 pub(crate) fn solve_upper<A: Arena>(
     alloc: Global,
     sided: &mut Sided<A>,
+    begun: Iterates,
 ) -> Result<Iterates, AllocError>
+    requires carried { (d : DesignTree) × (A.ids sided.old.arena).of d × IsCarried d
+        (predicates_at (pool d) sided.old.tracked.items) (A.game sided.old.arena) (A.ids sided.old.arena) begun }
     ensures upper { IfOk result (λ it. (d : DesignTree) → (A.ids sided.old.arena).of d → IsUpperOf d
         (predicates_at (pool d) sided.old.tracked.items) ((A.ids sided.new.arena).means it.region)
         (levels_of (A.ids sided.new.arena) it)) }
+    ensures carried { IfOk result (λ it. (d : DesignTree) → (A.ids sided.old.arena).of d → IsCarried d
+        (predicates_at (pool d) sided.old.tracked.items) (A.game sided.old.arena) (A.ids sided.new.arena) it) }
     ensures known { IfOk result (KnowsAll (A.ids sided.new.arena)) }
     ensures designs { (d : DesignTree) → (A.ids sided.old.arena).of d → (A.ids sided.new.arena).of d }
     ensures tracked { sided.new.tracked.items ≡ sided.old.tracked.items }
@@ -81,5 +88,15 @@ pub(crate) fn solve_upper<A: Arena>(
     ensures stay { Stay (A.ids sided.old.arena) (A.ids sided.new.arena) }
 {
     sided.upper = true;
-    solve(alloc, sided)
+    let mut far = begun;
+    'rounds: loop {
+        if sided.arena.leaves_out(far.region)? {
+            return Ok(far);
+        }
+        let before = far.region;
+        far = advance(alloc, sided, far)?;
+        if same(far.region, before) {
+            return Ok(far);
+        }
+    }
 }

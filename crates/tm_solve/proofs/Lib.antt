@@ -1,3 +1,5 @@
+mod AdvanceSteps
+pub mod Copies
 pub mod Fixed
 pub mod Following
 pub mod Items

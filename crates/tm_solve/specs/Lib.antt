@@ -1,3 +1,4 @@
+pub mod Begun
 pub mod Exact
 pub mod Fixpoints
 pub mod Game

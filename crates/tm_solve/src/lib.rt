@@ -4,6 +4,7 @@
 
 mod certificates;
 mod conditions;
+mod copying;
 mod goals;
 mod ids;
 mod iterates;
@@ -15,6 +16,8 @@ mod turns;
 pub use certificates::{
     levels_are_certified, ranked_sets_are_certified, sides_are_certified, told_operators_are_lawful,
 };
+pub use copying::copied;
+pub use ids::same;
 pub use iterates::{Chain, Iterates, LevelSet, RankSet, Ranking};
 pub use pre::Pre;
-pub use solving::{solve, solve_from};
+pub use solving::{advance, solve, solve_from};

@@ -1,11 +1,12 @@
 //! The winning region: the greatest fixpoint over Z.
-ghost use Rattle.std.specs.Prelude.{◌≡◌, true, [], IfOk};
+ghost use Rattle.std.specs.Prelude.{◌≡◌, ◌≢◌, ◌<◌, true, [], IfOk};
+ghost use Rattle.tm_solve.specs.Begun.{IsBegun};
 ghost use Rattle.tm_solve.specs.Fixpoints.{Holds, InRegion};
 ghost use Rattle.tm_solve.specs.Ids.{Follows};
 ghost use Rattle.tm_solve.specs.Iterates.{driver_sets, EndAt, KnowsAll, levels_of};
 ghost use Rattle.tm_solve.specs.Levels.{LevelsFit};
 ghost use Rattle.tm_solve.specs.Ranks.{RanksFit};
-ghost use Rattle.tm_solve.specs.Sets.{IsAmong};
+ghost use Rattle.tm_solve.specs.Sets.{IsAmong, count};
 ghost use Rattle.tm_sem.specs.State.{StateData};
 
 use crate::ids::same;
@@ -81,4 +82,29 @@ pub fn solve_from<P: Pre>(alloc: Global, pre: &mut P, start: NodeId) -> Result<I
         }
         z = played.region;
     }
+}
+
+/// One round of the fixpoint over Z, from iterates from which a solution may go on: their set holds the region, and
+/// their levels lead to all that is outside it. So a solution may be left after any round, and gone on with over a
+/// lower operator, as one over more cells (levels of a higher operator are ones of it): what is outside is lost.
+///
+/// The set that is left is the region where it is the same id, and has fewer states where it is another. The ranked
+/// sets are those of the round.
+pub fn advance<P: Pre>(alloc: Global, pre: &mut P, begun: Iterates) -> Result<Iterates, AllocError>
+    requires begun { IsBegun (P.game pre.old) (P.ids pre.old) begun }
+    ensures begun { IfOk result (IsBegun (P.game pre.old) (P.ids pre.new)) }
+    ensures ends { IfOk result (λ it. it.region ≡ begun.region
+        → Holds (P.game pre.old).states ((P.ids pre.new).means it.region) (InRegion (P.game pre.old))) }
+    ensures falls { IfOk result (λ it. it.region ≢ begun.region
+        → count (P.game pre.old).states ((P.ids pre.new).means it.region)
+        < count (P.game pre.old).states ((P.ids pre.old).means begun.region)) }
+    ensures follows { Follows (P.game pre.old) (P.ids pre.old) (P.game pre.new) (P.ids pre.new) }
+{
+    let mut levels = begun.levels;
+    let remaining = play_round(alloc, pre, begun.region, &mut levels)?;
+    Ok(Iterates {
+        region: remaining.region,
+        ranks: remaining.ranks,
+        levels,
+    })
 }

@@ -1,5 +1,7 @@
-use Rattle.std.proofs.Common.{length, ◌∙◌, arith}
+use Rattle.std.proofs.Common.{List, length, sym, ◌∙◌, subst, arith}
 use Rattle.tm_flat_pool.specs.Predicates.{pool}
+use Rattle.tm_refine.specs.declared.trace.Added.{Added}
+use Rattle.tm_refine.specs.Carried.{AreCarried}
 use Rattle.tm_refine.proofs.OneSide.{named}
 use Rattle.tm_refine.proofs.NarrowSteps.{failed_at, first_at, first_read, other_at, searching_first, won_at}
 use Rattle.tm_refine.proofs.deciding.decide.Goals as goal
@@ -26,6 +28,23 @@ widen-requires-clause-named g c =
 pub widen-requires-clause-region_known : goal.widen-requires-clause-region_known
 widen-requires-clause-region_known g c =
     c.leaves_out.ensures.follows.extends.known c.in_ok-whole.whole.region c.in_ok-whole.ensures.known.region
+
+pub narrow-requires-clause-carried : goal.narrow-requires-clause-carried
+narrow-requires-clause-carried g c =
+    let d = c.requires.of.0 in
+    let of = c.requires.of.1 in
+    let solved = c.solve_exact.ensures.follows.extends.of d of in
+    let there = c.leaves_out.ensures.follows.extends.of d solved in
+    let size = g.met.A.Arena.pool_size c.leaves_out.new.self d there in
+    let below = c.first-first.ensures.below in
+    let first = c.first-first.result in
+    let begun = searching_first d first c.in_ok-sided-2.field-0.items c.in_ok-sided-2.ensures (omega arith) in (
+      d,
+      c.widen.ensures.designs d there,
+      subst (λ (l : List Added). AreCarried d first l (g.A.Arena.game c.widen.new.sided.arena)
+          (g.A.Arena.ids c.widen.new.sided.arena) c.in_ok-won.won.count c.in_ok-won.won.far)
+          (sym c.deref.ensures.value) (c.in_ok-won.ensures.carried d first there begun),
+    )
 
 pub returns-clause-decided : goal.returns-clause-decided
 returns-clause-decided g c = λ d of.

@@ -1,4 +1,5 @@
 use Rattle.std.proofs.Common.{◌≡◌, ◌≤◌, ◌-◌, ℕ, [], length}
+use Rattle.tm_refine.specs.Carried.{AreCarried}
 use Rattle.tm_refine.specs.Searching.{AreFailed, IsSearching}
 use Rattle.tm_solve.specs.Fixpoints.{Holds, InRegion}
 use Rattle.tm_syntax.specs.Design.{DesignTree}
@@ -16,6 +17,9 @@ invariant-fails g l = record {
       IsSearching d first l.fn.sided.tracked.items [] → IsSearching d first l.sided.tracked.items l.added.items;
   failed : (d : DesignTree) (first : ℕ) → (g.A.Arena.ids l.fn.sided.arena).of d →
       IsSearching d first l.fn.sided.tracked.items [] → AreFailed d first l.added.items l.fn.sided.upper l.count;
+  carried : (d : DesignTree) (first : ℕ) → (g.A.Arena.ids l.fn.sided.arena).of d →
+      IsSearching d first l.fn.sided.tracked.items [] → AreCarried d first l.added.items
+      (g.A.Arena.game l.sided.arena) (g.A.Arena.ids l.sided.arena) l.count l.far;
   within : l.count ≤ length l.added.items;
 }
 

@@ -1,29 +1,237 @@
-use Rattle.std.proofs.lemmas.Result.{IfOk-weaker}
+use Rattle.std.proofs.Common.{refl, sym, ◌∙◌}
 use Rattle.tm_flat_pool.specs.Predicates.{pool}
 use Rattle.tm_game_pool.specs.Separating.{predicates_at}
-use Rattle.tm_refine.proofs.RoundSides.{upper_of, if_three, cells_there, knows_first, same_tracked}
+use Rattle.tm_solve.proofs.Following.{told_other, told_same}
+use Rattle.tm_refine.proofs.Carrying.{begun_here, carried_here, carried_known, carried_other, carried_stay, falls_here, lost_here, open_here}
+use Rattle.tm_refine.proofs.RoundSides.{cells_there, out_is, same_game, same_tracked, same_upper, stay_beside}
+use Rattle.tm_refine.proofs.SearchSteps.{stay_of, stay_self, stay_then}
 use Rattle.tm_refine.proofs.solving.solve_upper.Goals as goal
 
-pub returns-clause-upper : goal.returns-clause-upper
-returns-clause-upper g c = if_three c.solve.result _ _ _ _ (λ it region known levels d of.
-    let there = c.solve.ensures.follows.extends.of d of in
-    let here = g.met.A.Arena.exact c.args.sided.now.arena d of in
-    let left = g.met.A.Arena.exact c.solve.new.pre.arena d there in
-    upper_of d here.0 (g.A.Arena.game c.args.sided.now.arena) (g.A.Arena.game c.solve.new.pre.arena) here.1 left.0
-    left.1 (predicates_at (pool d) c.args.sided.now.tracked.items)
-    (g.A.Arena.tests c.args.sided.now.arena c.args.sided.now.tracked.items)
-    (g.A.Arena.tests c.solve.new.pre.arena c.solve.new.pre.tracked.items)
-    (g.met.A.Arena.cells c.args.sided.now.arena d c.args.sided.now.tracked.items of)
-    (cells_there d (pool d) c.solve.new.pre.tracked.items c.args.sided.now.tracked.items _
-    (same_tracked _ _ c.solve.ensures.follows.extends.side)
-    (g.met.A.Arena.cells c.solve.new.pre.arena d c.solve.new.pre.tracked.items there))
-    c.solve.new.pre.upper c.solve.new.pre.tracked.items
-    (g.A.Arena.ids c.solve.new.pre.arena) it known region levels)
-    c.solve.ensures.region c.solve.ensures.known c.solve.ensures.levels
+pub rounds-init : goal.rounds-init
+rounds-init g c =
+    let carried = c.requires.carried in
+    let arena = c.args.sided.now.arena in
+    let ks = c.args.sided.now.tracked.items in
+    record {
+      stay = stay_self;
+      game = refl;
+      tracked = refl;
+      side = refl;
+      carried = λ d of.
+          carried_other carried.0 d (g.met.A.Arena.exact arena carried.0 carried.1).0 (g.met.A.Arena.exact arena d of).0
+          (g.A.Arena.game arena) (g.met.A.Arena.exact arena carried.0 carried.1).1 (g.met.A.Arena.exact arena d of).1
+          (predicates_at (pool carried.0) ks) (predicates_at (pool d) ks) (g.A.Arena.tests arena ks)
+          (g.met.A.Arena.cells arena carried.0 ks carried.1) (g.met.A.Arena.cells arena d ks of)
+          (g.A.Arena.ids arena) c.args.begun carried.2;
+    }
 
-pub returns-clause-known : goal.returns-clause-known
-returns-clause-known g c = IfOk-weaker c.solve.result _ _ (λ it known.
-    knows_first c.solve.new.pre.upper c.solve.new.pre.tracked.items
-    (g.A.Arena.tests c.solve.new.pre.arena c.solve.new.pre.tracked.items)
-    (g.A.Arena.game c.solve.new.pre.arena)
-    (g.A.Arena.ids c.solve.new.pre.arena) it known) c.solve.ensures.known
+pub leaves_out-requires : goal.leaves_out-requires
+leaves_out-requires g c =
+    record { set_known = (c.rounds.invariant.carried c.requires.carried.0 c.requires.carried.1).known.region.0 }
+
+pub advance-requires : goal.advance-requires
+advance-requires g c =
+    let d = c.requires.carried.0 in
+    let of = c.requires.carried.1 in
+    let inv = c.rounds.invariant in
+    let P = predicates_at (pool d) c.args.sided.now.tracked.items in
+    let now = inv.stay.of d of in
+    let there = c.leaves_out.ensures.follows.extends.of d now in
+    let exact = (g.met.A.Arena.exact c.args.sided.now.arena d of).1 in
+    let tests = g.A.Arena.tests c.leaves_out.new.self c.rounds.sided.tracked.items in
+    let cells = cells_there d (pool d) c.rounds.sided.tracked.items c.args.sided.now.tracked.items tests inv.tracked
+    (g.met.A.Arena.cells c.leaves_out.new.self d c.rounds.sided.tracked.items there) in
+    let game = c.leaves_out.ensures.follows.game ∙ inv.game in
+    record {
+      begun = begun_here exact P tests cells c.rounds.sided.upper inv.side (g.A.Arena.game c.leaves_out.new.self) game
+          c.rounds.sided.tracked.items (g.A.Arena.ids c.leaves_out.new.self) c.rounds.far
+          (carried_stay d P (g.A.Arena.game c.args.sided.now.arena) (g.A.Arena.ids c.rounds.sided.arena)
+          (g.A.Arena.ids c.leaves_out.new.self)
+          c.rounds.far (stay_of c.leaves_out.ensures.follows) (inv.carried d of));
+    }
+
+pub returns-then-branch-clause-upper : goal.returns-then-branch-clause-upper
+returns-then-branch-clause-upper g c = λ d of.
+    let inv = c.rounds.invariant in
+    let P = predicates_at (pool d) c.args.sided.now.tracked.items in
+    let now = inv.stay.of d of in
+    lost_here (g.met.A.Arena.exact c.args.sided.now.arena d of).1 P (g.A.Arena.ids c.rounds.sided.arena)
+    (g.A.Arena.ids c.leaves_out.new.self) c.rounds.far
+    (stay_of c.leaves_out.ensures.follows) (inv.carried d of)
+    (out_is d ((g.A.Arena.ids c.rounds.sided.arena).means c.rounds.far.region) _ _ c.if-branch.true
+    (c.in_ok-leaves_out.ensures.out d now))
+
+pub returns-then-branch-clause-carried : goal.returns-then-branch-clause-carried
+returns-then-branch-clause-carried g c = λ d of.
+    let inv = c.rounds.invariant in
+    let P = predicates_at (pool d) c.args.sided.now.tracked.items in
+    carried_stay d P (g.A.Arena.game c.args.sided.now.arena) (g.A.Arena.ids c.rounds.sided.arena)
+    (g.A.Arena.ids c.leaves_out.new.self)
+    c.rounds.far (stay_of c.leaves_out.ensures.follows) (inv.carried d of)
+
+pub returns-then-branch-clause-known : goal.returns-then-branch-clause-known
+returns-then-branch-clause-known g c =
+    let d = c.requires.carried.0 in
+    let of = c.requires.carried.1 in
+    let inv = c.rounds.invariant in
+    let P = predicates_at (pool d) c.args.sided.now.tracked.items in
+    carried_known d P (g.A.Arena.game c.args.sided.now.arena) (g.A.Arena.ids c.leaves_out.new.self) c.rounds.far
+    (carried_stay d P (g.A.Arena.game c.args.sided.now.arena) (g.A.Arena.ids c.rounds.sided.arena) (g.A.Arena.ids
+    c.leaves_out.new.self)
+    c.rounds.far (stay_of c.leaves_out.ensures.follows) (inv.carried d of))
+
+pub returns-then-same-clause-upper : goal.returns-then-same-clause-upper
+returns-then-same-clause-upper g c = λ d of.
+    let inv = c.rounds.invariant in
+    let P = predicates_at (pool d) c.args.sided.now.tracked.items in
+    let now = inv.stay.of d of in
+    let there = c.leaves_out.ensures.follows.extends.of d now in
+    let exact = (g.met.A.Arena.exact c.args.sided.now.arena d of).1 in
+    let tests = g.A.Arena.tests c.leaves_out.new.self c.rounds.sided.tracked.items in
+    let cells = cells_there d (pool d) c.rounds.sided.tracked.items c.args.sided.now.tracked.items tests inv.tracked
+    (g.met.A.Arena.cells c.leaves_out.new.self d c.rounds.sided.tracked.items there) in
+    let game = c.leaves_out.ensures.follows.game ∙ inv.game in
+    let side = c.advance.ensures.follows.extends.side in
+    let left = c.advance.ensures.follows.extends.of d there in
+    let tests' = g.A.Arena.tests c.advance.new.pre.arena c.advance.new.pre.tracked.items in
+    let cells' = cells_there d (pool d) c.advance.new.pre.tracked.items c.args.sided.now.tracked.items tests'
+    (same_tracked _ _ side ∙ inv.tracked) (g.met.A.Arena.cells c.advance.new.pre.arena d
+    c.advance.new.pre.tracked.items left) in
+    let carried = carried_here exact P tests cells c.rounds.sided.upper inv.side (g.A.Arena.game c.leaves_out.new.self)
+    game tests' cells' c.advance.new.pre.upper c.advance.new.pre.tracked.items (g.A.Arena.game c.advance.new.pre.arena)
+    (same_game _ _ side ∙ game) (g.A.Arena.ids c.advance.new.pre.arena) c.in_ok-far.far c.in_ok-far.ensures.begun in
+    open_here exact P tests cells c.rounds.sided.upper inv.side (g.A.Arena.game c.leaves_out.new.self) game
+    (g.A.Arena.ids c.advance.new.pre.arena) c.in_ok-far.far carried
+    (c.in_ok-far.ensures.ends (told_same c.if-same.ensures))
+
+pub returns-then-same-clause-carried : goal.returns-then-same-clause-carried
+returns-then-same-clause-carried g c = λ d of.
+    let inv = c.rounds.invariant in
+    let P = predicates_at (pool d) c.args.sided.now.tracked.items in
+    let now = inv.stay.of d of in
+    let there = c.leaves_out.ensures.follows.extends.of d now in
+    let exact = (g.met.A.Arena.exact c.args.sided.now.arena d of).1 in
+    let tests = g.A.Arena.tests c.leaves_out.new.self c.rounds.sided.tracked.items in
+    let cells = cells_there d (pool d) c.rounds.sided.tracked.items c.args.sided.now.tracked.items tests inv.tracked
+    (g.met.A.Arena.cells c.leaves_out.new.self d c.rounds.sided.tracked.items there) in
+    let game = c.leaves_out.ensures.follows.game ∙ inv.game in
+    let side = c.advance.ensures.follows.extends.side in
+    let left = c.advance.ensures.follows.extends.of d there in
+    let tests' = g.A.Arena.tests c.advance.new.pre.arena c.advance.new.pre.tracked.items in
+    let cells' = cells_there d (pool d) c.advance.new.pre.tracked.items c.args.sided.now.tracked.items tests'
+    (same_tracked _ _ side ∙ inv.tracked) (g.met.A.Arena.cells c.advance.new.pre.arena d
+    c.advance.new.pre.tracked.items left) in
+    let carried = carried_here exact P tests cells c.rounds.sided.upper inv.side (g.A.Arena.game c.leaves_out.new.self)
+    game tests' cells' c.advance.new.pre.upper c.advance.new.pre.tracked.items (g.A.Arena.game c.advance.new.pre.arena)
+    (same_game _ _ side ∙ game) (g.A.Arena.ids c.advance.new.pre.arena) c.in_ok-far.far c.in_ok-far.ensures.begun in
+    carried
+
+pub returns-then-same-clause-known : goal.returns-then-same-clause-known
+returns-then-same-clause-known g c =
+    let d = c.requires.carried.0 in
+    let of = c.requires.carried.1 in
+    let inv = c.rounds.invariant in
+    let P = predicates_at (pool d) c.args.sided.now.tracked.items in
+    let now = inv.stay.of d of in
+    let there = c.leaves_out.ensures.follows.extends.of d now in
+    let exact = (g.met.A.Arena.exact c.args.sided.now.arena d of).1 in
+    let tests = g.A.Arena.tests c.leaves_out.new.self c.rounds.sided.tracked.items in
+    let cells = cells_there d (pool d) c.rounds.sided.tracked.items c.args.sided.now.tracked.items tests inv.tracked
+    (g.met.A.Arena.cells c.leaves_out.new.self d c.rounds.sided.tracked.items there) in
+    let game = c.leaves_out.ensures.follows.game ∙ inv.game in
+    let side = c.advance.ensures.follows.extends.side in
+    let left = c.advance.ensures.follows.extends.of d there in
+    let tests' = g.A.Arena.tests c.advance.new.pre.arena c.advance.new.pre.tracked.items in
+    let cells' = cells_there d (pool d) c.advance.new.pre.tracked.items c.args.sided.now.tracked.items tests'
+    (same_tracked _ _ side ∙ inv.tracked) (g.met.A.Arena.cells c.advance.new.pre.arena d
+    c.advance.new.pre.tracked.items left) in
+    let carried = carried_here exact P tests cells c.rounds.sided.upper inv.side (g.A.Arena.game c.leaves_out.new.self)
+    game tests' cells' c.advance.new.pre.upper c.advance.new.pre.tracked.items (g.A.Arena.game c.advance.new.pre.arena)
+    (same_game _ _ side ∙ game) (g.A.Arena.ids c.advance.new.pre.arena) c.in_ok-far.far c.in_ok-far.ensures.begun in
+    carried_known d P (g.A.Arena.game c.args.sided.now.arena) (g.A.Arena.ids c.advance.new.pre.arena) c.in_ok-far.far
+    carried
+
+pub rounds-smaller : goal.rounds-smaller
+rounds-smaller g c =
+    let inv = c.rounds.invariant in
+    let known = (inv.carried c.requires.carried.0 c.requires.carried.1).known.region.0 in
+    falls_here (g.A.Arena.game c.args.sided.now.arena) (g.A.Arena.game c.leaves_out.new.self)
+    (c.leaves_out.ensures.follows.game ∙ inv.game)
+    ((g.A.Arena.ids c.advance.new.pre.arena).means c.in_ok-far.far.region)
+    ((g.A.Arena.ids c.rounds.sided.arena).means c.rounds.far.region)
+    ((g.A.Arena.ids c.leaves_out.new.self).means c.rounds.far.region)
+    (c.leaves_out.ensures.follows.extends.same c.rounds.far.region known)
+    (c.in_ok-far.ensures.falls (told_other c.if-same.ensures))
+
+pub rounds-preserved : goal.rounds-preserved
+rounds-preserved g c =
+    let inv = c.rounds.invariant in
+    let extends = c.advance.ensures.follows.extends in
+    record {
+      stay = stay_then inv.stay (stay_then (stay_of c.leaves_out.ensures.follows)
+          (stay_beside c.rounds.sided.upper c.advance.new.pre.upper c.rounds.sided.tracked.items
+          c.advance.new.pre.tracked.items
+          (g.A.Arena.tests c.leaves_out.new.self c.rounds.sided.tracked.items)
+          (g.A.Arena.tests c.advance.new.pre.arena c.advance.new.pre.tracked.items)
+          (g.A.Arena.game c.leaves_out.new.self) (g.A.Arena.game c.advance.new.pre.arena)
+          (g.A.Arena.ids c.leaves_out.new.self)
+          (g.A.Arena.ids c.advance.new.pre.arena) extends));
+      game = same_game _ _ extends.side ∙ c.leaves_out.ensures.follows.game ∙ inv.game;
+      tracked = same_tracked _ _ extends.side ∙ inv.tracked;
+      side = same_upper _ _ extends.side ∙ inv.side;
+      carried = λ d of.
+          let inv = c.rounds.invariant in
+          let P = predicates_at (pool d) c.args.sided.now.tracked.items in
+          let now = inv.stay.of d of in
+          let there = c.leaves_out.ensures.follows.extends.of d now in
+          let exact = (g.met.A.Arena.exact c.args.sided.now.arena d of).1 in
+          let tests = g.A.Arena.tests c.leaves_out.new.self c.rounds.sided.tracked.items in
+          let cells = cells_there d (pool d) c.rounds.sided.tracked.items c.args.sided.now.tracked.items tests
+          inv.tracked
+          (g.met.A.Arena.cells c.leaves_out.new.self d c.rounds.sided.tracked.items there) in
+          let game = c.leaves_out.ensures.follows.game ∙ inv.game in
+          let side = c.advance.ensures.follows.extends.side in
+          let left = c.advance.ensures.follows.extends.of d there in
+          let tests' = g.A.Arena.tests c.advance.new.pre.arena c.advance.new.pre.tracked.items in
+          let cells' = cells_there d (pool d) c.advance.new.pre.tracked.items c.args.sided.now.tracked.items tests'
+          (same_tracked _ _ side ∙ inv.tracked) (g.met.A.Arena.cells c.advance.new.pre.arena d
+          c.advance.new.pre.tracked.items left) in
+          let carried = carried_here exact P tests cells c.rounds.sided.upper inv.side
+          (g.A.Arena.game c.leaves_out.new.self)
+          game tests' cells' c.advance.new.pre.upper c.advance.new.pre.tracked.items
+          (g.A.Arena.game c.advance.new.pre.arena)
+          (same_game _ _ side ∙ game) (g.A.Arena.ids c.advance.new.pre.arena) c.in_ok-far.far
+          c.in_ok-far.ensures.begun in
+          carried;
+    }
+
+pub returns-then-branch-clause-stay : goal.returns-then-branch-clause-stay
+returns-then-branch-clause-stay g c =
+    stay_then c.rounds.invariant.stay (stay_of c.leaves_out.ensures.follows)
+
+pub returns-in_err-far-clause-stay : goal.returns-in_err-far-clause-stay
+returns-in_err-far-clause-stay g c =
+    stay_then c.rounds.invariant.stay (stay_then (stay_of c.leaves_out.ensures.follows)
+    (stay_beside c.rounds.sided.upper c.advance.new.pre.upper c.rounds.sided.tracked.items
+    c.advance.new.pre.tracked.items
+    (g.A.Arena.tests c.leaves_out.new.self c.rounds.sided.tracked.items)
+    (g.A.Arena.tests c.advance.new.pre.arena c.advance.new.pre.tracked.items)
+    (g.A.Arena.game c.leaves_out.new.self) (g.A.Arena.game c.advance.new.pre.arena)
+    (g.A.Arena.ids c.leaves_out.new.self) (g.A.Arena.ids c.advance.new.pre.arena)
+    c.advance.ensures.follows.extends))
+
+pub returns-then-same-clause-designs : goal.returns-then-same-clause-designs
+returns-then-same-clause-designs g c =
+    λ d of. c.advance.ensures.follows.extends.of d
+    (c.leaves_out.ensures.follows.extends.of d (c.rounds.invariant.stay.of d of))
+
+pub returns-then-same-clause-stay : goal.returns-then-same-clause-stay
+returns-then-same-clause-stay g c =
+    stay_then c.rounds.invariant.stay (stay_then (stay_of c.leaves_out.ensures.follows)
+    (stay_beside c.rounds.sided.upper c.advance.new.pre.upper c.rounds.sided.tracked.items
+    c.advance.new.pre.tracked.items
+    (g.A.Arena.tests c.leaves_out.new.self c.rounds.sided.tracked.items)
+    (g.A.Arena.tests c.advance.new.pre.arena c.advance.new.pre.tracked.items)
+    (g.A.Arena.game c.leaves_out.new.self) (g.A.Arena.game c.advance.new.pre.arena)
+    (g.A.Arena.ids c.leaves_out.new.self) (g.A.Arena.ids c.advance.new.pre.arena)
+    c.advance.ensures.follows.extends))
