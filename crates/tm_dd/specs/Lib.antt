@@ -1,4 +1,5 @@
 pub mod Hashed
+pub mod Hasher
 pub mod Layout
 pub mod NodeId
 pub mod Reduced

@@ -6,9 +6,11 @@ ghost use Rattle.tm_dd.specs.Reduced.{Extends, IsDeeper, IsNode, IsReduced, Mean
 ghost use Rattle.tm_dd.specs.Table.{assignment, depth_of, entry_at, kept, Knows, level_of, means, node_of, rank_of};
 ghost use Rattle.tm_dd.specs.Unique.{AreRanks, IsEntry, IsKept, IsUniqueTable};
 
+use crate::hasher::NumberHasher;
 use crate::node::{FALSE, Node, NodeId, TRUE};
 use indexmap::IndexSet;
 use std::alloc::{AllocError, Global};
+use std::hash::BuildHasherDefault;
 use std::marker::Model;
 use tm_base::Steps;
 
@@ -21,7 +23,7 @@ use tm_base::Steps;
 pub struct Store {
     levels: u32,
     ranks: Vec<u32>,
-    entries: IndexSet<Node>,
+    entries: IndexSet<Node, BuildHasherDefault<NumberHasher>>,
 }
 
 impl Model for Store {
@@ -56,7 +58,7 @@ impl Store {
         ensures kept { IfOk result (λ s. kept s ≡ 0) }
         ensures reduced { IfOk result IsReduced }
     {
-        let mut entries = IndexSet::new(alloc);
+        let mut entries = IndexSet::with_hasher(alloc, BuildHasherDefault::new());
         entries.insert(Node {
             level: levels,
             lo: FALSE,

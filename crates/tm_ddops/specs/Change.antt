@@ -1,11 +1,13 @@
--- Changes of levels: when two are one, and their hashes.
-use Rattle.std.specs.Prelude.{◌≡◌, ℕ, ◌==◌, Bool, true, false, ◌&&◌, ◌++◌, List, IsTrue}
+-- Changes of levels: when two are one, and the hashes of their lists.
+use Rattle.std.specs.Prelude.{◌≡◌, ℕ, ◌-◌, ◌^◌, ◌==◌, Bool, true, false, ◌&&◌, List, IsTrue}
 use Rattle.std.specs.Bool.{Decides}
 use Rattle.std.specs.Cmp.{IsEquivalence, decided}
 use Rattle.std.specs.Cmp.Lexicographic.{pointwise, pointwise_decides, lists_equiv}
 use Rattle.std.specs.Hash as fed
+use Rattle.std.specs.List.{fold}
 use Rattle.std.proofs.Common.{refl, ap, subst, sym, ◌∙◌}
 use Rattle.std.proofs.lemmas.Bool.{eqb-true, eq-eqb}
+use Rattle.tm_dd.specs.Hashed.{mixed}
 use Rattle.tm_dd.specs.NodeId.{number_of}
 use Rattle.tm_ddops.specs.declared.change.Change.{Change}
 use Rattle.tm_ddops.specs.declared.change.Change.TheVariants.{Becomes, Quantified}
@@ -16,10 +18,10 @@ change_eq (Becomes f) (Becomes g) = number_of f == number_of g
 change_eq Quantified Quantified = true
 change_eq _ _ = false
 
--- the writes of a change's hash
-abbrev pub change_hash : Change → fed.HashWrites
-change_hash (Becomes f) = fed.u8 0 ++ fed.u64 (number_of f)
-change_hash Quantified = fed.u8 1
+-- a change as a number
+abbrev pub change_number : Change → ℕ
+change_number (Becomes f) = number_of f
+change_number Quantified = 2 ^ 64 - 1
 
 -- changes that `==` finds equal are one
 same_change : (a b : Change) → change_eq a b ≡ true → a ≡ b
@@ -41,19 +43,23 @@ change_Decides a b = (same_change a b, λ e. subst (λ x. change_eq a x ≡ true
 pub change_equiv : IsEquivalence change_eq
 change_equiv = decided change_eq change_Decides
 
--- equal changes have one hash
-pub same_change_hash : (a b : Change) → IsTrue (change_eq a b) → change_hash a ≡ change_hash b
-same_change_hash a b h = ap change_hash (same_change a b h)
-
 -- ---- levels with their changes
 
 -- whether two levels with their changes are one
 abbrev pub item_eq : ℕ × Change → ℕ × Change → Bool
 item_eq p q = (p.0 == q.0) && change_eq p.1 q.1
 
--- the writes of the hash of a level with its change
-abbrev pub item_hash : ℕ × Change → fed.HashWrites
-item_hash p = fed.u32 p.0 ++ change_hash p.1
+-- levels with their changes as one number
+unfoldable pub digest : List (ℕ × Change) → ℕ
+digest items = fold (λ number item. mixed number item.0 (change_number item.1)) 0 items
+
+-- a number is that of levels with their changes
+abbrev pub HasDigest : List (ℕ × Change) → ℕ → Type 0
+HasDigest items number = number ≡ digest items
+
+-- the writes of the hash of levels with their changes
+abbrev pub changes_hash : List (ℕ × Change) → fed.HashWrites
+changes_hash items = fed.u64 (digest items)
 
 -- what holds of both sides of `&&`
 both_true : (a b : Bool) → a && b ≡ true → (a ≡ true) × (b ≡ true)
@@ -83,6 +89,5 @@ pub same_changes : (xs ys : List (ℕ × Change)) → pointwise item_eq xs ys �
 same_changes xs ys h = (pointwise_decides item_Decides xs ys).0 h
 
 -- equal lists of changes have one hash
-pub same_hash : (xs ys : List (ℕ × Change)) → IsTrue (pointwise item_eq xs ys) →
-    fed.slice item_hash xs ≡ fed.slice item_hash ys
-same_hash xs ys h = ap (fed.slice item_hash) (same_changes xs ys h)
+pub same_hash : (xs ys : List (ℕ × Change)) → IsTrue (pointwise item_eq xs ys) → changes_hash xs ≡ changes_hash ys
+same_hash xs ys h = ap changes_hash (same_changes xs ys h)

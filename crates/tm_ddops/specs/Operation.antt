@@ -1,5 +1,5 @@
 -- Operations: when two are one, their operands, and their values.
-use Rattle.std.specs.Prelude.{◌≡◌, ℕ, ◌==◌, Bool, true, false, ◌&&◌, ◌||◌, not, ◌++◌, List, [], ◌∷◌, map, IsTrue, if◌then◌else◌}
+use Rattle.std.specs.Prelude.{◌≡◌, ℕ, ◌==◌, Bool, true, false, ◌&&◌, ◌||◌, not, List, [], ◌∷◌, map, IsTrue, if◌then◌else◌}
 use Rattle.std.specs.Bool.{Decides}
 use Rattle.std.specs.Cmp.{IsEquivalence, decided}
 use Rattle.std.specs.Cmp.Lexicographic.{pointwise}
@@ -9,11 +9,12 @@ use Rattle.std.specs.Option.{option_map_or}
 use Rattle.std.proofs.Common.{refl, ap, subst}
 use Rattle.std.proofs.lemmas.Bool.{eqb-true, eq-eqb}
 use Rattle.tm_dd.specs.declared.node.NodeId.{NodeId}
+use Rattle.tm_dd.specs.Hashed.{mixed}
 use Rattle.tm_dd.specs.NodeId.{number_of}
 use Rattle.tm_dd.specs.Table.{Table, means}
 use Rattle.tm_ddops.specs.declared.operation.Operation.{Operation}
 use Rattle.tm_ddops.specs.declared.operation.Operation.TheVariants.{And, Or, Xor, Ite, Compose}
-use Rattle.tm_ddops.specs.Parts.{part_eq, part_hash, parts_equiv, same_parts}
+use Rattle.tm_ddops.specs.Parts.{digest, part_eq, parts_equiv, same_parts}
 
 -- the operands of an operation
 abbrev pub operands : Operation → List NodeId
@@ -45,13 +46,17 @@ operation_eq (Ite f g h) (Ite x y z) = (number_of f == number_of x) && (number_o
 operation_eq (Compose f parts) (Compose x others) = (number_of f == number_of x) && pointwise part_eq parts others
 operation_eq _ _ = false
 
+-- an operation as one number
+abbrev pub operation_number : Operation → ℕ
+operation_number (And f g) = mixed 0 (number_of f) (number_of g)
+operation_number (Or f g) = mixed 1 (number_of f) (number_of g)
+operation_number (Xor f g) = mixed 2 (number_of f) (number_of g)
+operation_number (Ite f g h) = mixed (mixed 3 (number_of f) (number_of g)) (number_of h) 0
+operation_number (Compose f parts) = mixed 4 (number_of f) (digest parts)
+
 -- the writes of an operation's hash
 abbrev pub operation_hash : Operation → fed.HashWrites
-operation_hash (And f g) = fed.u8 0 ++ fed.u64 (number_of f) ++ fed.u64 (number_of g)
-operation_hash (Or f g) = fed.u8 1 ++ fed.u64 (number_of f) ++ fed.u64 (number_of g)
-operation_hash (Xor f g) = fed.u8 2 ++ fed.u64 (number_of f) ++ fed.u64 (number_of g)
-operation_hash (Ite f g h) = fed.u8 3 ++ fed.u64 (number_of f) ++ fed.u64 (number_of g) ++ fed.u64 (number_of h)
-operation_hash (Compose f parts) = fed.u8 4 ++ fed.u64 (number_of f) ++ fed.slice part_hash parts
+operation_hash operation = fed.u64 (operation_number operation)
 
 -- what holds of both sides of `&&`
 both_true : (a b : Bool) → a && b ≡ true → (a ≡ true) × (b ≡ true)

@@ -1,21 +1,26 @@
 -- The parts of a substitution.
-use Rattle.std.specs.Prelude.{◌≡◌, ℕ, ◌==◌, Bool, true, false, ◌&&◌, ◌++◌, List, IsTrue}
+use Rattle.std.specs.Prelude.{◌≡◌, ℕ, ◌==◌, Bool, true, false, ◌&&◌, List}
 use Rattle.std.specs.Cmp.{IsEquivalence, decided}
 use Rattle.std.specs.Cmp.Lexicographic.{pointwise, pointwise_decides, lists_equiv}
-use Rattle.std.specs.Hash as fed
+use Rattle.std.specs.List.{fold}
 use Rattle.std.specs.Bool.{Decides}
 use Rattle.std.proofs.Common.{refl, ap, sym, ◌∙◌}
 use Rattle.std.proofs.lemmas.Bool.{eqb-true, eq-eqb}
 use Rattle.tm_dd.specs.declared.node.NodeId.{NodeId}
+use Rattle.tm_dd.specs.Hashed.{mixed}
 use Rattle.tm_dd.specs.NodeId.{number_of}
 
 -- whether two parts are one
 abbrev pub part_eq : ℕ × NodeId → ℕ × NodeId → Bool
 part_eq p q = (p.0 == q.0) && (number_of p.1 == number_of q.1)
 
--- the writes of a part's hash
-abbrev pub part_hash : ℕ × NodeId → fed.HashWrites
-part_hash p = fed.u32 p.0 ++ fed.u64 (number_of p.1)
+-- parts as one number
+unfoldable pub digest : List (ℕ × NodeId) → ℕ
+digest parts = fold (λ number part. mixed number part.0 (number_of part.1)) 0 parts
+
+-- a number is that of parts
+abbrev pub HasDigest : List (ℕ × NodeId) → ℕ → Type 0
+HasDigest parts number = number ≡ digest parts
 
 -- what holds of both sides of `&&`
 both_true : (a b : Bool) → a && b ≡ true → (a ≡ true) × (b ≡ true)
@@ -47,8 +52,3 @@ parts_equiv = lists_equiv (decided part_eq part_Decides)
 -- lists of parts that `==` finds equal are one
 pub same_parts : (xs ys : List (ℕ × NodeId)) → pointwise part_eq xs ys ≡ true → xs ≡ ys
 same_parts xs ys h = (pointwise_decides part_Decides xs ys).0 h
-
--- equal lists of parts have one hash
-pub same_hash : (xs ys : List (ℕ × NodeId)) → IsTrue (pointwise part_eq xs ys) →
-    fed.slice part_hash xs ≡ fed.slice part_hash ys
-same_hash xs ys h = ap (fed.slice part_hash) (same_parts xs ys h)

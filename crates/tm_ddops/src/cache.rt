@@ -6,10 +6,11 @@ ghost use Rattle.tm_ddops.specs.declared.operation.Operation.{Operation as Key};
 use crate::operation::Operation;
 use lru::LruCache;
 use std::alloc::AllocError;
-use tm_dd::NodeId;
+use std::hash::BuildHasherDefault;
+use tm_dd::{NodeId, NumberHasher};
 
 /// Results of operations, of which the one that was used longest ago goes first.
-pub(crate) type Cache = LruCache<Operation, NodeId>;
+pub(crate) type Cache = LruCache<Operation, NodeId, BuildHasherDefault<NumberHasher>>;
 
 /// The remembered result of an operation, which then is the one that was used last.
 pub(crate) fn recall(cache: &mut Cache, operation: &Operation) -> Option<NodeId>

@@ -2,15 +2,15 @@
 ghost use Rattle.std.specs.Prelude.{◌≡◌, ◌==◌, ◌<◌, ◌≤◌, ℕ, None, Some, IfOk, length, map, if◌then◌else◌};
 ghost use Rattle.std.specs.Cmp.{partial_equiv_from_equiv};
 ghost use Rattle.std.specs.Cmp.Lexicographic.{pointwise};
-ghost use Rattle.std.specs.Hash as fed;
 ghost use Rattle.tm_dd.specs.Reduced.{IsReduced};
+ghost use Rattle.tm_ddops.specs.Change.{change_number, digest};
 ghost use Rattle.tm_ddops.specs.Changed.{IsDepth, change_at, change_of, first_of};
 ghost use Rattle.tm_ddops.specs.declared.change.Change.TheVariants as change;
 
 use std::alloc::{AllocError, Global};
 use std::hash::{Hash, Hasher};
 use std::marker::Model;
-use tm_dd::{NodeId, Store};
+use tm_dd::{NodeId, Store, mixed};
 
 /// What becomes of a level.
 #[derive(Clone, Copy)]
@@ -43,20 +43,14 @@ impl Eq for Change {
     ghost laws = { change_equiv };
 }
 
-impl Hash for Change {
-    ghost use Rattle.tm_ddops.specs.Change.{change_hash, same_change_hash};
-
-    ghost hash_input = { change_hash };
-
-    ghost respects_eq = { same_change_hash };
-
-    fn hash<H: Hasher>(&self, state: &mut H) {
+impl Change {
+    // The change as a number, which a digest takes.
+    fn number(self) -> u64
+        ensures { result ≡ change_number self }
+    {
         match self {
-            Change::Becomes(f) => {
-                state.write_u8(0);
-                f.hash(state);
-            }
-            Change::Quantified => state.write_u8(1),
+            Change::Becomes(f) => f.number(),
+            Change::Quantified => u64::MAX,
         }
     }
 }
@@ -65,6 +59,8 @@ impl Hash for Change {
 #[derive(Drop)]
 pub struct Changes {
     list: Vec<(u32, Change)>,
+    // The list as one number, which a hasher takes in one write.
+    digest: u64,
 }
 
 impl Model for Changes {
@@ -73,7 +69,11 @@ impl Model for Changes {
 
     ghost Value = { List (ℕ × Change) };
 
+    ghost use Rattle.tm_ddops.specs.Change.{HasDigest};
+
     ghost view = { λ c. c.list.items };
+
+    ghost invariant = { λ c. HasDigest c.list.items c.digest };
 }
 
 impl Changes {
@@ -81,22 +81,24 @@ impl Changes {
     pub(crate) fn from_parts(alloc: Global, parts: &[(u32, NodeId)]) -> Result<Changes, AllocError>
         ensures { IfOk result (λ c. c ≡ map (λ p. (p.0, change.Becomes p.1)) parts.now) }
     {
-        let list = parts
+        let list: Vec<(u32, Change)> = parts
             .iter()
             .map(|part| (part.0, Change::Becomes(part.1)))
             .collect(alloc)?;
-        Ok(Changes { list })
+        let digest = digest(&list);
+        Ok(Changes { list, digest })
     }
 
     /// The levels may have any value.
     pub(crate) fn from_levels(alloc: Global, levels: &[u32]) -> Result<Changes, AllocError>
         ensures { IfOk result (λ c. c ≡ map (λ l. (l, change.Quantified)) levels.now) }
     {
-        let list = levels
+        let list: Vec<(u32, Change)> = levels
             .iter()
             .map(|level| (*level, Change::Quantified))
             .collect(alloc)?;
-        Ok(Changes { list })
+        let digest = digest(&list);
+        Ok(Changes { list, digest })
     }
 
     /// The levels and their changes.
@@ -126,15 +128,26 @@ impl Eq for Changes {
 }
 
 impl Hash for Changes {
-    ghost use Rattle.tm_ddops.specs.Change.{item_hash, same_hash};
+    ghost use Rattle.tm_ddops.specs.Change.{changes_hash, same_hash};
 
-    ghost hash_input = { fed.slice item_hash };
+    ghost hash_input = { changes_hash };
 
     ghost respects_eq = { same_hash };
 
     fn hash<H: Hasher>(&self, state: &mut H) {
-        self.as_slice().hash(state);
+        state.write_u64(self.digest);
     }
+}
+
+/// A list of levels with their changes as one number.
+fn digest(list: &[(u32, Change)]) -> u64
+    ensures { result ≡ digest list.now }
+{
+    let mut digest = 0;
+    for (level, change) in list {
+        digest = mixed(digest, u64::from(*level), change.number());
+    }
+    digest
 }
 
 /// The changes by their levels below `count`.

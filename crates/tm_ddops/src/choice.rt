@@ -78,14 +78,15 @@ impl Choice {
         upper(store, store.level(self.test), branch)
     }
 
-    /// The choice where the value of its highest level is false, and where it is true.
-    pub(crate) fn cofactors(self, store: &Store) -> (Choice, Choice)
+    /// The choice where the value of its highest level, which is this one, is false, and where it is true.
+    pub(crate) fn cofactors(self, store: &Store, level: u32) -> (Choice, Choice)
+        requires reduced { IsReduced store.now }
         requires known { KnowsChoice store.now self }
         requires open { IsOpen self }
+        requires level { level ≡ choice_level store.now self }
         ensures low { result.0 ≡ cofactor_choice store.now self false }
         ensures high { result.1 ≡ cofactor_choice store.now self true }
     {
-        let level = self.level(store);
         let (test_low, test_high) = cofactors(store, self.test, level);
         let (true_low, true_high) = cofactors(store, self.if_true, level);
         let (false_low, false_high) = cofactors(store, self.if_false, level);

@@ -12,6 +12,7 @@ mod ite;
 mod least;
 mod manager;
 mod operation;
+mod quantifiers;
 mod quantify;
 mod reached;
 mod rewrite;

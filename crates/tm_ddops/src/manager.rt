@@ -9,6 +9,7 @@ ghost use Rattle.tm_ddops.specs.Changed.{IsChanged, KnowsParts, change_of};
 ghost use Rattle.tm_ddops.specs.Choice.{choice_value, KnowsChoice};
 ghost use Rattle.tm_ddops.specs.Manager.{Grows, IsFunction, IsManager, IsResult, Remembers, most_results};
 ghost use Rattle.tm_ddops.specs.Inner.Memo.{HasOpen};
+ghost use Rattle.tm_ddops.specs.Inner.Quantifiers.{quantified};
 ghost use Rattle.tm_ddops.specs.Operation.{operands, operation_value};
 ghost use Rattle.tm_dd.specs.declared.node.NodeId.{NodeId as Id};
 ghost use Rattle.tm_ddops.specs.declared.choice.Choice.{Choice as Met};
@@ -21,6 +22,7 @@ use crate::tables::Tables;
 use crate::walk::walk;
 use lru::LruCache;
 use std::alloc::{AllocError, Global};
+use std::hash::BuildHasherDefault;
 use std::marker::Model;
 use std::num::NonZeroUsize;
 use tm_base::Steps;
@@ -225,6 +227,19 @@ impl Manager {
         self.tables.rewrite(self.alloc, &mut self.store, f, changes)
     }
 
+    // What is left of `f` where levels may have any value. It remembers nothing.
+    pub(crate) fn eliminate(&mut self, f: NodeId, levels: &[u32]) -> Result<NodeId, AllocError>
+        requires known { Knows self.old.table f }
+
+        ensures manager { IsManager self.new }
+        ensures extends { Extends self.old.table self.new.table }
+        ensures results { self.new.results ≡ self.old.results }
+        ensures answer { IfOk result (IsChanged self.new.table (change_of (quantified levels.now)) f) }
+    {
+        self.tables.limit(self.alloc);
+        self.tables.exists(self.alloc, &mut self.store, f, levels)
+    }
+
     // The result of an operation that is a choice: the remembered one, or that of a walk, which then is remembered.
     pub(crate) fn answered<L>(
         &mut self,
@@ -262,5 +277,7 @@ pub(crate) fn empty_cache(alloc: Global) -> Result<Cache, AllocError>
     ensures empty { IfOk result (λ cache. cache.entries ≡ []) }
     ensures room { IfOk result (λ cache. cache.cap ≡ most_results) }
 {
-    LruCache::sparse(alloc, NonZeroUsize::MIN.saturating_add(ROOM - 1))
+    let mut cache = LruCache::unbounded_with_hasher(alloc, BuildHasherDefault::new())?;
+    cache.resize(NonZeroUsize::MIN.saturating_add(ROOM - 1));
+    Ok(cache)
 }

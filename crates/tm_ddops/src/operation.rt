@@ -2,17 +2,20 @@
 ghost use Rattle.std.specs.Prelude.{◌≡◌, IfOk};
 ghost use Rattle.std.specs.Cmp.{partial_equiv_from_equiv};
 ghost use Rattle.std.specs.Cmp.Lexicographic.{pointwise};
-ghost use Rattle.std.specs.Hash as fed;
+ghost use Rattle.tm_ddops.specs.Operation.{operation_number};
+ghost use Rattle.tm_ddops.specs.Parts.{digest};
 
 use std::alloc::{AllocError, Global};
 use std::hash::{Hash, Hasher};
 use std::marker::Model;
-use tm_dd::NodeId;
+use tm_dd::{NodeId, mixed};
 
 /// The parts of a substitution: levels, each with the function that stands in its place. A contract sees their list.
 #[derive(Drop)]
 pub struct Parts {
     list: Vec<(u32, NodeId)>,
+    // The list as one number, which a hasher takes in one write.
+    digest: u64,
 }
 
 impl Model for Parts {
@@ -21,7 +24,11 @@ impl Model for Parts {
 
     ghost Value = { List (ℕ × NodeId) };
 
+    ghost use Rattle.tm_ddops.specs.Parts.{HasDigest};
+
     ghost view = { λ p. p.list.items };
+
+    ghost invariant = { λ p. HasDigest p.list.items p.digest };
 }
 
 impl Parts {
@@ -31,6 +38,7 @@ impl Parts {
     {
         Ok(Parts {
             list: Vec::from_slice(alloc, parts)?,
+            digest: digest(parts),
         })
     }
 
@@ -60,16 +68,15 @@ impl Eq for Parts {
     ghost laws = { parts_equiv };
 }
 
-impl Hash for Parts {
-    ghost use Rattle.tm_ddops.specs.Parts.{part_hash, same_hash};
-
-    ghost hash_input = { fed.slice part_hash };
-
-    ghost respects_eq = { same_hash };
-
-    fn hash<H: Hasher>(&self, state: &mut H) {
-        self.as_slice().hash(state);
+/// Levels with the functions that stand in their places, as one number.
+fn digest(parts: &[(u32, NodeId)]) -> u64
+    ensures { result ≡ digest parts.now }
+{
+    let mut digest = 0;
+    for (level, part) in parts {
+        digest = mixed(digest, u64::from(*level), part.number());
     }
+    digest
 }
 
 /// An operation with its operands. `And`, `Or` and `Xor` have the smaller id first.
@@ -80,6 +87,21 @@ pub enum Operation {
     Xor(NodeId, NodeId),
     Ite(NodeId, NodeId, NodeId),
     Compose(NodeId, Parts),
+}
+
+impl Operation {
+    // The operation as one number, which a hasher takes in one write.
+    fn number(&self) -> u64
+        ensures { result ≡ operation_number self.now }
+    {
+        match self {
+            Operation::And(f, g) => mixed(0, f.number(), g.number()),
+            Operation::Or(f, g) => mixed(1, f.number(), g.number()),
+            Operation::Xor(f, g) => mixed(2, f.number(), g.number()),
+            Operation::Ite(f, g, h) => mixed(mixed(3, f.number(), g.number()), h.number(), 0),
+            Operation::Compose(f, parts) => mixed(4, f.number(), parts.digest),
+        }
+    }
 }
 
 impl PartialEq for Operation {
@@ -117,33 +139,6 @@ impl Hash for Operation {
     ghost respects_eq = { same_operation_hash };
 
     fn hash<H: Hasher>(&self, state: &mut H) {
-        match self {
-            Operation::And(f, g) => {
-                state.write_u8(0);
-                f.hash(state);
-                g.hash(state);
-            }
-            Operation::Or(f, g) => {
-                state.write_u8(1);
-                f.hash(state);
-                g.hash(state);
-            }
-            Operation::Xor(f, g) => {
-                state.write_u8(2);
-                f.hash(state);
-                g.hash(state);
-            }
-            Operation::Ite(f, g, h) => {
-                state.write_u8(3);
-                f.hash(state);
-                g.hash(state);
-                h.hash(state);
-            }
-            Operation::Compose(f, parts) => {
-                state.write_u8(4);
-                f.hash(state);
-                parts.hash(state);
-            }
-        }
+        state.write_u64(self.number());
     }
 }

@@ -4,7 +4,6 @@ ghost use Rattle.tm_dd.specs.Table.{Knows};
 ghost use Rattle.tm_ddops.specs.Manager.{Grows, IsManager};
 ghost use Rattle.tm_ddops.specs.Quantified.{IsExists, IsForall};
 
-use crate::change::Changes;
 use crate::manager::Manager;
 use std::alloc::AllocError;
 use tm_dd::NodeId;
@@ -17,8 +16,7 @@ impl Manager {
         ensures grows { Grows self.old self.new }
         ensures answer { IfOk result (IsExists self.new.table levels.now f) }
     {
-        let changes = Changes::from_levels(self.alloc, levels)?;
-        self.rewrite(f, changes)
+        self.eliminate(f, levels)
     }
 
     /// The function that is true where `f` is true for all values of the levels.

@@ -15,9 +15,9 @@ use crate::choice::Choice;
 use crate::walk::{Memo, branch, choose};
 use std::alloc::{AllocError, Global};
 use std::collections::HashMap;
-use std::hash::{Hash, Hasher};
+use std::hash::{BuildHasherDefault, Hash, Hasher};
 use tm_base::Steps;
-use tm_dd::{FALSE, NodeId, Store, TRUE, mixed};
+use tm_dd::{FALSE, NodeId, NumberHasher, Store, TRUE, mixed};
 
 /// A function that a walk met, under changes of this number.
 #[derive(Clone, Copy, PartialEq, Eq)]
@@ -42,7 +42,7 @@ impl Hash for Visit {
 #[derive(Drop)]
 pub struct Walks {
     pub(crate) choices: Memo,
-    pub(crate) found: HashMap<Visit, NodeId>,
+    pub(crate) found: HashMap<Visit, NodeId, BuildHasherDefault<NumberHasher>>,
 }
 
 impl Walks {

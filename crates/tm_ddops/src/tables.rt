@@ -2,17 +2,20 @@
 ghost use Rattle.std.specs.Prelude.{◌≡◌, ◌<◌, ◌≤◌, ℕ, [], IfOk, length, slice_index_or};
 ghost use Rattle.tm_dd.specs.Reduced.{Extends, IsReduced};
 ghost use Rattle.tm_dd.specs.Table.{Table, Knows};
-ghost use Rattle.tm_ddops.specs.Changed.{IsChanged, KnowsParts, change_of};
+ghost use Rattle.tm_ddops.specs.Changed.{IsChanged, IsDepth, KnowsParts, change_of};
 ghost use Rattle.tm_ddops.specs.Inner.Memo.{AreChoices};
+ghost use Rattle.tm_ddops.specs.Inner.Quantifiers.{IsQuantifier, quantified};
 ghost use Rattle.tm_ddops.specs.Inner.Tables.{AreTrue, numbered};
 
 use crate::change::{Changes, by_level, depth};
+use crate::quantifiers::Quantifiers;
 use crate::rewrite::{Visit, Walks};
 use crate::walk::Memo;
 use indexmap::IndexSet;
 use std::alloc::{AllocError, Global};
 use std::collections::HashMap;
-use tm_dd::{NodeId, Store};
+use std::hash::BuildHasherDefault;
+use tm_dd::{NodeId, NumberHasher, Store};
 
 /// How many entries the tables hold at most when a walk begins. One takes up to 96 bytes with the room that its table
 /// keeps, so they hold about 100 million bytes at most between calls, and what the last call added.
@@ -29,9 +32,10 @@ pub(crate) const MOST_ROOM: usize = 65_536;
 #[derive(Drop)]
 pub struct Tables {
     pub(crate) walks: Walks,
-    pub(crate) changes: IndexSet<Changes>,
+    pub(crate) changes: IndexSet<Changes, BuildHasherDefault<NumberHasher>>,
     // How many levels the changes of the set have together.
     pub(crate) levels: usize,
+    pub(crate) quantifiers: Quantifiers,
 }
 
 impl Tables {
@@ -41,11 +45,14 @@ impl Tables {
     {
         Tables {
             walks: Walks {
-                choices: HashMap::new(alloc),
-                found: HashMap::new(alloc),
+                choices: HashMap::with_hasher(alloc, BuildHasherDefault::new()),
+                found: HashMap::with_hasher(alloc, BuildHasherDefault::new()),
             },
-            changes: IndexSet::new(alloc),
+            changes: IndexSet::with_hasher(alloc, BuildHasherDefault::new()),
             levels: 0,
+            quantifiers: Quantifiers {
+                list: Vec::new(alloc),
+            },
         }
     }
 
@@ -84,10 +91,80 @@ impl Tables {
         ensures tables { AreTrue store.new self.new }
         ensures answer { IfOk result (IsChanged store.new (change_of changes) f) }
     {
-        if depth(store, changes.as_slice()) <= store.depth(f) {
+        let depth = depth(store, changes.as_slice());
+        if depth <= store.depth(f) {
             return Ok(f);
         }
         let number = self.number(changes)?;
+        self.changed(alloc, store, f, number, depth)
+    }
+
+    /// What is left of `f` where levels may have any value.
+    pub(crate) fn exists(
+        &mut self,
+        alloc: Global,
+        store: &mut Store,
+        f: NodeId,
+        levels: &[u32],
+    ) -> Result<NodeId, AllocError>
+        requires reduced { IsReduced store.old }
+        requires known { Knows store.old f }
+        requires tables { AreTrue store.old self.old }
+
+        ensures extends { Extends store.old store.new }
+        ensures reduced { IsReduced store.new }
+        ensures tables { AreTrue store.new self.new }
+        ensures answer { IfOk result (IsChanged store.new (change_of (quantified levels.now)) f) }
+    {
+        let (number, depth) = self.quantifier(alloc, store, levels)?;
+        if depth <= store.depth(f) {
+            return Ok(f);
+        }
+        self.changed(alloc, store, f, number, depth)
+    }
+
+    // The number of the changes under which levels may have any value, and how deep the levels stand.
+    fn quantifier(
+        &mut self,
+        alloc: Global,
+        store: &Store,
+        levels: &[u32],
+    ) -> Result<(usize, u32), AllocError>
+        requires tables { AreTrue store.now self.old }
+        ensures tables { AreTrue store.now self.new }
+        ensures quantifier { IfOk result (λ r. IsQuantifier store.now self.new.changes.keys levels.now r.0 r.1) }
+    {
+        if let Some(known) = self.quantifiers.find(levels) {
+            return Ok(known);
+        }
+        let changes = Changes::from_levels(alloc, levels)?;
+        let depth = depth(store, changes.as_slice());
+        let number = self.number(changes)?;
+        self.quantifiers.keep(alloc, levels, number, depth)?;
+        Ok((number, depth))
+    }
+
+    // What the changes of a number, none of which is as deep as `depth`, make of `f`.
+    fn changed(
+        &mut self,
+        alloc: Global,
+        store: &mut Store,
+        f: NodeId,
+        number: usize,
+        depth: u32,
+    ) -> Result<NodeId, AllocError>
+        requires reduced { IsReduced store.old }
+        requires known { Knows store.old f }
+        requires number { number < length self.old.changes.keys }
+        requires parts { KnowsParts store.old (numbered self.old.changes.keys number) }
+        requires depth { IsDepth store.old (numbered self.old.changes.keys number) depth }
+        requires tables { AreTrue store.old self.old }
+
+        ensures extends { Extends store.old store.new }
+        ensures reduced { IsReduced store.new }
+        ensures tables { AreTrue store.new self.new }
+        ensures answer { IfOk result (IsChanged store.new (numbered self.old.changes.keys number) f) }
+    {
         let visit = Visit {
             changes: number,
             function: f,
@@ -95,21 +172,23 @@ impl Tables {
         if let Some(known) = self.walks.found.get(&visit) {
             return Ok(*known);
         }
-        self.walk(alloc, store, f, number)
+        self.walk(alloc, store, f, number, depth)
     }
 
-    // The same, by a walk under the changes of a number.
+    // The same, by a walk.
     fn walk(
         &mut self,
         alloc: Global,
         store: &mut Store,
         f: NodeId,
         number: usize,
+        depth: u32,
     ) -> Result<NodeId, AllocError>
         requires reduced { IsReduced store.old }
         requires known { Knows store.old f }
         requires number { number < length self.old.changes.keys }
         requires parts { KnowsParts store.old (numbered self.old.changes.keys number) }
+        requires depth { IsDepth store.old (numbered self.old.changes.keys number) depth }
         requires tables { AreTrue store.old self.old }
 
         ensures extends { Extends store.old store.new }
@@ -119,7 +198,6 @@ impl Tables {
     {
         let changes = self.changes.as_slice()[number].as_slice();
         let table = by_level(alloc, store.levels(), changes)?;
-        let depth = depth(store, changes);
         self.walks.rewrite(store, f, number, &table, depth)
     }
 
@@ -131,6 +209,7 @@ impl Tables {
         ensures kept { (n : ℕ) → n < length self.old.changes.keys →
             slice_index_or self.new.changes.keys n [] ≡ slice_index_or self.old.changes.keys n [] }
         ensures walks { self.new.walks ≡ self.old.walks }
+        ensures quantifiers { self.new.quantifiers ≡ self.old.quantifiers }
     {
         let levels = changes.as_slice().len();
         let (number, added) = self.changes.insert_full(changes)?;
@@ -151,6 +230,6 @@ fn limit_choices(choices: &mut Memo, alloc: Global)
     if choices.capacity() <= MOST_ROOM {
         choices.clear();
     } else {
-        *choices = HashMap::new(alloc);
+        *choices = HashMap::with_hasher(alloc, BuildHasherDefault::new());
     }
 }

@@ -9,11 +9,12 @@ ghost use Rattle.tm_ddops.specs.Inner.Memo.{Memo, choice_eq, noted, AreChoices, 
 use crate::choice::Choice;
 use std::alloc::AllocError;
 use std::collections::HashMap;
+use std::hash::BuildHasherDefault;
 use tm_base::Steps;
-use tm_dd::{NodeId, Store};
+use tm_dd::{NodeId, NumberHasher, Store};
 
 /// The choices that walks have met, with their ids.
-pub(crate) type Memo = HashMap<Choice, NodeId>;
+pub(crate) type Memo = HashMap<Choice, NodeId, BuildHasherDefault<NumberHasher>>;
 
 /// The id of a choice, by a walk. It meets no choice that the memo notes.
 pub(crate) fn walk<L>(
@@ -72,16 +73,18 @@ pub(crate) fn choose<L>(
     if let Some(known) = memo.get(&choice) {
         return Ok(*known);
     }
-    let (low, high) = choice.cofactors(store);
+    let level = choice.level(store);
+    let (low, high) = choice.cofactors(store, level);
     let lo = choose(store, low, memo, steps)?;
     let hi = choose(store, high, memo, steps)?;
-    join(store, choice, lo, hi, memo, steps)
+    join(store, choice, level, lo, hi, memo, steps)
 }
 
-/// Makes and notes the id of a choice from those of its two cofactors.
+/// Makes and notes the id of a choice, whose highest level is this one, from those of its two cofactors.
 fn join<L>(
     store: &mut Store,
     choice: Choice,
+    level: u32,
     lo: NodeId,
     hi: NodeId,
     memo: &mut Memo,
@@ -92,6 +95,7 @@ fn join<L>(
     requires open { IsOpen choice }
     requires notes { AreChoices store.old memo.old }
     requires absent { noted memo.old choice ≡ None }
+    requires level { level ≡ choice_level store.old choice }
     requires lo { IsChoice store.old (cofactor_choice store.old choice false) lo }
     requires hi { IsChoice store.old (cofactor_choice store.old choice true) hi }
 
@@ -106,7 +110,6 @@ fn join<L>(
     ensures refused_requests { OnErr result (RisesByNotes memo.old memo.new 1 steps.old steps.new) }
     ensures refused_nodes { OnErr result (RisesByNotes memo.old memo.new 1 (kept store.old) (kept store.new)) }
 {
-    let level = choice.level(store);
     let id = branch(store, level, lo, hi, steps)?;
     memo.insert(choice, id)?;
     Ok(id)

@@ -1,8 +1,8 @@
 -- The choices that a walk has met, with their ids.
 use Rattle.std.specs.Prelude.{◌≡◌, ℕ, ◌+◌, ◌≤◌, ◌⊎◌, Bool, ◌&&◌, ◌==◌, Option, Some, None, IsSome, List, Contains}
-use Rattle.std.specs.declared.hash.FoldHasher.{FoldHasher}
 use Rattle.std.specs.declared.hash.BuildHasherDefault.{BuildHasherDefault}
 use Rattle.std.specs.HashMap.{get, HashMap, hash_map_len}
+use Rattle.tm_dd.specs.declared.hasher.NumberHasher.{NumberHasher}
 use Rattle.tm_dd.specs.declared.node.NodeId.{NodeId}
 use Rattle.tm_dd.specs.NodeId.{number_of}
 use Rattle.tm_dd.specs.Table.{Table}
@@ -11,7 +11,7 @@ use Rattle.tm_ddops.specs.Choice.{IsChoice, IsOpen, Met}
 
 -- the choices that are noted, with their ids
 abbrev pub Memo : Type 0
-Memo = HashMap Choice NodeId (BuildHasherDefault FoldHasher)
+Memo = HashMap Choice NodeId (BuildHasherDefault NumberHasher)
 
 -- whether two choices are one
 abbrev pub choice_eq : Choice → Choice → Bool

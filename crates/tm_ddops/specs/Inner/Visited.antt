@@ -1,8 +1,8 @@
 -- What walks under changes of levels have found: an id for each numbered changes and each function that they met.
 use Rattle.std.specs.Prelude.{◌≡◌, ◌≢◌, ℕ, ◌==◌, Bool, ◌&&◌, Option, Some}
-use Rattle.std.specs.declared.hash.FoldHasher.{FoldHasher}
 use Rattle.std.specs.declared.hash.BuildHasherDefault.{BuildHasherDefault}
 use Rattle.std.specs.HashMap.{get, HashMap}
+use Rattle.tm_dd.specs.declared.hasher.NumberHasher.{NumberHasher}
 use Rattle.tm_dd.specs.declared.node.NodeId.{NodeId}
 use Rattle.tm_dd.specs.NodeId.{number_of}
 use Rattle.tm_dd.specs.Table.{Table}
@@ -12,7 +12,7 @@ use Rattle.tm_ddops.specs.Changed.{IsChanged}
 
 -- the visits, with what was found for them
 abbrev pub Visited : Type 0
-Visited = HashMap Visit NodeId (BuildHasherDefault FoldHasher)
+Visited = HashMap Visit NodeId (BuildHasherDefault NumberHasher)
 
 -- whether two visits are one
 abbrev pub visit_eq : Visit → Visit → Bool

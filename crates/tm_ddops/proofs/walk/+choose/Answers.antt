@@ -1,8 +1,8 @@
-use Rattle.std.proofs.Common.{true, false, sym, subst, arith}
+use Rattle.std.proofs.Common.{true, false, sym, subst, ◌∙◌, arith}
 use Rattle.std.proofs.lemmas.Result.{on_err_weaker, on_ok_weaker}
 use Rattle.tm_dd.proofs.CallerLaws.{Extends-trans}
 use Rattle.tm_ddops.specs.Choice.{IsChoice, IsOpen}
-use Rattle.tm_ddops.proofs.Choices.{KnowsChoice-Extends, IsChoice-Extends}
+use Rattle.tm_ddops.proofs.Choices.{KnowsChoice-Extends, IsChoice-Extends, choice_level-Extends}
 use Rattle.tm_ddops.proofs.Walks.{NotesOnlyMet-below, NotesOnlyMet-trans, NotesOnlyMet-Extends, IsUnnoted-below, child_known, child_falls, child_later, child_falls_later, met_twice, still_absent_twice, none_from_copied, on_err}
 use Rattle.tm_ddops.proofs.walk.+choose.Goals as goal
 
@@ -107,6 +107,12 @@ join-requires-clause-absent g t c =
     c.cofactors.result.0 c.cofactors.result.1 c.cofactors.ensures.low c.cofactors.ensures.high
     c.args.memo.now c.choose.new.memo c.choose-2.new.memo c.choose.ensures.met c.choose-2.ensures.met
     (none_from_copied c.in_default-get.is c.get.ensures.value)
+
+pub join-requires-clause-level : goal.join-requires-clause-level
+join-requires-clause-level g t c =
+    c.level-level.ensures.value
+    ∙ sym (choice_level-Extends c.args.store.now c.choose-2.new.store
+    (Extends-trans _ _ _ c.choose.ensures.extends c.choose-2.ensures.extends) c.args.choice c.requires.known)
 
 pub join-requires-clause-lo : goal.join-requires-clause-lo
 join-requires-clause-lo g t c =

@@ -1,24 +1,22 @@
-use Rattle.std.proofs.Common.{◌≡◌, inr, false, true, if◌then◌else◌, ap, ◌∙◌, arith}
-use Rattle.tm_dd.specs.Table.{means, rank_of}
+use Rattle.std.proofs.Common.{◌≡◌, ℕ, inr, false, true, if◌then◌else◌, ap, ◌∙◌, arith}
+use Rattle.tm_dd.specs.Table.{Table, means, rank_of}
 use Rattle.tm_dd.proofs.CallerLaws.{rank_of-Extends}
-use Rattle.tm_ddops.specs.Choice.{IsChoice, choice_depth}
+use Rattle.tm_ddops.specs.declared.choice.Choice.{Choice}
+use Rattle.tm_ddops.specs.Choice.{IsChoice, choice_depth, choice_level}
 use Rattle.tm_ddops.proofs.Choices.{choice_level-open, choice_depth-cofactor_choice, choice_of_branches, rank_of-choice_level}
 use Rattle.tm_ddops.proofs.Walks.{AreChoices-Extends, AreChoices-unchanged, AreChoices-insert, NotesOnlyMet-insert, NotesOnlyMet-unchanged, IsUnnoted-here, unchanged_absent, on_err}
 use Rattle.tm_ddops.proofs.walk.join.Goals as goal
 use Rattle.tm_ddops.proofs.walk.join.Given.{Over}
-use Rattle.tm_ddops.proofs.walk.join.Goals.{After-level-level}
 
 -- the node stands where the choice does
-rank : (g : Over) (c : After-level-level g) →
-    rank_of c.args.store.now c.level-level.result ≡ choice_depth c.args.store.now c.args.choice
-rank g c =
-    ap (rank_of c.args.store.now) c.level-level.ensures.value ∙ rank_of-choice_level c.args.store.now c.args.choice
+rank : (s : Table) (k : Choice) (level : ℕ) → level ≡ choice_level s k → rank_of s level ≡ choice_depth s k
+rank s k level is = ap (rank_of s) is ∙ rank_of-choice_level s k
 
 pub branch-store-requires-clause-level : goal.branch-store-requires-clause-level
 branch-store-requires-clause-level g c =
     omega (
       arith,
-      c.level-level.ensures.value,
+      c.requires.level,
       choice_level-open c.args.store.now c.requires.reduced c.args.choice c.requires.known c.requires.open,
     )
 
@@ -27,7 +25,7 @@ branch-store-requires-clause-lo_deeper g c =
     let within = choice_level-open c.args.store.now c.requires.reduced c.args.choice c.requires.known c.requires.open in
     inr (omega (
       arith,
-      rank g (goal.at.branch-store-requires-clause-lo_deeper g c).After-level-level,
+      rank c.args.store.now c.args.choice c.args.level c.requires.level,
       c.requires.lo.deep,
       choice_depth-cofactor_choice c.args.store.now c.requires.reduced c.args.choice c.requires.known within false,
     ))
@@ -37,7 +35,7 @@ branch-store-requires-clause-hi_deeper g c =
     let within = choice_level-open c.args.store.now c.requires.reduced c.args.choice c.requires.known c.requires.open in
     inr (omega (
       arith,
-      rank g (goal.at.branch-store-requires-clause-hi_deeper g c).After-level-level,
+      rank c.args.store.now c.args.choice c.args.level c.requires.level,
       c.requires.hi.deep,
       choice_depth-cofactor_choice c.args.store.now c.requires.reduced c.args.choice c.requires.known within true,
     ))
@@ -56,19 +54,18 @@ returns-in_err-insert-clause-notes g c =
 -- the id is that of the choice
 answer : (g : Over) (c : goal.In_ok-insert g) → IsChoice c.branch-store.new.store c.args.choice c.in_ok-id.id
 answer g c =
-    let level = c.level-level.ensures.value in
     choice_of_branches c.args.store.now c.branch-store.new.store c.requires.reduced c.branch-store.ensures.extends
     c.args.choice c.requires.known
     (choice_level-open c.args.store.now c.requires.reduced c.args.choice c.requires.known c.requires.open)
     c.args.lo c.args.hi c.in_ok-id.id c.requires.lo c.requires.hi c.in_ok-id.ensures.known
     (omega (
       arith,
-      ap (rank_of c.args.store.now) level ∙ rank_of-choice_level c.args.store.now c.args.choice,
-      rank_of-Extends c.args.store.now c.branch-store.new.store c.branch-store.ensures.extends c.level-level.result,
+      rank c.args.store.now c.args.choice c.args.level c.requires.level,
+      rank_of-Extends c.args.store.now c.branch-store.new.store c.branch-store.ensures.extends c.args.level,
       c.in_ok-id.ensures.deep,
     ))
     (λ v. c.in_ok-id.ensures.meaning v
-    ∙ ap (λ l. if v l then means c.args.store.now c.args.hi v else means c.args.store.now c.args.lo v) level)
+    ∙ ap (λ l. if v l then means c.args.store.now c.args.hi v else means c.args.store.now c.args.lo v) c.requires.level)
 
 pub returns-clause-notes : goal.returns-clause-notes
 returns-clause-notes g c =

@@ -16,5 +16,5 @@ after_first ks after n empty e =
 pub returns-clause-reduced : goal.returns-clause-reduced
 returns-clause-reduced c =
     reduced _ (IsUniqueTable-empty _ c.requires
-    (after_first c.new-entries.result.keys c.insert.new.self.keys (constant_entry c.args.levels)
-    c.new-entries.ensures.empty c.in_ok-insert.ensures.keys))
+    (after_first c.with_hasher-entries.result.keys c.insert.new.self.keys (constant_entry c.args.levels)
+    c.with_hasher-entries.ensures.empty c.in_ok-insert.ensures.keys))

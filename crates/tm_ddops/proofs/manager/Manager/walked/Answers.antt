@@ -3,7 +3,7 @@ use Rattle.tm_dd.specs.Table.{Knows}
 use Rattle.tm_ddops.specs.Layout.{diagrams_of}
 use Rattle.tm_ddops.specs.Manager.{Grows, IsManager, IsResult, Remembers}
 use Rattle.tm_ddops.proofs.Sound.{manager_extended, manager_remembers, result_of_choice}
-use Rattle.tm_ddops.proofs.TableLemmas.{AreVisits-Extends}
+use Rattle.tm_ddops.proofs.TableLemmas.{AreQuantifiers-Extends, AreVisits-Extends}
 use Rattle.tm_ddops.proofs.manager.Manager.walked.Goals as goal
 use Rattle.tm_ddops.proofs.manager.Manager.walked.Goals.{In_ok-answer, In_ok-remember}
 use Rattle.tm_ddops.proofs.manager.Manager.walked.Given.{Over}
@@ -22,6 +22,9 @@ invariant_of-self g c = record {
     visits = AreVisits-Extends c.self.inside.store c.walk.new.store c.walk.ensures.extends
         c.limit.new.self.changes.keys c.limit.new.self.walks.found
         (c.limit.ensures c.self.inside.store c.self.invariant.tables).visits;
+    quantifiers = AreQuantifiers-Extends c.self.inside.store c.walk.new.store c.walk.ensures.extends
+        c.limit.new.self.changes.keys c.limit.new.self.quantifiers
+        (c.limit.ensures c.self.inside.store c.self.invariant.tables).quantifiers;
   };
 }
 
@@ -40,6 +43,9 @@ invariant_of-self-in_err-remember g c = record {
     visits = AreVisits-Extends c.self.inside.store c.walk.new.store c.walk.ensures.extends
         c.limit.new.self.changes.keys c.limit.new.self.walks.found
         (c.limit.ensures c.self.inside.store c.self.invariant.tables).visits;
+    quantifiers = AreQuantifiers-Extends c.self.inside.store c.walk.new.store c.walk.ensures.extends
+        c.limit.new.self.changes.keys c.limit.new.self.quantifiers
+        (c.limit.ensures c.self.inside.store c.self.invariant.tables).quantifiers;
   };
 }
 
@@ -74,6 +80,9 @@ invariant_of-self-2 g c =
         visits = AreVisits-Extends c.self.inside.store c.walk.new.store c.walk.ensures.extends
             c.limit.new.self.changes.keys c.limit.new.self.walks.found
             (c.limit.ensures c.self.inside.store c.self.invariant.tables).visits;
+        quantifiers = AreQuantifiers-Extends c.self.inside.store c.walk.new.store c.walk.ensures.extends
+            c.limit.new.self.changes.keys c.limit.new.self.quantifiers
+            (c.limit.ensures c.self.inside.store c.self.invariant.tables).quantifiers;
       };
     }
 

@@ -4,7 +4,7 @@ use Rattle.std.proofs.lemmas.Result.{IfOk-weaker}
 use Rattle.tm_ddops.specs.Changed.{change_at, change_of}
 use Rattle.tm_ddops.specs.Inner.Tables.{numbered}
 use Rattle.tm_ddops.proofs.Changing.{changed_alike}
-use Rattle.tm_ddops.proofs.TableLemmas.{visits_after, visits_of_number}
+use Rattle.tm_ddops.proofs.TableLemmas.{AreQuantifiers-Extends, visits_after, visits_of_number}
 use Rattle.tm_ddops.proofs.tables.Tables.walk.Goals as goal
 use Rattle.tm_ddops.proofs.tables.Tables.walk.Goals.{After-deref}
 
@@ -18,6 +18,13 @@ alike c k below =
     (c.as_slice-changes.ensures ∙ c.index-as_slice-number.is
     ∙ ap (λ ls. get_or ls c.args.number c.index-as_slice-number.result) c.as_slice.ensures.keys
     ∙ get_or_default c.args.self.now.changes.keys c.args.number c.index-as_slice-number.result [] c.requires.number)
+
+pub rewrite-requires-clause-depth : goal.rewrite-requires-clause-depth
+rewrite-requires-clause-depth c = record {
+  within = c.requires.depth.within;
+  stay = λ k below deep.
+      alike (goal.at.rewrite-requires-clause-depth c).After-deref k below ∙ c.requires.depth.stay k below deep;
+}
 
 pub rewrite-requires-clause-found : goal.rewrite-requires-clause-found
 rewrite-requires-clause-found c =
@@ -33,6 +40,8 @@ returns-clause-tables c = record {
       c.rewrite.new.store c.rewrite.ensures.extends c.requires.number
       c.args.self.now.walks.found c.rewrite.new.self.found
       c.requires.tables.visits c.rewrite.ensures.found c.rewrite.ensures.others;
+  quantifiers = AreQuantifiers-Extends c.args.store.now c.rewrite.new.store c.rewrite.ensures.extends
+      c.args.self.now.changes.keys c.args.self.now.quantifiers c.requires.tables.quantifiers;
 }
 
 pub returns-clause-answer : goal.returns-clause-answer
