@@ -25,7 +25,11 @@ pub fn is_allowed(
     requires state { IsState (design_tree design.now) state.now }
     ensures { IfOk result (λ yes. IsTrue yes ↔ IsAllowed (design_tree design.now) state.now action.now) }
 {
-    let mut game = game_of(alloc, design)?;
-    let yes = game.allowed(state, action)?;
-    Ok(yes)
+    let mut game = match game_of(alloc, design) {
+        Ok(game) => game,
+        Err(error) => return Err(error),
+    };
+    let yes = game.allowed(state, action);
+    drop(game);
+    yes
 }

@@ -42,8 +42,13 @@ fn judge_in_order(
 {
     sound_designs_of_texts_are_regular();
     sound_designs_of_texts_have_initial_states();
-    let mut game = ordered_game(alloc, design, &cert.order)?;
-    check_driver(alloc, design, &mut game, blocks, cert)
+    let mut game = match ordered_game(alloc, design, &cert.order) {
+        Ok(game) => game,
+        Err(error) => return Err(error),
+    };
+    let verdict = check_driver(alloc, design, &mut game, blocks, cert);
+    drop(game);
+    verdict
 }
 
 // The verdict, by the game in another order.
@@ -63,9 +68,19 @@ fn judge_moved(
     ensures good { result ≡ Ok Verdict.Accepted
         → Good (design_tree design.now) (Answers (trees_of blocks.now)) (map length cert.now.goals) }
 {
-    let mut dd = Manager::new(alloc, order.len() as u32)?;
-    let moved = reorder_driver(alloc, &mut dd, cert, order)?;
-    judge_in_order(alloc, design, blocks, &moved)
+    let mut dd = match Manager::new(alloc, order.len() as u32) {
+        Ok(dd) => dd,
+        Err(error) => return Err(error),
+    };
+    let moved = reorder_driver(alloc, &mut dd, cert, order);
+    drop(dd);
+    let moved = match moved {
+        Ok(moved) => moved,
+        Err(error) => return Err(error),
+    };
+    let verdict = judge_in_order(alloc, design, blocks, &moved);
+    drop(moved);
+    verdict
 }
 
 /// Whether blocks have a certificate over the design of a text: every condition holds, or the first that fails, by

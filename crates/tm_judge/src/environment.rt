@@ -35,8 +35,13 @@ fn judge_in_order(alloc: Global, design: &Design, cert: &EnvCert) -> Result<Verd
 {
     sound_designs_of_texts_are_regular();
     sound_designs_of_texts_have_initial_states();
-    let mut game = ordered_game(alloc, design, &cert.order)?;
-    check_environment(alloc, &mut game, cert)
+    let mut game = match ordered_game(alloc, design, &cert.order) {
+        Ok(game) => game,
+        Err(error) => return Err(error),
+    };
+    let verdict = check_environment(alloc, &mut game, cert);
+    drop(game);
+    verdict
 }
 
 // The verdict, by the game in another order.
@@ -56,9 +61,19 @@ fn judge_moved(
     ensures within { result ≡ Ok Verdict.Accepted
         → IsLostWithin (design_tree design.now) (levels_of (design_tree design.now) cert.now) }
 {
-    let mut dd = Manager::new(alloc, order.len() as u32)?;
-    let moved = reorder_environment(alloc, &mut dd, cert, order)?;
-    judge_in_order(alloc, design, &moved)
+    let mut dd = match Manager::new(alloc, order.len() as u32) {
+        Ok(dd) => dd,
+        Err(error) => return Err(error),
+    };
+    let moved = reorder_environment(alloc, &mut dd, cert, order);
+    drop(dd);
+    let moved = match moved {
+        Ok(moved) => moved,
+        Err(error) => return Err(error),
+    };
+    let verdict = judge_in_order(alloc, design, &moved);
+    drop(moved);
+    verdict
 }
 
 /// Whether levels are a certificate over the design of a text: every condition holds, or the first that fails, by

@@ -16,10 +16,15 @@ fn shape_by_tables(alloc: Global, tables: &Tables, wanted: Kind) -> Result<CertS
     requires { IsSound (design_tree tables.now) }
     ensures { IfOk result (λ shape. shape ≡ shape_of (design_tree tables.now) wanted) }
 {
-    let locations = locate(alloc, tables)?;
+    let locations = match locate(alloc, tables) {
+        Ok(locations) => locations,
+        Err(error) => return Err(error),
+    };
     let design = tables.design();
+    let bits = state_bits(design, tables.scopes(), locations.as_slice());
+    drop(locations);
     Ok(CertShape {
-        bits: state_bits(design, tables.scopes(), locations.as_slice()),
+        bits,
         goals: design.goals.len() as u32,
         fairs: condition_count(design),
         wanted,
@@ -33,6 +38,11 @@ pub fn cert_shape(alloc: Global, design: &Design, wanted: Kind) -> Result<CertSh
     requires read { IsOfText (design_tree design.now).spec }
     ensures { IfOk result (λ shape. shape ≡ shape_of (design_tree design.now) wanted) }
 {
-    let tables = Tables::new(alloc, design)?;
-    shape_by_tables(alloc, &tables, wanted)
+    let tables = match Tables::new(alloc, design) {
+        Ok(tables) => tables,
+        Err(error) => return Err(error),
+    };
+    let shape = shape_by_tables(alloc, &tables, wanted);
+    drop(tables);
+    shape
 }

@@ -23,17 +23,17 @@ ordered_game-requires-clause-order c =
     subst (IsOrder (sum (state_widths (design_tree c.args.design.now)))) (sym same)
     c.requires.cert.order
 
-pub check_driver-requires : goal.check_driver-requires
-check_driver-requires c =
+pub check_driver-verdict-requires : goal.check_driver-verdict-requires
+check_driver-verdict-requires c =
     let same : c.deref.result.now ≡ c.args.cert.now.order = search rules in
     record {
       can = can_check_driver (design_tree c.args.design.now) (trees_of c.args.blocks.now) c.args.cert.now
-          c.in_ok-game.game c.requires
+          c.in-Ok.game c.requires
           (c.sound_designs_of_texts_are_regular.ensures c.args.design.now c.requires.sound c.requires.of_text)
           (c.sound_designs_of_texts_have_initial_states.ensures (design_tree c.args.design.now) c.requires.sound
           c.requires.of_text)
-          (same_game (design_tree c.args.design.now) c.deref.result.now c.args.cert.now.order c.in_ok-game.game same
-          c.in_ok-game.ensures);
+          (same_game (design_tree c.args.design.now) c.deref.result.now c.args.cert.now.order c.in-Ok.game same
+          c.in-Ok.ensures);
     }
 
 pub returns-clause-only : goal.returns-clause-only
@@ -42,4 +42,4 @@ returns-clause-only c =
     (are_small c.args.design.now c.requires.sound c.requires.of_text)
     (c.sound_designs_of_texts_are_regular.ensures c.args.design.now c.requires.sound c.requires.of_text).initial
     (Answers (trees_of c.args.blocks.now)) (driver_sets (design_tree c.args.design.now) c.args.cert.now)
-    c.check_driver.result c.check_driver.ensures.verdict
+    c.check_driver-verdict.result c.check_driver-verdict.ensures.verdict

@@ -15,47 +15,47 @@ overflow_cast-order c =
     c.requires.can.sound in
     omega (arith, few)
 
-pub reorder_driver-requires-clause-ranks : goal.reorder_driver-requires-clause-ranks
-reorder_driver-requires-clause-ranks c =
-    RanksRise-numbers c.in_ok-dd.dd.table c.in_ok-dd.ensures.ranks (length c.args.order.now)
-    (omega (arith, c.in_ok-dd.ensures.levels))
+pub reorder_driver-moved-requires-clause-ranks : goal.reorder_driver-moved-requires-clause-ranks
+reorder_driver-moved-requires-clause-ranks c =
+    RanksRise-numbers c.in-Ok.dd.table c.in-Ok.ensures.ranks (length c.args.order.now)
+    (omega (arith, c.in-Ok.ensures.levels))
 
-pub reorder_driver-requires-clause-count : goal.reorder_driver-requires-clause-count
-reorder_driver-requires-clause-count c =
+pub reorder_driver-moved-requires-clause-count : goal.reorder_driver-moved-requires-clause-count
+reorder_driver-moved-requires-clause-count c =
     few_places (design_tree c.args.design.now) c.args.order.now c.args.order.now c.requires.order refl
     c.requires.can.sound
 
-pub reorder_driver-requires-clause-order : goal.reorder_driver-requires-clause-order
-reorder_driver-requires-clause-order c =
+pub reorder_driver-moved-requires-clause-order : goal.reorder_driver-moved-requires-clause-order
+reorder_driver-moved-requires-clause-order c =
     whole_order (design_tree c.args.design.now) c.args.order.now c.args.order.now c.requires.order refl
 
-pub reorder_driver-requires-clause-fits : goal.reorder_driver-requires-clause-fits
-reorder_driver-requires-clause-fits c =
+pub reorder_driver-moved-requires-clause-fits : goal.reorder_driver-moved-requires-clause-fits
+reorder_driver-moved-requires-clause-fits c =
     driver_in_order (design_tree c.args.design.now) c.args.order.now c.args.order.now c.requires.order refl
     (trees_of c.args.blocks.now) c.args.cert.now c.requires.can
 
-pub judge_in_order-requires : goal.judge_in_order-requires
-judge_in_order-requires c =
+pub judge_in_order-verdict-requires : goal.judge_in_order-verdict-requires
+judge_in_order-verdict-requires c =
     moved_driver (design_tree c.args.design.now) c.args.order.now c.args.order.now c.requires.order refl
-    (trees_of c.args.blocks.now) c.args.cert.now c.in_ok-moved.moved c.requires.can c.in_ok-moved.ensures.fits
+    (trees_of c.args.blocks.now) c.args.cert.now c.in-Ok-moved.moved c.requires.can c.in-Ok-moved.ensures.fits
 
 pub returns-clause-verdict : goal.returns-clause-verdict
 returns-clause-verdict c =
     same_driver_verdict (design_tree c.args.design.now) (trees_of c.args.blocks.now)
-    (driver_sets (design_tree c.args.design.now) c.in_ok-moved.moved)
+    (driver_sets (design_tree c.args.design.now) c.in-Ok-moved.moved)
     (driver_sets (design_tree c.args.design.now) c.args.cert.now)
-    (c.in_ok-moved.ensures.sets (design_tree c.args.design.now)) c.judge_in_order.result
-    c.judge_in_order.ensures.verdict
+    (c.in-Ok-moved.ensures.sets (design_tree c.args.design.now)) c.judge_in_order-verdict.result
+    c.judge_in_order-verdict.ensures.verdict
 
 pub returns-clause-only : goal.returns-clause-only
 returns-clause-only c =
     same_only_driver (design_tree c.args.design.now) (trees_of c.args.blocks.now)
-    (driver_sets (design_tree c.args.design.now) c.in_ok-moved.moved)
+    (driver_sets (design_tree c.args.design.now) c.in-Ok-moved.moved)
     (driver_sets (design_tree c.args.design.now) c.args.cert.now)
-    (c.in_ok-moved.ensures.sets (design_tree c.args.design.now)) c.judge_in_order.result
-    c.judge_in_order.ensures.only
+    (c.in-Ok-moved.ensures.sets (design_tree c.args.design.now)) c.judge_in_order-verdict.result
+    c.judge_in_order-verdict.ensures.only
 
 pub returns-clause-good : goal.returns-clause-good
 returns-clause-good c =
     λ is. subst (λ (ranks : List ℕ). Good (design_tree c.args.design.now) (Answers (trees_of c.args.blocks.now)) ranks)
-    c.in_ok-moved.ensures.ranks (c.judge_in_order.ensures.good is)
+    c.in-Ok-moved.ensures.ranks (c.judge_in_order-verdict.ensures.good is)

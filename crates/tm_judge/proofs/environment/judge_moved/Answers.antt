@@ -14,45 +14,45 @@ overflow_cast-order c =
     c.requires.can.sound in
     omega (arith, few)
 
-pub reorder_environment-requires-clause-ranks : goal.reorder_environment-requires-clause-ranks
-reorder_environment-requires-clause-ranks c =
-    RanksRise-numbers c.in_ok-dd.dd.table c.in_ok-dd.ensures.ranks (length c.args.order.now)
-    (omega (arith, c.in_ok-dd.ensures.levels))
+pub reorder_environment-moved-requires-clause-ranks : goal.reorder_environment-moved-requires-clause-ranks
+reorder_environment-moved-requires-clause-ranks c =
+    RanksRise-numbers c.in-Ok.dd.table c.in-Ok.ensures.ranks (length c.args.order.now)
+    (omega (arith, c.in-Ok.ensures.levels))
 
-pub reorder_environment-requires-clause-count : goal.reorder_environment-requires-clause-count
-reorder_environment-requires-clause-count c =
+pub reorder_environment-moved-requires-clause-count : goal.reorder_environment-moved-requires-clause-count
+reorder_environment-moved-requires-clause-count c =
     few_places (design_tree c.args.design.now) c.args.order.now c.args.order.now c.requires.order refl
     c.requires.can.sound
 
-pub reorder_environment-requires-clause-order : goal.reorder_environment-requires-clause-order
-reorder_environment-requires-clause-order c =
+pub reorder_environment-moved-requires-clause-order : goal.reorder_environment-moved-requires-clause-order
+reorder_environment-moved-requires-clause-order c =
     whole_order (design_tree c.args.design.now) c.args.order.now c.args.order.now c.requires.order refl
 
-pub reorder_environment-requires-clause-fits : goal.reorder_environment-requires-clause-fits
-reorder_environment-requires-clause-fits c =
+pub reorder_environment-moved-requires-clause-fits : goal.reorder_environment-moved-requires-clause-fits
+reorder_environment-moved-requires-clause-fits c =
     environment_in_order (design_tree c.args.design.now) c.args.order.now c.args.order.now c.requires.order refl
     c.args.cert.now c.requires.can
 
-pub judge_in_order-requires : goal.judge_in_order-requires
-judge_in_order-requires c =
+pub judge_in_order-verdict-requires : goal.judge_in_order-verdict-requires
+judge_in_order-verdict-requires c =
     moved_environment (design_tree c.args.design.now) c.args.order.now c.args.order.now c.requires.order refl
-    c.args.cert.now c.in_ok-moved.moved c.requires.can c.in_ok-moved.ensures.fits
+    c.args.cert.now c.in-Ok-moved.moved c.requires.can c.in-Ok-moved.ensures.fits
 
 pub returns-clause-verdict : goal.returns-clause-verdict
 returns-clause-verdict c =
-    same_level_verdict (design_tree c.args.design.now) (levels_of (design_tree c.args.design.now) c.in_ok-moved.moved)
+    same_level_verdict (design_tree c.args.design.now) (levels_of (design_tree c.args.design.now) c.in-Ok-moved.moved)
     (levels_of (design_tree c.args.design.now) c.args.cert.now)
-    (c.in_ok-moved.ensures.sets (design_tree c.args.design.now))
-    c.judge_in_order.result c.judge_in_order.ensures.verdict
+    (c.in-Ok-moved.ensures.sets (design_tree c.args.design.now))
+    c.judge_in_order-verdict.result c.judge_in_order-verdict.ensures.verdict
 
 pub returns-clause-only : goal.returns-clause-only
 returns-clause-only c =
-    same_only_levels (design_tree c.args.design.now) (levels_of (design_tree c.args.design.now) c.in_ok-moved.moved)
+    same_only_levels (design_tree c.args.design.now) (levels_of (design_tree c.args.design.now) c.in-Ok-moved.moved)
     (levels_of (design_tree c.args.design.now) c.args.cert.now)
-    (c.in_ok-moved.ensures.sets (design_tree c.args.design.now))
-    c.judge_in_order.result c.judge_in_order.ensures.only
+    (c.in-Ok-moved.ensures.sets (design_tree c.args.design.now))
+    c.judge_in_order-verdict.result c.judge_in_order-verdict.ensures.only
 
 pub returns-clause-within : goal.returns-clause-within
 returns-clause-within c =
     λ is. subst (λ (ls : List Level). IsLostWithin (design_tree c.args.design.now) ls)
-    (c.in_ok-moved.ensures.sets (design_tree c.args.design.now)) (c.judge_in_order.ensures.within is)
+    (c.in-Ok-moved.ensures.sets (design_tree c.args.design.now)) (c.judge_in_order-verdict.ensures.within is)

@@ -6,5 +6,6 @@ use Rattle.tm_judge.proofs.shape.cert_shape.Goals as goal
 
 pub returns : goal.returns
 returns c =
-    subst (λ (d : Design). IfOk c.shape_by_tables.result (λ shape. shape ≡ shape_of (design_tree d) c.args.wanted))
-    c.in_ok-tables.ensures c.shape_by_tables.ensures
+    subst
+    (λ (d : Design). IfOk c.shape_by_tables-shape.result (λ shape. shape ≡ shape_of (design_tree d) c.args.wanted))
+    c.in-Ok.ensures c.shape_by_tables-shape.ensures

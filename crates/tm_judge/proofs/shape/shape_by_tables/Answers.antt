@@ -6,12 +6,12 @@ use Rattle.tm_plain.specs.Machine.{AreLocated}
 use Rattle.tm_judge.proofs.Locating.{few_goals_of, located}
 use Rattle.tm_judge.proofs.shape.shape_by_tables.Goals as goal
 
-pub state_bits-requires-clause-locations : goal.state_bits-requires-clause-locations
-state_bits-requires-clause-locations c =
-    let ts = c.in_ok-locations.locations.items in
+pub state_bits-bits-requires-clause-locations : goal.state_bits-bits-requires-clause-locations
+state_bits-bits-requires-clause-locations c =
+    let ts = c.in-Ok.locations.items in
     located c.design-design.result.now ts c.as_slice.result.now c.as_slice.ensures.value
     (subst (λ (d : Design). AreLocated d (length d.processes.items) ts) (sym c.design-design.ensures)
-    c.in_ok-locations.ensures)
+    c.in-Ok.ensures)
 
 pub overflow_cast-result : goal.overflow_cast-result
 overflow_cast-result c =

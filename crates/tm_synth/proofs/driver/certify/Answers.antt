@@ -15,6 +15,12 @@ driver-requires-clause-of c = c.requires.exact.ordered.of
 pub driver-requires-clause-known : goal.driver-requires-clause-known
 driver-requires-clause-known c = c.requires.known
 
+pub driver-requires-clause-sized : goal.driver-requires-clause-sized
+driver-requires-clause-sized c = c.requires.sized
+
+pub returns-in-Ok-driver-clause-sets : goal.returns-in-Ok-driver-clause-sets
+returns-in-Ok-driver-clause-sets c = c.in-Ok.ensures.sets (design_tree c.args.design.now) c.requires.exact.ordered.of
+
 pub returns-in-Ok-driver-clause-can : goal.returns-in-Ok-driver-clause-can
 returns-in-Ok-driver-clause-can c =
     let d = design_tree c.args.design.now in
