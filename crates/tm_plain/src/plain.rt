@@ -23,8 +23,13 @@ fn first_by(alloc: Global, tables: &Tables, choices: &[u64]) -> Result<State, Se
     ensures initial { IfOk result (IsInitial (design_tree tables.now)) }
     ensures valid { IfOk result (IsState (design_tree tables.now)) }
 {
-    let machine = Machine::new(alloc, tables)?;
-    machine.first_state(alloc, choices)
+    let machine = match Machine::new(alloc, tables) {
+        Ok(machine) => machine,
+        Err(AllocError) => return Err(SemError::Memory),
+    };
+    let state = machine.first_state(alloc, choices);
+    drop(machine);
+    state
 }
 
 // What a move leads to.
@@ -39,16 +44,26 @@ fn step_by(
     ensures valid { IsState (design_tree tables.now) state.now →
         IfOk result (LeadsToState (design_tree tables.now)) }
 {
-    let machine = Machine::new(alloc, tables)?;
-    machine.step(alloc, state, action, choices)
+    let machine = match Machine::new(alloc, tables) {
+        Ok(machine) => machine,
+        Err(error) => return Err(error),
+    };
+    let outcome = machine.step(alloc, state, action, choices);
+    drop(machine);
+    outcome
 }
 
 // Whether some process stands at a magic block.
 fn magic_by(alloc: Global, tables: &Tables, state: &State) -> Result<bool, AllocError>
     ensures { IfOk result (λ magic. magic ≡ is_turn (design_tree tables.now) state.now) }
 {
-    let machine = Machine::new(alloc, tables)?;
-    Ok(machine.magic(state))
+    let machine = match Machine::new(alloc, tables) {
+        Ok(machine) => machine,
+        Err(error) => return Err(error),
+    };
+    let magic = machine.magic(state);
+    drop(machine);
+    Ok(magic)
 }
 
 // Whether a goal holds.
@@ -56,8 +71,13 @@ fn holds_by(alloc: Global, tables: &Tables, state: &State, goal: u32) -> Result<
     requires { goal < length tables.now.goals.items }
     ensures { IfOk result (λ holds. holds ≡ goal_holds (design_tree tables.now) state.now goal) }
 {
-    let machine = Machine::new(alloc, tables)?;
-    machine.holds(alloc, state, goal)
+    let machine = match Machine::new(alloc, tables) {
+        Ok(machine) => machine,
+        Err(error) => return Err(error),
+    };
+    let holds = machine.holds(alloc, state, goal);
+    drop(machine);
+    holds
 }
 
 /// The state that these choices give a design to begin with, as `Machine::first_state` tells it.
@@ -72,8 +92,13 @@ pub fn first_state(alloc: Global, design: &Design, choices: &[u64]) -> Result<St
     ensures initial { IfOk result (IsInitial (design_tree design.now)) }
     ensures valid { IfOk result (IsState (design_tree design.now)) }
 {
-    let tables = Tables::new(alloc, design)?;
-    first_by(alloc, &tables, choices)
+    let tables = match Tables::new(alloc, design) {
+        Ok(tables) => tables,
+        Err(AllocError) => return Err(SemError::Memory),
+    };
+    let state = first_by(alloc, &tables, choices);
+    drop(tables);
+    state
 }
 
 /// What a move with these choices leads to at a state of a design, as `Machine::step` tells it. `AllocError` is want of
@@ -91,8 +116,13 @@ pub fn step(
     ensures valid { IsState (design_tree design.now) state.now →
         IfOk result (LeadsToState (design_tree design.now)) }
 {
-    let tables = Tables::new(alloc, design)?;
-    step_by(alloc, &tables, state, action, choices)
+    let tables = match Tables::new(alloc, design) {
+        Ok(tables) => tables,
+        Err(error) => return Err(error),
+    };
+    let outcome = step_by(alloc, &tables, state, action, choices);
+    drop(tables);
+    outcome
 }
 
 /// Whether some process stands at a magic block at a state of a design, as `Machine::magic` tells it. `AllocError` is
@@ -102,8 +132,13 @@ pub fn magic(alloc: Global, design: &Design, state: &State) -> Result<bool, Allo
     requires read { IsOfText (spec_tree design.now.spec) }
     ensures { IfOk result (λ magic. magic ≡ is_turn (design_tree design.now) state.now) }
 {
-    let tables = Tables::new(alloc, design)?;
-    magic_by(alloc, &tables, state)
+    let tables = match Tables::new(alloc, design) {
+        Ok(tables) => tables,
+        Err(error) => return Err(error),
+    };
+    let magic = magic_by(alloc, &tables, state);
+    drop(tables);
+    magic
 }
 
 /// Whether the goal of a number holds at a state of a design, as `Machine::holds` tells it. `AllocError` is want of
@@ -114,6 +149,11 @@ pub fn holds(alloc: Global, design: &Design, state: &State, goal: u32) -> Result
     requires goal { goal < length design.now.goals.items }
     ensures { IfOk result (λ holds. holds ≡ goal_holds (design_tree design.now) state.now goal) }
 {
-    let tables = Tables::new(alloc, design)?;
-    holds_by(alloc, &tables, state, goal)
+    let tables = match Tables::new(alloc, design) {
+        Ok(tables) => tables,
+        Err(error) => return Err(error),
+    };
+    let holds = holds_by(alloc, &tables, state, goal);
+    drop(tables);
+    holds
 }

@@ -6,5 +6,5 @@ use Rattle.tm_plain.proofs.plain.first_state.Goals as goal
 
 pub returns-clause-bad : goal.returns-clause-bad
 returns-clause-bad c = λ is s.
-    subst (λ (d : Design). ¬ IsFirst (design_tree d) c.args.choices.now s) c.in_ok-tables.ensures
-    (c.first_by.ensures.bad is s)
+    subst (λ (d : Design). ¬ IsFirst (design_tree d) c.args.choices.now s) c.in-Ok.ensures
+    (c.first_by-state.ensures.bad is s)

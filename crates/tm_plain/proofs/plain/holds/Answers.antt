@@ -6,5 +6,5 @@ use Rattle.tm_plain.proofs.plain.holds.Goals as goal
 
 pub returns : goal.returns
 returns c =
-    subst (λ (d : Design). IfOk c.holds_by.result (λ holds. holds ≡ goal_holds (design_tree d) c.args.state.now
-    c.args.goal)) c.in_ok-tables.ensures c.holds_by.ensures
+    subst (λ (d : Design). IfOk c.holds_by-holds.result (λ holds. holds ≡ goal_holds (design_tree d) c.args.state.now
+    c.args.goal)) c.in-Ok.ensures c.holds_by-holds.ensures

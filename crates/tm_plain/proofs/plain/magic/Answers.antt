@@ -6,5 +6,6 @@ use Rattle.tm_plain.proofs.plain.magic.Goals as goal
 
 pub returns : goal.returns
 returns c =
-    subst (λ (d : Design). IfOk c.magic_by.result (λ magic. magic ≡ is_driver_turn (design_tree d) c.args.state.now))
-    c.in_ok-tables.ensures c.magic_by.ensures
+    subst
+    (λ (d : Design). IfOk c.magic_by-magic.result (λ magic. magic ≡ is_driver_turn (design_tree d) c.args.state.now))
+    c.in-Ok.ensures c.magic_by-magic.ensures

@@ -7,4 +7,4 @@ use Rattle.tm_plain.proofs.plain.step.Goals as goal
 pub returns-clause-valid : goal.returns-clause-valid
 returns-clause-valid c =
     subst (λ (d : Design). IsState (design_tree d) c.args.state.now →
-    IfOk c.step_by.result (LeadsToState (design_tree d))) c.in_ok-tables.ensures c.step_by.ensures.valid
+    IfOk c.step_by-outcome.result (LeadsToState (design_tree d))) c.in-Ok.ensures c.step_by-outcome.ensures.valid
