@@ -6,7 +6,7 @@ ghost use Rattle.tm_syntax.specs.Faults.{IsOfText};
 ghost use Rattle.tm_types.specs.Answer.{HasTypeFault, IsFirstOf, IsMemoryOr, type_kinds};
 ghost use Rattle.tm_names.specs.TextScopes.{AreTextScopes};
 
-use crate::stages::{call_fault, name_fault, value_fault};
+use crate::stages::{call_fault, text_fault};
 use std::alloc::{AllocError, Global};
 use tm_names::{TextNames, TextScopes};
 use tm_scope::Scopes;
@@ -44,7 +44,7 @@ fn first_fault(alloc: Global, spec: &Spec) -> Result<Option<Faulty>, AllocError>
     fault_by_tables(alloc, spec, &scopes, &tables)
 }
 
-// The same, given the scopes and the tables of the specification.
+// The fault of a specification, given its scopes and its tables.
 fn fault_by_tables(
     alloc: Global,
     spec: &Spec,
@@ -56,10 +56,7 @@ fn fault_by_tables(
     ensures { IfOk result (IsFirstOf type_kinds (spec_tree spec.now)) }
 {
     let names = TextNames::new(alloc, spec, tables, scopes)?;
-    if let Some(fault) = name_fault(alloc, &names, scopes, spec)? {
-        return Ok(Some(fault));
-    }
-    if let Some(fault) = value_fault(alloc, &names, spec)? {
+    if let Some(fault) = text_fault(alloc, &names, scopes, spec)? {
         return Ok(Some(fault));
     }
     call_fault(alloc, tables, spec)

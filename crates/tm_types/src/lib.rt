@@ -8,6 +8,7 @@ mod firsts;
 mod firsts_named;
 mod literals;
 mod mismatches;
+mod parts;
 mod stages;
 mod unknown;
 

@@ -8,6 +8,7 @@ ghost use Rattle.tm_syntax.specs.Faults.{fault};
 ghost use Rattle.tm_syntax.specs.Faults.Marks.{marked};
 ghost use Rattle.tm_scope.specs.CallOrder.{CoversTasks, IsCallOrder};
 ghost use Rattle.tm_types.specs.Answer.{IsFirstOf};
+ghost use Rattle.tm_types.specs.Inner.TextParts.{AreTextParts};
 ghost use Rattle.tm_names.specs.ScopeNames.{mark_of};
 ghost use Rattle.tm_names.specs.TextScopes.{AreTextScopes};
 
@@ -15,6 +16,7 @@ use crate::crossings::{first_atomic_location, first_endless_loop};
 use crate::cycles::first_looping;
 use crate::literals::first_misfit;
 use crate::mismatches::first_mismatch;
+use crate::parts::{TextPart, text_parts};
 use crate::unknown::first_unknown;
 use std::alloc::{AllocError, Global};
 use tm_base::{Name, Place};
@@ -58,12 +60,14 @@ fn named(
 fn unknown_fault(
     alloc: Global,
     names: &TextNames,
+    parts: &[TextPart],
     spec: &Spec,
 ) -> Result<Option<Faulty>, AllocError>
-    requires { names.now ≡ spec.now }
+    requires names { names.now ≡ spec.now }
+    requires parts { AreTextParts (spec_tree spec.now) parts.now }
     ensures { IfOk result (IsFirstOf (kind.UnknownName ∷ []) (spec_tree spec.now)) }
 {
-    let first = first_unknown(alloc, names, spec)?;
+    let first = first_unknown(alloc, names, parts, spec)?;
     named(alloc, FaultKind::UnknownName, first)
 }
 
@@ -79,18 +83,20 @@ fn twice_fault(
     named(alloc, FaultKind::Twice, scopes.first_twice())
 }
 
-/// `F4`, or else `F5`.
-pub(crate) fn name_fault(
+// `F4`, or else `F5`.
+fn name_fault(
     alloc: Global,
     names: &TextNames,
+    parts: &[TextPart],
     scopes: &TextScopes,
     spec: &Spec,
 ) -> Result<Option<Faulty>, AllocError>
     requires names { names.now ≡ spec.now }
+    requires parts { AreTextParts (spec_tree spec.now) parts.now }
     requires scopes { AreTextScopes (spec_tree spec.now) scopes.now }
     ensures { IfOk result (IsFirstOf (kind.UnknownName ∷ kind.Twice ∷ []) (spec_tree spec.now)) }
 {
-    if let Some(fault) = unknown_fault(alloc, names, spec)? {
+    if let Some(fault) = unknown_fault(alloc, names, parts, spec)? {
         return Ok(Some(fault));
     }
     twice_fault(alloc, scopes, spec)
@@ -100,41 +106,81 @@ pub(crate) fn name_fault(
 fn mismatch_fault(
     alloc: Global,
     names: &TextNames,
+    parts: &[TextPart],
     spec: &Spec,
 ) -> Result<Option<Faulty>, AllocError>
-    requires { names.now ≡ spec.now }
+    requires names { names.now ≡ spec.now }
+    requires parts { AreTextParts (spec_tree spec.now) parts.now }
     ensures { IfOk result (IsFirstOf (kind.Mismatch ∷ []) (spec_tree spec.now)) }
 {
-    let first = first_mismatch(alloc, names, spec)?;
+    let first = first_mismatch(alloc, names, parts, spec)?;
     Ok(placed(FaultKind::Mismatch, first))
 }
 
 // `F7`: a number that does not fit its type or its place.
 fn literal_fault(
     alloc: Global,
-    names: &TextNames,
+    parts: &[TextPart],
     spec: &Spec,
 ) -> Result<Option<Faulty>, AllocError>
-    requires { names.now ≡ spec.now }
+    requires { AreTextParts (spec_tree spec.now) parts.now }
     ensures { IfOk result (IsFirstOf (kind.Literal ∷ []) (spec_tree spec.now)) }
 {
-    let first = first_misfit(alloc, names, spec)?;
+    let first = first_misfit(alloc, parts, spec)?;
     Ok(placed(FaultKind::Literal, first))
 }
 
-/// `F6`, or else `F7`.
-pub(crate) fn value_fault(
+// `F6`, or else `F7`.
+fn value_fault(
     alloc: Global,
     names: &TextNames,
+    parts: &[TextPart],
     spec: &Spec,
 ) -> Result<Option<Faulty>, AllocError>
-    requires { names.now ≡ spec.now }
+    requires names { names.now ≡ spec.now }
+    requires parts { AreTextParts (spec_tree spec.now) parts.now }
     ensures { IfOk result (IsFirstOf (kind.Mismatch ∷ kind.Literal ∷ []) (spec_tree spec.now)) }
 {
-    if let Some(fault) = mismatch_fault(alloc, names, spec)? {
+    if let Some(fault) = mismatch_fault(alloc, names, parts, spec)? {
         return Ok(Some(fault));
     }
-    literal_fault(alloc, names, spec)
+    literal_fault(alloc, parts, spec)
+}
+
+// `F4`, or else `F5`, `F6` or `F7`, given the parts of the text.
+fn part_fault(
+    alloc: Global,
+    names: &TextNames,
+    parts: &[TextPart],
+    scopes: &TextScopes,
+    spec: &Spec,
+) -> Result<Option<Faulty>, AllocError>
+    requires names { names.now ≡ spec.now }
+    requires parts { AreTextParts (spec_tree spec.now) parts.now }
+    requires scopes { AreTextScopes (spec_tree spec.now) scopes.now }
+    ensures { IfOk result (IsFirstOf
+        (kind.UnknownName ∷ kind.Twice ∷ kind.Mismatch ∷ kind.Literal ∷ []) (spec_tree spec.now)) }
+{
+    if let Some(fault) = name_fault(alloc, names, parts, scopes, spec)? {
+        return Ok(Some(fault));
+    }
+    value_fault(alloc, names, parts, spec)
+}
+
+/// `F4`, or else `F5`, `F6` or `F7`.
+pub(crate) fn text_fault(
+    alloc: Global,
+    names: &TextNames,
+    scopes: &TextScopes,
+    spec: &Spec,
+) -> Result<Option<Faulty>, AllocError>
+    requires names { names.now ≡ spec.now }
+    requires scopes { AreTextScopes (spec_tree spec.now) scopes.now }
+    ensures { IfOk result (IsFirstOf
+        (kind.UnknownName ∷ kind.Twice ∷ kind.Mismatch ∷ kind.Literal ∷ []) (spec_tree spec.now)) }
+{
+    let parts = text_parts(alloc, names, spec.templates.as_slice())?;
+    part_fault(alloc, names, parts.as_slice(), scopes, spec)
 }
 
 // `F8`: a task or procedure that reaches itself by calls.

@@ -6,7 +6,7 @@ ghost use Rattle.tm_syntax.specs.Faults.Marks.{place_unless};
 ghost use Rattle.tm_syntax.specs.Faults.Mismatches.{template_faults};
 ghost use Rattle.tm_scope.specs.Context.{context_of};
 ghost use Rattle.tm_types.specs.Firsts.{first_of};
-ghost use Rattle.tm_types.specs.Inner.ExprFaults.{main_faults};
+ghost use Rattle.tm_types.specs.Inner.HeadFaults.{main_faults};
 
 use crate::firsts::{earlier_place, place_unless};
 use crate::mismatches::declared::{tasks_faults, types_faults, vars_faults};

@@ -1,4 +1,4 @@
-use Rattle.std.proofs.Common.{Option, Some, List, [], ◌∷◌, subst}
+use Rattle.std.proofs.Common.{Option, List, [], ◌∷◌, subst}
 use Rattle.std.proofs.lemmas.Result.{IfOk-weaker}
 use Rattle.tm_syntax.specs.declared.fault.FaultKind.{FaultKind}
 use Rattle.tm_syntax.specs.declared.fault.FaultKind.TheVariants as kind
@@ -9,41 +9,24 @@ use Rattle.tm_types.specs.Answer.{IsFirstOf, type_kinds}
 use Rattle.tm_types.proofs.FirstOfKinds.{first_here, first_then}
 use Rattle.tm_types.proofs.check.fault_by_tables.Goals as goal
 
--- the kinds of faults of names, of values, and of calls and loops
-abbrev name_kinds : List FaultKind
-name_kinds = kind.UnknownName ∷ kind.Twice ∷ []
-
-abbrev value_kinds : List FaultKind
-value_kinds = kind.Mismatch ∷ kind.Literal ∷ []
+-- the kinds of faults of names and values, and of calls and loops
+abbrev text_kinds : List FaultKind
+text_kinds = kind.UnknownName ∷ kind.Twice ∷ kind.Mismatch ∷ kind.Literal ∷ []
 
 abbrev call_kinds : List FaultKind
 call_kinds = kind.CallCycle ∷ kind.LoopWithoutLocation ∷ kind.LocationInAtomic ∷ []
 
-abbrev later_kinds : List FaultKind
-later_kinds =
-    kind.Mismatch ∷ kind.Literal ∷ kind.CallCycle ∷ kind.LoopWithoutLocation ∷ kind.LocationInAtomic ∷ []
-
 pub returns-in-Some : goal.returns-in-Some
 returns-in-Some c =
     let spec : SpecTree = spec_tree c.args.spec.now in
-    first_here name_kinds later_kinds spec c.in-Some.fault
-    (subst (λ (o : Option Faulty). IsFirstOf name_kinds spec o) c.in-Some.is c.in_ok-fault.ensures)
-
-pub returns-in-Some-2 : goal.returns-in-Some-2
-returns-in-Some-2 c =
-    let spec : SpecTree = spec_tree c.args.spec.now in
-    first_then name_kinds later_kinds spec (Some c.in-Some-2.fault)
-    (subst (λ (o : Option Faulty). IsFirstOf name_kinds spec o) c.in_default.is c.in_ok-fault.ensures)
-    (first_here value_kinds call_kinds spec c.in-Some-2.fault
-    (subst (λ (o : Option Faulty). IsFirstOf value_kinds spec o) c.in-Some-2.is c.in_ok-fault-2.ensures))
+    first_here text_kinds call_kinds spec c.in-Some.fault
+    (subst (λ (o : Option Faulty). IsFirstOf text_kinds spec o) c.in-Some.is c.in_ok-fault.ensures)
 
 pub returns : goal.returns
 returns c =
     let spec : SpecTree = spec_tree c.args.spec.now in
     IfOk-weaker c.call_fault.result (IsFirstOf call_kinds spec) (IsFirstOf type_kinds spec)
-    (λ r first. first_then name_kinds later_kinds spec r
-    (subst (λ (o : Option Faulty). IsFirstOf name_kinds spec o) c.in_default.is c.in_ok-fault.ensures)
-    (first_then value_kinds call_kinds spec r
-    (subst (λ (o : Option Faulty). IsFirstOf value_kinds spec o) c.in_default-2.is c.in_ok-fault-2.ensures)
-    first))
+    (λ r first. first_then text_kinds call_kinds spec r
+    (subst (λ (o : Option Faulty). IsFirstOf text_kinds spec o) c.in_default.is c.in_ok-fault.ensures)
+    first)
     c.call_fault.ensures

@@ -14,4 +14,4 @@ returns c =
     c.earlier_place.ensures.joined (flat_map declared_numbers spec.templates) (flat_map asked_numbers (exprs spec))
     (c.in_ok-in_declarations.ensures
     ∙ ap (λ ts. first_of (flat_map declared_numbers (map template_tree ts))) c.as_slice.ensures.value)
-    (c.in_ok-in_exprs.ensures ∙ ap (λ s. first_of (flat_map asked_numbers (exprs (spec_tree s)))) c.requires)
+    (c.exprs_numbers.ensures ∙ ap (λ es. first_of (flat_map asked_numbers es)) c.requires.exprs)

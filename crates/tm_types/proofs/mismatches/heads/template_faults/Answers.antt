@@ -10,7 +10,7 @@ use Rattle.tm_syntax.specs.Scopes.Parts.{template_types}
 use Rattle.tm_syntax.specs.Faults.Mismatches as text
 use Rattle.tm_types.specs.Firsts.{first_of}
 use Rattle.tm_names.specs.Parts.{listed_types}
-use Rattle.tm_types.specs.Inner.ExprFaults.{main_faults}
+use Rattle.tm_types.specs.Inner.HeadFaults.{main_faults}
 use Rattle.tm_types.proofs.mismatches.heads.template_faults.Goals as goal
 
 pub returns : goal.returns

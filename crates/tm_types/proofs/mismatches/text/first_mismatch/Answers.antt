@@ -15,6 +15,6 @@ returns c =
     c.earlier_place.ensures.joined (heads ++ in_bodies) (flat_map asked_faults (exprs spec))
     (c.earlier_place-declared.ensures.joined heads in_bodies
     (c.in_ok-in_heads.ensures
-    ∙ ap (λ s. first_of (flat_map (template_faults (spec_tree s)) (spec_tree s).templates)) c.requires)
-    (c.in_ok-in_bodies.ensures ∙ ap (λ s. first_of (flat_map body_faults (bodies (spec_tree s)))) c.requires))
-    (c.in_ok-in_exprs.ensures ∙ ap (λ s. first_of (flat_map asked_faults (exprs (spec_tree s)))) c.requires)
+    ∙ ap (λ s. first_of (flat_map (template_faults (spec_tree s)) (spec_tree s).templates)) c.requires.names)
+    (c.in_ok-in_bodies.ensures ∙ ap (λ bs. first_of (flat_map body_faults bs)) c.requires.parts.bodies))
+    (c.exprs_faults.ensures ∙ ap (λ es. first_of (flat_map asked_faults es)) c.requires.parts.exprs)

@@ -16,8 +16,8 @@ use Rattle.tm_types.proofs.unknown.bodies.unknown_in_body.Goals as goal
 
 pub returns : goal.returns
 returns c =
-    let body = c.args.part.now.body.now in
-    let unknown = unknown_in_stmt (context_of c.args.part.now.site) in
+    let body = c.args.body.now in
+    let unknown = unknown_in_stmt (context_of c.args.site.now) in
     let in_local = λ (l : LocalTree). unknown (declaration l) in
     c.earlier_name.ensures (flat_map in_local (map local_tree body.locals.items))
     (flat_map unknown (all_stmts (stmt_trees body.stmts.items)))

@@ -13,10 +13,9 @@ returns c =
     let spec : SpecTree = spec_tree c.args.spec.now in
     c.earliest_of_four.ensures (unknown_main spec) (flat_map (unknown_in_template spec) spec.templates)
     (flat_map unknown_in_expr (exprs spec)) (flat_map unknown_in_body (bodies spec))
-    (c.unknown_main.ensures ∙ ap (λ (s : Spec). first_mark (unknown_main (spec_tree s))) c.requires)
+    (c.unknown_main.ensures ∙ ap (λ (s : Spec). first_mark (unknown_main (spec_tree s))) c.requires.names)
     (c.in_ok-in_heads.ensures ∙ ap (λ (s : Spec). first_mark
-    (flat_map (unknown_in_template (spec_tree s)) (spec_tree s).templates)) c.requires)
-    (c.in_ok-in_exprs.ensures
-    ∙ ap (λ (s : Spec). first_mark (flat_map unknown_in_expr (exprs (spec_tree s)))) c.requires)
-    (c.in_ok-in_bodies.ensures
-    ∙ ap (λ (s : Spec). first_mark (flat_map unknown_in_body (bodies (spec_tree s)))) c.requires)
+    (flat_map (unknown_in_template (spec_tree s)) (spec_tree s).templates)) c.requires.names)
+    (c.unknown_in_all_exprs-in_exprs.ensures
+    ∙ ap (λ es. first_mark (flat_map unknown_in_expr es)) c.requires.parts.exprs)
+    (c.in_ok-in_bodies.ensures ∙ ap (λ bs. first_mark (flat_map unknown_in_body bs)) c.requires.parts.bodies)
