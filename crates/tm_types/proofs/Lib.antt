@@ -10,6 +10,7 @@ pub mod LoopingTasks
 pub mod MainTemplates
 pub mod NumberedParts
 pub mod ReachedTasks
+pub mod TextHeads
 pub mod TextParts
 pub mod ToldCalls
 pub mod TypedResults

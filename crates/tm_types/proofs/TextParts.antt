@@ -100,7 +100,8 @@ pub outside_pushed : (old mid new : List TextPart) (bs : List BodyAt) (es os : L
     HoldMore mid new [] os → HoldMore old new bs (es ++ os)
 outside_pushed old mid new bs es os first second = record {
   bodies = second.bodies ∙ append-nil (flat_map bodies_of mid) ∙ first.bodies;
-  exprs = two_more (flat_map exprs_of old) es os (flat_map exprs_of mid) (flat_map exprs_of new) first.exprs second.exprs;
+  exprs =
+      two_more (flat_map exprs_of old) es os (flat_map exprs_of mid) (flat_map exprs_of new) first.exprs second.exprs;
 }
 
 module _ (bodies : Template → List BodyAt) (exprs : Template → List ExprAt) (ts : List Template) where

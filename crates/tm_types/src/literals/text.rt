@@ -5,12 +5,12 @@ ghost use Rattle.tm_syntax.specs.Tree.View.{spec_tree, template_tree};
 ghost use Rattle.tm_syntax.specs.Faults.Literals.{asked_numbers, misfit_numbers};
 ghost use Rattle.tm_types.specs.Firsts.{first_of};
 ghost use Rattle.tm_types.specs.Inner.Numbers.{declared_numbers};
-ghost use Rattle.tm_types.specs.Inner.TextParts.{AreTextParts, expr_at, exprs_of};
+ghost use Rattle.tm_types.specs.Inner.TextParts.{IsDivided, expr_at, exprs_of};
 
 use crate::firsts::earlier_place;
 use crate::literals::declared::declared_numbers;
 use crate::literals::exprs::{expr_numbers, index_numbers};
-use crate::parts::TextPart;
+use crate::parts::{DividedText, TextPart};
 use std::alloc::{AllocError, Global};
 use tm_base::Place;
 use tm_names::{Asked, ExprPart, Site};
@@ -60,21 +60,21 @@ fn templates_declared(alloc: Global, templates: &[Template]) -> Result<Option<Pl
 {
     let mut first = None;
     for template in templates {
-        first = earlier_place(first, declared_numbers(alloc, template)?);
+        first = earlier_place(first, given!(declared_numbers(alloc, template)));
     }
     Ok(first)
 }
 
-/// The first number of a text, of which these are the parts, that does not fit its type or its place. `AllocError` is
-/// want of memory.
+/// The first number of a text that does not fit its type or its place. `AllocError` is want of memory.
 pub(crate) fn first_misfit(
     alloc: Global,
-    parts: &[TextPart],
+    text: &DividedText,
     spec: &Spec,
 ) -> Result<Option<Place>, AllocError>
-    requires { AreTextParts (spec_tree spec.now) parts.now }
+    requires { IsDivided spec.now text.now }
     ensures { IfOk result (λ first. first ≡ first_of (misfit_numbers (spec_tree spec.now))) }
 {
-    let in_declarations = templates_declared(alloc, spec.templates.as_slice())?;
-    Ok(earlier_place(in_declarations, exprs_numbers(parts)))
+    let in_declarations = given!(templates_declared(alloc, spec.templates.as_slice()));
+    let in_exprs = exprs_numbers(text.parts.as_slice());
+    Ok(earlier_place(in_declarations, in_exprs))
 }

@@ -101,7 +101,7 @@ fn stmts_faults<'a>(
     ensures { IfOk result (λ first. first
         ≡ first_of (flat_map (stmt_faults (context_of at.now)) (all_stmts (stmt_trees stmts.now)))) }
 {
-    let listed = all_stmts(alloc, stmts)?;
+    let listed = given!(all_stmts(alloc, stmts));
     let mut first = None;
     for stmt in listed.as_slice() {
         first = earlier_place(first, stmt_faults(at, *stmt));
@@ -119,7 +119,7 @@ fn body_faults<'a>(
         (record { context = context_of at.now; body = body_tree body.now }))) }
 {
     let in_locals = locals_faults(at, body.locals.as_slice());
-    let in_stmts = stmts_faults(alloc, at, body.stmts.as_slice())?;
+    let in_stmts = given!(stmts_faults(alloc, at, body.stmts.as_slice()));
     Ok(earlier_place(in_locals, in_stmts))
 }
 

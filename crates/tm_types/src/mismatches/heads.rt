@@ -46,7 +46,7 @@ pub(crate) fn template_faults(
     ensures { IfOk result (λ first. first
         ≡ first_of (template_faults (context_of at.now).spec (template_tree template.now))) }
 {
-    let types = template_types(alloc, template)?;
+    let types = given!(template_types(alloc, template));
     let of_main = main_faults(template);
     let of_ports = ports_faults(at.names(), template.ports.as_slice());
     let of_types = types_faults(at.names(), types.as_slice());

@@ -1,50 +1,29 @@
 //! The first place of a text at which a type, a sort of name, a number of arguments or a result does not fit.
-ghost use Rattle.std.specs.Prelude.{◌≡◌, IfOk, Some, slice_get};
-ghost use Rattle.std.specs.List.{flat_map};
-ghost use Rattle.tm_syntax.specs.Tree.View.{spec_tree, template_tree};
+ghost use Rattle.std.specs.Prelude.{◌≡◌, IfOk};
+ghost use Rattle.std.specs.List.{All, flat_map};
+ghost use Rattle.tm_syntax.specs.Tree.View.{spec_tree};
 ghost use Rattle.tm_syntax.specs.Faults.Mismatches.{asked_faults, body_faults, mismatches, template_faults};
 ghost use Rattle.tm_types.specs.Firsts.{first_of};
-ghost use Rattle.tm_types.specs.Inner.TextParts.{AreTextParts, bodies_of, exprs_of};
+ghost use Rattle.tm_types.specs.Inner.TextParts.{IsDivided, IsOwnHead, bodies_of, exprs_of, in_head};
 
 use crate::firsts::earlier_place;
 use crate::mismatches::asked::asked_faults;
 use crate::mismatches::bodies::part_faults;
 use crate::mismatches::heads::template_faults;
-use crate::parts::TextPart;
+use crate::parts::{DividedText, TextHead, TextPart};
 use std::alloc::{AllocError, Global};
 use tm_base::Place;
-use tm_names::{Site, TextNames};
-use tm_scope::BodyName;
-use tm_syntax::tree::{Spec, Template};
-
-// The first fault in the declarations of the template of a number.
-fn head_faults<'a>(
-    alloc: Global,
-    names: &'a TextNames<'a>,
-    number: usize,
-    template: &'a Template,
-) -> Result<Option<Place>, AllocError>
-    requires { slice_get names.now.templates.items number ≡ Some template.now }
-    ensures { IfOk result (λ first. first
-        ≡ first_of (template_faults (spec_tree names.now) (template_tree template.now))) }
-{
-    let outside = Site::new(names, number, BodyName::Outside);
-    template_faults(alloc, &outside, template)
-}
+use tm_syntax::tree::Spec;
 
 // The first one in the declarations of templates.
-fn heads_faults<'a>(
-    alloc: Global,
-    names: &'a TextNames<'a>,
-    templates: &'a [Template],
-) -> Result<Option<Place>, AllocError>
-    requires { templates.now ≡ names.now.templates.items }
-    ensures { IfOk result (λ first. first
-        ≡ first_of (flat_map (template_faults (spec_tree names.now)) (spec_tree names.now).templates)) }
+fn heads_faults(alloc: Global, heads: &[TextHead]) -> Result<Option<Place>, AllocError>
+    requires { All IsOwnHead heads.now }
+    ensures { IfOk result (λ first. first ≡ first_of (flat_map (in_head template_faults) heads.now)) }
 {
     let mut first = None;
-    for (number, template) in templates.iter().enumerate() {
-        first = earlier_place(first, head_faults(alloc, names, number, template)?);
+    for head in heads {
+        let here = given!(template_faults(alloc, &head.site, head.template));
+        first = earlier_place(first, here);
     }
     Ok(first)
 }
@@ -55,7 +34,7 @@ fn bodies_faults(alloc: Global, parts: &[TextPart]) -> Result<Option<Place>, All
 {
     let mut first = None;
     for part in parts {
-        first = earlier_place(first, part_faults(alloc, part)?);
+        first = earlier_place(first, given!(part_faults(alloc, part)));
     }
     Ok(first)
 }
@@ -82,20 +61,19 @@ fn exprs_faults(parts: &[TextPart]) -> Option<Place>
     first
 }
 
-/// The first place of a text, of which these are the parts, at which a type, a sort of name, a number of arguments or a
-/// result does not fit. Near linear in the text. `AllocError` is want of memory.
-pub(crate) fn first_mismatch<'a>(
+/// The first place of a text at which a type, a sort of name, a number of arguments or a result does not fit. Near
+/// linear in the text. `AllocError` is want of memory.
+pub(crate) fn first_mismatch(
     alloc: Global,
-    names: &'a TextNames<'a>,
-    parts: &[TextPart],
-    spec: &'a Spec,
+    text: &DividedText,
+    spec: &Spec,
 ) -> Result<Option<Place>, AllocError>
-    requires names { names.now ≡ spec.now }
-    requires parts { AreTextParts (spec_tree spec.now) parts.now }
+    requires { IsDivided spec.now text.now }
     ensures { IfOk result (λ first. first ≡ first_of (mismatches (spec_tree spec.now))) }
 {
-    let in_heads = heads_faults(alloc, names, spec.templates.as_slice())?;
-    let in_bodies = bodies_faults(alloc, parts)?;
+    let in_heads = given!(heads_faults(alloc, text.heads.as_slice()));
+    let in_bodies = given!(bodies_faults(alloc, text.parts.as_slice()));
     let declared = earlier_place(in_heads, in_bodies);
-    Ok(earlier_place(declared, exprs_faults(parts)))
+    let in_exprs = exprs_faults(text.parts.as_slice());
+    Ok(earlier_place(declared, in_exprs))
 }

@@ -125,7 +125,7 @@ fn unknown_in_body<'a>(
     ensures { IfOk result (λ first. option_map mark_of first ≡ first_mark (unknown_in_body
         (record { context = context_of site.now; body = body_tree body.now }))) }
 {
-    let stmts = all_stmts(alloc, body.stmts.as_slice())?;
+    let stmts = given!(all_stmts(alloc, body.stmts.as_slice()));
     let in_locals = unknown_in_locals(site, body.locals.as_slice());
     Ok(earlier_name(in_locals, unknown_in_listed(site, stmts.as_slice())))
 }

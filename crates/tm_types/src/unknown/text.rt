@@ -1,51 +1,35 @@
 //! The first name of a text that no declaration gives in its scope.
-ghost use Rattle.std.specs.Prelude.{◌≡◌, IfOk, Some, slice_get};
-ghost use Rattle.std.specs.List.{flat_map};
+ghost use Rattle.std.specs.Prelude.{◌≡◌, IfOk};
+ghost use Rattle.std.specs.List.{All, flat_map};
 ghost use Rattle.std.specs.Option.{option_map};
-ghost use Rattle.tm_syntax.specs.Tree.View.{spec_tree, template_tree};
+ghost use Rattle.tm_syntax.specs.Tree.View.{spec_tree};
 ghost use Rattle.tm_syntax.specs.Faults.Marks.{first_mark};
 ghost use Rattle.tm_syntax.specs.Faults.Names.{unknown_in_body, unknown_in_expr, unknown_in_template, unknown_names};
 ghost use Rattle.tm_names.specs.ScopeNames.{mark_of};
-ghost use Rattle.tm_types.specs.Inner.TextParts.{AreTextParts, bodies_of, exprs_of};
+ghost use Rattle.tm_types.specs.Inner.TextParts.{IsDivided, IsOwnHead, bodies_of, exprs_of, in_head};
 
 use crate::firsts_named::earliest_of_four;
-use crate::parts::TextPart;
+use crate::parts::{DividedText, TextHead, TextPart};
 use crate::unknown::bodies::unknown_in_part;
 use crate::unknown::declared::{unknown_in_template, unknown_main};
 use crate::unknown::exprs::unknown_in_asked;
 use std::alloc::{AllocError, Global};
-use tm_names::{NameMark, Site, TextNames, earlier_mark};
-use tm_scope::BodyName;
-use tm_syntax::tree::{Spec, Template};
-
-// The first one in the declarations of the template of a number.
-fn unknown_in_head<'a>(
-    alloc: Global,
-    names: &'a TextNames<'a>,
-    number: usize,
-    template: &'a Template,
-) -> Result<Option<NameMark<'a>>, AllocError>
-    requires { slice_get names.now.templates.items number ≡ Some template.now }
-    ensures { IfOk result (λ first. option_map mark_of first
-        ≡ first_mark (unknown_in_template (spec_tree names.now) (template_tree template.now))) }
-{
-    let outside = Site::new(names, number, BodyName::Outside);
-    unknown_in_template(alloc, &outside, template)
-}
+use tm_names::{NameMark, earlier_mark};
+use tm_syntax::tree::Spec;
 
 // The first one in the declarations of templates.
 fn unknown_in_heads<'a>(
     alloc: Global,
-    names: &'a TextNames<'a>,
-    templates: &'a [Template],
+    heads: &[TextHead<'a>],
 ) -> Result<Option<NameMark<'a>>, AllocError>
-    requires { templates.now ≡ names.now.templates.items }
-    ensures { IfOk result (λ first. option_map mark_of first ≡ first_mark
-        (flat_map (unknown_in_template (spec_tree names.now)) (spec_tree names.now).templates)) }
+    requires { All IsOwnHead heads.now }
+    ensures { IfOk result (λ first. option_map mark_of first
+        ≡ first_mark (flat_map (in_head unknown_in_template) heads.now)) }
 {
     let mut first = None;
-    for (number, template) in templates.iter().enumerate() {
-        first = earlier_mark(first, unknown_in_head(alloc, names, number, template)?);
+    for head in heads {
+        let here = given!(unknown_in_template(alloc, &head.site, head.template));
+        first = earlier_mark(first, here);
     }
     Ok(first)
 }
@@ -82,25 +66,24 @@ fn unknown_in_all_bodies<'a>(
 {
     let mut first = None;
     for part in parts {
-        first = earlier_mark(first, unknown_in_part(alloc, part)?);
+        first = earlier_mark(first, given!(unknown_in_part(alloc, part)));
     }
     Ok(first)
 }
 
-/// The first name of a text, of which these are the parts, that no declaration gives in its scope, or `main` at the
-/// text's start where no template has that name. `AllocError` is want of memory. Linear in the text.
+/// The first name of a text that no declaration gives in its scope, or `main` at the text's start where no template has
+/// that name. `AllocError` is want of memory. Linear in the text.
 pub(crate) fn first_unknown<'a>(
     alloc: Global,
-    names: &'a TextNames<'a>,
-    parts: &[TextPart<'a>],
-    spec: &'a Spec,
+    text: &DividedText<'a>,
+    spec: &Spec,
 ) -> Result<Option<NameMark<'a>>, AllocError>
-    requires names { names.now ≡ spec.now }
-    requires parts { AreTextParts (spec_tree spec.now) parts.now }
+    requires { IsDivided spec.now text.now }
     ensures { IfOk result (λ first. option_map mark_of first ≡ first_mark (unknown_names (spec_tree spec.now))) }
 {
-    let in_heads = unknown_in_heads(alloc, names, spec.templates.as_slice())?;
-    let in_bodies = unknown_in_all_bodies(alloc, parts)?;
-    let in_exprs = unknown_in_all_exprs(parts);
-    Ok(earliest_of_four(unknown_main(names), in_heads, in_exprs, in_bodies))
+    let in_heads = given!(unknown_in_heads(alloc, text.heads.as_slice()));
+    let in_bodies = given!(unknown_in_all_bodies(alloc, text.parts.as_slice()));
+    let in_exprs = unknown_in_all_exprs(text.parts.as_slice());
+    let in_main = unknown_main(text.names);
+    Ok(earliest_of_four(in_main, in_heads, in_exprs, in_bodies))
 }

@@ -11,5 +11,5 @@ returns c =
     let part = c.args.part in
     part_pushed c.args.parts.now.items c.push.new.self.items _ (body_at part ∷ []) (exprs_of_body (body_at part))
     c.in_ok-push.ensures.items refl
-    (exprs_at part.site (context_of part.site) c.in_ok-exprs.exprs.items (body_exprs (body_at part)) refl
-    c.in_ok-exprs.ensures)
+    (exprs_at part.site (context_of part.site) c.in-Ok.given.items (body_exprs (body_at part)) refl
+    c.in-Ok.ensures)

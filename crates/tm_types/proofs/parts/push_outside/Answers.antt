@@ -21,6 +21,6 @@ returns c =
       body = body_name (c.new.ensures.body i);
     } in
     part_pushed c.args.parts.now.items c.push.new.self.items _ [] (outside_exprs spec t) c.in_ok-push.ensures.items refl
-    (exprs_at c.new.result (outside_of spec t) c.in_ok-exprs.exprs.items (conditions_of (t.goals ++ t.fairs)) stands
-    c.in_ok-exprs.ensures
+    (exprs_at c.new.result (outside_of spec t) c.in-Ok.given.items (conditions_of (t.goals ++ t.fairs)) stands
+    c.in-Ok.ensures
     ∙ conditions_at (outside_of spec t) (t.goals ++ t.fairs))

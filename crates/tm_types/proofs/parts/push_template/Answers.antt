@@ -16,8 +16,8 @@ returns c =
     let new = c.push_outside.new.parts.items in
     let bodies = template_bodies spec t in
     let first : HoldMore old mid bodies (flat_map exprs_of_body bodies) =
-    subst (λ (bs : List BodyAt). HoldMore old mid bs (flat_map exprs_of_body bs)) c.in_ok-template_bodies.ensures
-    c.in_ok-push_bodies.ensures in
+    subst (λ (bs : List BodyAt). HoldMore old mid bs (flat_map exprs_of_body bs)) c.in-Ok.ensures
+    c.in-Ok-push_bodies.ensures in
     IfOk-weaker c.push_outside.result (λ _. HoldMore mid new [] (outside_exprs spec t))
     (λ _. HoldMore old new bodies (template_exprs spec t))
     (λ _ second. outside_pushed old mid new bodies (flat_map exprs_of_body bodies) (outside_exprs spec t) first second)

@@ -13,9 +13,9 @@ returns c =
     let t = template_tree c.args.template.now in
     let one = all_asked c.push_conditions.new.asked.items in
     two_more [] (conditions_of t.goals) (conditions_of t.fairs) one (all_asked c.push_conditions-2.new.asked.items)
-    (c.in_ok-push_conditions.ensures
+    (c.in-Ok.ensures
     ∙ ap (λ es. all_asked es ++ conditions_of (map named_tree c.as_slice.result.now)) c.new-asked.ensures.items
     ∙ ap (λ ns. conditions_of (map named_tree ns)) c.as_slice.ensures.value)
-    (c.in_ok-push_conditions-2.ensures
+    (c.in-Ok-push_conditions.ensures
     ∙ ap (λ ns. one ++ conditions_of (map named_tree ns)) c.as_slice-2.ensures.value)
     ∙ sym (map-append (λ (n : NamedTree). condition n.expr) t.goals t.fairs)

@@ -19,7 +19,7 @@ loop-number-preserved c =
     (λ (t : Template). template_exprs spec (template_tree t)) c.args.templates.now c.loop-number.parts.items
     c.push_template.new.parts.items c.loop-number.number c.index-templates-number.result
     (omega (arith, c.loop-number-test.true)) c.index-templates-number.is c.loop-number.invariant
-    c.in_ok-push_template.ensures
+    c.in-Ok.ensures
 
 pub returns : goal.returns
 returns c =

@@ -16,18 +16,18 @@ name_kinds = kind.UnknownName ∷ kind.Twice ∷ []
 abbrev value_kinds : List FaultKind
 value_kinds = kind.Mismatch ∷ kind.Literal ∷ []
 
-pub returns-in-Some : goal.returns-in-Some
-returns-in-Some c =
+pub returns-in-Ok-Some : goal.returns-in-Ok-Some
+returns-in-Ok-Some c =
     let spec : SpecTree = spec_tree c.args.spec.now in
-    first_here name_kinds value_kinds spec c.in-Some.fault
-    (subst (λ (o : Option Faulty). IsFirstOf name_kinds spec o) c.in-Some.is c.in_ok-fault.ensures)
+    first_here name_kinds value_kinds spec c.in-Ok-Some.fault
+    (subst (λ (o : Option Faulty). IsFirstOf name_kinds spec o) c.in-Ok-Some.field-0-is c.in-Ok-Some.ensures)
 
-pub returns : goal.returns
-returns c =
+pub returns-in-Ok-None : goal.returns-in-Ok-None
+returns-in-Ok-None c =
     let spec : SpecTree = spec_tree c.args.spec.now in
     IfOk-weaker c.value_fault.result (IsFirstOf value_kinds spec)
     (IsFirstOf (kind.UnknownName ∷ kind.Twice ∷ kind.Mismatch ∷ kind.Literal ∷ []) spec)
     (λ r first. first_then name_kinds value_kinds spec r
-    (subst (λ (o : Option Faulty). IsFirstOf name_kinds spec o) c.in_default.is c.in_ok-fault.ensures)
+    (subst (λ (o : Option Faulty). IsFirstOf name_kinds spec o) c.in-Ok-None.field-0-is c.in-Ok-None.ensures)
     first)
     c.value_fault.ensures

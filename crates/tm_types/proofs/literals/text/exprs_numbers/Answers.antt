@@ -13,4 +13,5 @@ loop-part-preserved c =
     c.loop-part.invariant
 
 pub returns : goal.returns
-returns c = found_held asked_numbers exprs_of c.args.parts.now c.loop-part.part-index (omega arith) c.loop-part.invariant
+returns c =
+    found_held asked_numbers exprs_of c.args.parts.now c.loop-part.part-index (omega arith) c.loop-part.invariant

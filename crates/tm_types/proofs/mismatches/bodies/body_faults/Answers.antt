@@ -19,6 +19,6 @@ returns c =
     (flat_map faults (all_stmts (stmt_trees body.stmts.items)))
     (c.locals_faults-in_locals.ensures
     ∙ ap (λ ls. first_of (flat_map of_local (map local_tree ls))) c.as_slice.ensures.value)
-    (c.in_ok-in_stmts.ensures
+    (c.in-Ok.ensures
     ∙ ap (λ ss. first_of (flat_map faults (all_stmts (stmt_trees ss)))) c.as_slice-2.ensures.value)
     ∙ ap first_of (sym (flat_map-stmts_in faults (body_tree body)))

@@ -31,7 +31,7 @@ returns c =
     c.types_faults-of_types.ensures
     ∙ (λ i. first_of (flat_map (text.type_faults (spec_tree (c.names-2.ensures i)))
     (listed_types (c.as_slice-2.ensures.value i))))
-    ∙ ap (λ ts. first_of (flat_map (text.type_faults spec) ts)) c.in_ok-types.ensures in
+    ∙ ap (λ ts. first_of (flat_map (text.type_faults spec) ts)) c.in-Ok.ensures in
     let in_vars : c.vars_faults-of_vars.result ≡ first_of vars =
     c.vars_faults-of_vars.ensures
     ∙ ap (λ (vs : List VarDef). first_of (flat_map (text.var_faults spec) (map var_tree vs)))

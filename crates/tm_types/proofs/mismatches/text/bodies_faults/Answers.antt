@@ -9,7 +9,7 @@ use Rattle.tm_types.proofs.mismatches.text.bodies_faults.Goals as goal
 pub loop-part-preserved : goal.loop-part-preserved
 loop-part-preserved c =
     found_more (λ (p : TextPart). flat_map body_faults (bodies_of p)) (λ p. p) c.args.parts.now c.loop-part.part-index
-    c.part-item.result (omega arith) c.part-item.is c.in_ok-part_faults.ensures c.earlier_place-first.ensures.earlier
+    c.part-item.result (omega arith) c.part-item.is c.in-Ok.ensures c.earlier_place-first.ensures.earlier
     c.loop-part.invariant
 
 pub returns : goal.returns

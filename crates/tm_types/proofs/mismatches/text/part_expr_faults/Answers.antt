@@ -6,7 +6,8 @@ use Rattle.tm_types.proofs.mismatches.text.part_expr_faults.Goals as goal
 
 pub loop-e-preserved : goal.loop-e-preserved
 loop-e-preserved c =
-    found_more asked_faults (expr_at c.args.part.now.site) c.as_slice-e-items.result.now c.loop-e.e-index c.e-item.result
+    found_more asked_faults (expr_at c.args.part.now.site) c.as_slice-e-items.result.now c.loop-e.e-index
+    c.e-item.result
     (omega arith) c.e-item.is c.asked_faults.ensures c.earlier_place-first.ensures.earlier c.loop-e.invariant
 
 pub returns : goal.returns

@@ -26,5 +26,5 @@ returns c =
     (c.unknown_in_listed.ensures
     ∙ ap (λ (ss : List (Bor Stmt)). first_mark (flat_map unknown (listed_stmts ss))) c.as_slice-3.ensures.value
     ∙ ap (λ (ss : List StmtTree). first_mark (flat_map unknown ss))
-    (c.in_ok-stmts.ensures ∙ ap (λ ss. all_stmts (stmt_trees ss)) c.as_slice.ensures.value))
+    (c.in-Ok.ensures ∙ ap (λ ss. all_stmts (stmt_trees ss)) c.as_slice.ensures.value))
     ∙ ap first_mark (sym (flat_map-stmts_in unknown (body_tree body)))

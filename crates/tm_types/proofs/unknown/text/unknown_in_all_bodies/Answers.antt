@@ -8,9 +8,11 @@ use Rattle.tm_types.proofs.unknown.text.unknown_in_all_bodies.Goals as goal
 
 pub loop-part-preserved : goal.loop-part-preserved
 loop-part-preserved c =
-    found_more (λ (p : TextPart). flat_map unknown_in_body (bodies_of p)) (λ p. p) c.args.parts.now c.loop-part.part-index
-    c.part-item.result (omega arith) c.part-item.is c.in_ok-unknown_in_part.ensures c.earlier_mark-first.ensures
+    found_more (λ (p : TextPart). flat_map unknown_in_body (bodies_of p)) (λ p. p) c.args.parts.now
+    c.loop-part.part-index
+    c.part-item.result (omega arith) c.part-item.is c.in-Ok.ensures c.earlier_mark-first.ensures
     c.loop-part.invariant
 
 pub returns : goal.returns
-returns c = found_held unknown_in_body bodies_of c.args.parts.now c.loop-part.part-index (omega arith) c.loop-part.invariant
+returns c =
+    found_held unknown_in_body bodies_of c.args.parts.now c.loop-part.part-index (omega arith) c.loop-part.invariant

@@ -10,4 +10,5 @@ use Rattle.tm_types.proofs.unknown.text.unknown_in_all_bodies.Given as goal
 
 abbrev pub invariant-loop-part : goal.invariant-loop-part
 invariant-loop-part l =
-    option_map mark_of l.first ≡ found_before (λ (p : TextPart). flat_map unknown_in_body (bodies_of p)) (λ p. p) l.parts l.part-index
+    option_map mark_of l.first
+    ≡ found_before (λ (p : TextPart). flat_map unknown_in_body (bodies_of p)) (λ p. p) l.parts l.part-index
