@@ -5,6 +5,7 @@ use Rattle.std.proofs.lemmas.List.{take_all}
 use Rattle.std.proofs.lemmas.List.Folds.{flat_map-map}
 use Rattle.tm_syntax.specs.Places.{earliest_of}
 use Rattle.tm_syntax.specs.Faults.Marks.{Mark, first_mark}
+use Rattle.tm_names.proofs.BodyParts.{flat_map-flat_map}
 use Rattle.tm_names.proofs.FirstFaults.{first_more}
 
 module _ {X Y : Type 0} (faults : Y → List Mark) (view : X → Y) where
@@ -31,3 +32,10 @@ module _ {X Y : Type 0} (faults : Y → List Mark) (view : X → Y) where
 pub bare_all : {X : Type 0} (faults : X → List Mark) (xs : List X) (i : ℕ) {found : Option Mark} → length xs ≤ i →
     found ≡ found_before faults (λ x. x) xs i → found ≡ first_mark (flat_map faults xs)
 bare_all faults xs i past before = before ∙ ap (λ ys. first_mark (flat_map faults ys)) (take_all i xs past)
+
+-- all parts of a slice, each of which holds several
+pub found_held : {X Y : Type 0} (faults : Y → List Mark) (held : X → List Y) (xs : List X) (i : ℕ)
+    {found : Option Mark} → length xs ≤ i → found ≡ found_before (λ x. flat_map faults (held x)) (λ x. x) xs i →
+    found ≡ first_mark (flat_map faults (flat_map held xs))
+found_held faults held xs i past before =
+    bare_all (λ x. flat_map faults (held x)) xs i past before ∙ ap first_mark (sym (flat_map-flat_map faults held xs))

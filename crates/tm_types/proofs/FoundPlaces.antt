@@ -6,6 +6,7 @@ use Rattle.std.proofs.lemmas.List.Folds.{flat_map-map}
 use Rattle.tm_base.specs.declared.place.Place.{Place}
 use Rattle.tm_syntax.specs.Places.{earliest_of}
 use Rattle.tm_types.specs.Firsts.{first_of}
+use Rattle.tm_names.proofs.BodyParts.{flat_map-flat_map}
 use Rattle.tm_names.proofs.FirstFaults.{first_more}
 
 module _ {X Y : Type 0} (faults : Y → List Place) (view : X → Y) where
@@ -37,3 +38,11 @@ module _ {X Y : Type 0} (faults : Y → List Place) (view : X → Y) where
       found ≡ first_of (flat_map faults whole)
   found_listed slice items whole i same viewed past before =
       found_all slice i past before ∙ ap (λ ys. first_of (flat_map faults ys)) (ap (map view) same ∙ viewed)
+
+-- all parts of a slice, each of which holds several
+pub found_held : {X Y : Type 0} (faults : Y → List Place) (held : X → List Y) (xs : List X) (i : ℕ)
+    {found : Option Place} → length xs ≤ i → found ≡ found_before (λ x. flat_map faults (held x)) (λ x. x) xs i →
+    found ≡ first_of (flat_map faults (flat_map held xs))
+found_held faults held xs i past before =
+    found_whole (λ x. flat_map faults (held x)) (λ x. x) xs i past before
+    ∙ ap first_of (sym (flat_map-flat_map faults held xs))

@@ -10,7 +10,8 @@ pub mod LoopingTasks
 pub mod MainTemplates
 pub mod NumberedParts
 pub mod ReachedTasks
-pub mod TextExprs
+pub mod TextHeads
+pub mod TextParts
 pub mod ToldCalls
 pub mod TypedResults
 pub mod UnknownPaths

@@ -6,7 +6,7 @@ ghost use Rattle.tm_syntax.specs.Faults.{IsOfText};
 ghost use Rattle.tm_types.specs.Answer.{HasTypeFault, IsFirstOf, IsMemoryOr, type_kinds};
 ghost use Rattle.tm_names.specs.TextScopes.{AreTextScopes};
 
-use crate::stages::{call_fault, name_fault, value_fault};
+use crate::stages::type_fault;
 use std::alloc::{AllocError, Global};
 use tm_names::{TextNames, TextScopes};
 use tm_scope::Scopes;
@@ -39,28 +39,63 @@ pub fn check_types(alloc: Global, spec: Spec) -> Result<Typed, FrontError>
 fn first_fault(alloc: Global, spec: &Spec) -> Result<Option<Faulty>, AllocError>
     ensures { IfOk result (IsFirstOf type_kinds (spec_tree spec.now)) }
 {
-    let scopes = TextScopes::new(alloc, spec)?;
-    let tables = Scopes::new(alloc, spec)?;
-    fault_by_tables(alloc, spec, &scopes, &tables)
+    let scopes = TextScopes::new(alloc, spec);
+    fault_by_scopes(alloc, spec, &scopes)
 }
 
-// The same, given the scopes and the tables of the specification.
+// The fault of a specification, given its scopes where memory sufficed for them.
+fn fault_by_scopes(
+    alloc: Global,
+    spec: &Spec,
+    scopes: &Result<TextScopes, AllocError>,
+) -> Result<Option<Faulty>, AllocError>
+    requires { IfOk scopes.now (AreTextScopes (spec_tree spec.now)) }
+    ensures { IfOk result (IsFirstOf type_kinds (spec_tree spec.now)) }
+{
+    match scopes {
+        Ok(scopes) => {
+            let tables = Scopes::new(alloc, spec);
+            fault_by_tables(alloc, spec, scopes, &tables)
+        }
+        Err(error) => Err(*error),
+    }
+}
+
+// The fault of a specification, given its scopes, and its tables where memory sufficed for them.
 fn fault_by_tables(
     alloc: Global,
     spec: &Spec,
     scopes: &TextScopes,
+    tables: &Result<Scopes, AllocError>,
+) -> Result<Option<Faulty>, AllocError>
+    requires scopes { AreTextScopes (spec_tree spec.now) scopes.now }
+    requires tables { IfOk tables.now (λ tables. tables ≡ spec.now) }
+    ensures { IfOk result (IsFirstOf type_kinds (spec_tree spec.now)) }
+{
+    match tables {
+        Ok(tables) => {
+            let names = TextNames::new(alloc, spec, tables, scopes);
+            fault_by_names(alloc, spec, scopes, tables, &names)
+        }
+        Err(error) => Err(*error),
+    }
+}
+
+// The fault of a specification, given its scopes and tables, and its names where memory sufficed for them.
+fn fault_by_names(
+    alloc: Global,
+    spec: &Spec,
+    scopes: &TextScopes,
     tables: &Scopes,
+    names: &Result<TextNames, AllocError>,
 ) -> Result<Option<Faulty>, AllocError>
     requires scopes { AreTextScopes (spec_tree spec.now) scopes.now }
     requires tables { tables.now ≡ spec.now }
+    requires names { IfOk names.now (λ names. names ≡ spec.now) }
     ensures { IfOk result (IsFirstOf type_kinds (spec_tree spec.now)) }
 {
-    let names = TextNames::new(alloc, spec, tables, scopes)?;
-    if let Some(fault) = name_fault(alloc, &names, scopes, spec)? {
-        return Ok(Some(fault));
+    match names {
+        Ok(names) => type_fault(alloc, names, scopes, tables, spec),
+        Err(error) => Err(*error),
     }
-    if let Some(fault) = value_fault(alloc, &names, spec)? {
-        return Ok(Some(fault));
-    }
-    call_fault(alloc, tables, spec)
 }

@@ -75,6 +75,6 @@ pub(crate) fn first_looping<'a>(
     ensures first { IfOk result (λ r. IfSome r (λ m. HasFault kind.CallCycle (spec_tree spec.now) (mark_of m))) }
     ensures none { IfOk result (λ r. IfNone r (IsFree (spec_tree spec.now) kind.CallCycle)) }
 {
-    let looping = looping_tasks(alloc, scopes)?;
+    let looping = given!(looping_tasks(alloc, scopes));
     Ok(first_in_templates(&looping, spec.templates.as_slice()))
 }

@@ -7,7 +7,8 @@ ghost use Rattle.tm_syntax.specs.Scopes.Pauses.{call_depth};
 ghost use Rattle.tm_syntax.specs.Faults.{fault};
 ghost use Rattle.tm_syntax.specs.Faults.Marks.{marked};
 ghost use Rattle.tm_scope.specs.CallOrder.{CoversTasks, IsCallOrder};
-ghost use Rattle.tm_types.specs.Answer.{IsFirstOf};
+ghost use Rattle.tm_types.specs.Answer.{IsFirstOf, type_kinds};
+ghost use Rattle.tm_types.specs.Inner.TextParts.{IsDivided};
 ghost use Rattle.tm_names.specs.ScopeNames.{mark_of};
 ghost use Rattle.tm_names.specs.TextScopes.{AreTextScopes};
 
@@ -15,6 +16,7 @@ use crate::crossings::{first_atomic_location, first_endless_loop};
 use crate::cycles::first_looping;
 use crate::literals::first_misfit;
 use crate::mismatches::first_mismatch;
+use crate::parts::{DividedText, divided_text};
 use crate::unknown::first_unknown;
 use std::alloc::{AllocError, Global};
 use tm_base::{Name, Place};
@@ -28,11 +30,14 @@ use tm_syntax::tree::Spec;
 fn placed(kind: FaultKind, first: Option<Place>) -> Option<Faulty>
     ensures { result ≡ option_map (λ at. fault kind (marked at)) first }
 {
-    Some(Faulty {
-        kind,
-        place: first?,
-        detail: Detail::Nothing,
-    })
+    match first {
+        Some(place) => Some(Faulty {
+            kind,
+            place,
+            detail: Detail::Nothing,
+        }),
+        None => None,
+    }
 }
 
 // A fault at a name, which it tells.
@@ -57,13 +62,13 @@ fn named(
 // `F4`: a name that nothing declares.
 fn unknown_fault(
     alloc: Global,
-    names: &TextNames,
+    text: &DividedText,
     spec: &Spec,
 ) -> Result<Option<Faulty>, AllocError>
-    requires { names.now ≡ spec.now }
+    requires { IsDivided spec.now text.now }
     ensures { IfOk result (IsFirstOf (kind.UnknownName ∷ []) (spec_tree spec.now)) }
 {
-    let first = first_unknown(alloc, names, spec)?;
+    let first = given!(first_unknown(alloc, text, spec));
     named(alloc, FaultKind::UnknownName, first)
 }
 
@@ -79,8 +84,98 @@ fn twice_fault(
     named(alloc, FaultKind::Twice, scopes.first_twice())
 }
 
-/// `F4`, or else `F5`.
-pub(crate) fn name_fault(
+// `F4`, or else `F5`.
+fn name_fault(
+    alloc: Global,
+    text: &DividedText,
+    scopes: &TextScopes,
+    spec: &Spec,
+) -> Result<Option<Faulty>, AllocError>
+    requires text { IsDivided spec.now text.now }
+    requires scopes { AreTextScopes (spec_tree spec.now) scopes.now }
+    ensures { IfOk result (IsFirstOf (kind.UnknownName ∷ kind.Twice ∷ []) (spec_tree spec.now)) }
+{
+    or_else!(
+        unknown_fault(alloc, text, spec),
+        twice_fault(alloc, scopes, spec)
+    )
+}
+
+// `F6`: a type, a sort of name, a number of arguments or a result that does not fit.
+fn mismatch_fault(
+    alloc: Global,
+    text: &DividedText,
+    spec: &Spec,
+) -> Result<Option<Faulty>, AllocError>
+    requires { IsDivided spec.now text.now }
+    ensures { IfOk result (IsFirstOf (kind.Mismatch ∷ []) (spec_tree spec.now)) }
+{
+    let first = given!(first_mismatch(alloc, text, spec));
+    Ok(placed(FaultKind::Mismatch, first))
+}
+
+// `F7`: a number that does not fit its type or its place.
+fn literal_fault(
+    alloc: Global,
+    text: &DividedText,
+    spec: &Spec,
+) -> Result<Option<Faulty>, AllocError>
+    requires { IsDivided spec.now text.now }
+    ensures { IfOk result (IsFirstOf (kind.Literal ∷ []) (spec_tree spec.now)) }
+{
+    let first = given!(first_misfit(alloc, text, spec));
+    Ok(placed(FaultKind::Literal, first))
+}
+
+// `F6`, or else `F7`.
+fn value_fault(alloc: Global, text: &DividedText, spec: &Spec) -> Result<Option<Faulty>, AllocError>
+    requires { IsDivided spec.now text.now }
+    ensures { IfOk result (IsFirstOf (kind.Mismatch ∷ kind.Literal ∷ []) (spec_tree spec.now)) }
+{
+    or_else!(
+        mismatch_fault(alloc, text, spec),
+        literal_fault(alloc, text, spec)
+    )
+}
+
+// `F4`, or else `F5`, `F6` or `F7`, of a text that is divided.
+fn part_fault(
+    alloc: Global,
+    text: &DividedText,
+    scopes: &TextScopes,
+    spec: &Spec,
+) -> Result<Option<Faulty>, AllocError>
+    requires text { IsDivided spec.now text.now }
+    requires scopes { AreTextScopes (spec_tree spec.now) scopes.now }
+    ensures { IfOk result (IsFirstOf
+        (kind.UnknownName ∷ kind.Twice ∷ kind.Mismatch ∷ kind.Literal ∷ []) (spec_tree spec.now)) }
+{
+    or_else!(
+        name_fault(alloc, text, scopes, spec),
+        value_fault(alloc, text, spec)
+    )
+}
+
+// The same, where memory sufficed to divide the text.
+fn divided_fault(
+    alloc: Global,
+    text: &Result<DividedText, AllocError>,
+    scopes: &TextScopes,
+    spec: &Spec,
+) -> Result<Option<Faulty>, AllocError>
+    requires text { IfOk text.now (IsDivided spec.now) }
+    requires scopes { AreTextScopes (spec_tree spec.now) scopes.now }
+    ensures { IfOk result (IsFirstOf
+        (kind.UnknownName ∷ kind.Twice ∷ kind.Mismatch ∷ kind.Literal ∷ []) (spec_tree spec.now)) }
+{
+    match text {
+        Ok(text) => part_fault(alloc, text, scopes, spec),
+        Err(error) => Err(*error),
+    }
+}
+
+// `F4`, or else `F5`, `F6` or `F7`.
+fn text_fault(
     alloc: Global,
     names: &TextNames,
     scopes: &TextScopes,
@@ -88,53 +183,11 @@ pub(crate) fn name_fault(
 ) -> Result<Option<Faulty>, AllocError>
     requires names { names.now ≡ spec.now }
     requires scopes { AreTextScopes (spec_tree spec.now) scopes.now }
-    ensures { IfOk result (IsFirstOf (kind.UnknownName ∷ kind.Twice ∷ []) (spec_tree spec.now)) }
+    ensures { IfOk result (IsFirstOf
+        (kind.UnknownName ∷ kind.Twice ∷ kind.Mismatch ∷ kind.Literal ∷ []) (spec_tree spec.now)) }
 {
-    if let Some(fault) = unknown_fault(alloc, names, spec)? {
-        return Ok(Some(fault));
-    }
-    twice_fault(alloc, scopes, spec)
-}
-
-// `F6`: a type, a sort of name, a number of arguments or a result that does not fit.
-fn mismatch_fault(
-    alloc: Global,
-    names: &TextNames,
-    spec: &Spec,
-) -> Result<Option<Faulty>, AllocError>
-    requires { names.now ≡ spec.now }
-    ensures { IfOk result (IsFirstOf (kind.Mismatch ∷ []) (spec_tree spec.now)) }
-{
-    let first = first_mismatch(alloc, names, spec)?;
-    Ok(placed(FaultKind::Mismatch, first))
-}
-
-// `F7`: a number that does not fit its type or its place.
-fn literal_fault(
-    alloc: Global,
-    names: &TextNames,
-    spec: &Spec,
-) -> Result<Option<Faulty>, AllocError>
-    requires { names.now ≡ spec.now }
-    ensures { IfOk result (IsFirstOf (kind.Literal ∷ []) (spec_tree spec.now)) }
-{
-    let first = first_misfit(alloc, names, spec)?;
-    Ok(placed(FaultKind::Literal, first))
-}
-
-/// `F6`, or else `F7`.
-pub(crate) fn value_fault(
-    alloc: Global,
-    names: &TextNames,
-    spec: &Spec,
-) -> Result<Option<Faulty>, AllocError>
-    requires { names.now ≡ spec.now }
-    ensures { IfOk result (IsFirstOf (kind.Mismatch ∷ kind.Literal ∷ []) (spec_tree spec.now)) }
-{
-    if let Some(fault) = mismatch_fault(alloc, names, spec)? {
-        return Ok(Some(fault));
-    }
-    literal_fault(alloc, names, spec)
+    let text = divided_text(alloc, names, spec);
+    divided_fault(alloc, &text, scopes, spec)
 }
 
 // `F8`: a task or procedure that reaches itself by calls.
@@ -142,7 +195,7 @@ fn cycle_fault(alloc: Global, scopes: &Scopes, spec: &Spec) -> Result<Option<Fau
     requires { scopes.now ≡ spec.now }
     ensures { IfOk result (IsFirstOf (kind.CallCycle ∷ []) (spec_tree spec.now)) }
 {
-    let first = first_looping(alloc, scopes, spec)?;
+    let first = given!(first_looping(alloc, scopes, spec));
     named(alloc, FaultKind::CallCycle, first)
 }
 
@@ -159,8 +212,8 @@ fn loop_fault(
     requires short { length order.now ≤ call_depth (spec_tree scopes.now) }
     ensures { IfOk result (IsFirstOf (kind.LoopWithoutLocation ∷ []) (spec_tree spec.now)) }
 {
-    let crossing = crossing_tasks(alloc, scopes, order)?;
-    let first = first_endless_loop(alloc, scopes, spec, &crossing)?;
+    let crossing = given!(crossing_tasks(alloc, scopes, order));
+    let first = given!(first_endless_loop(alloc, scopes, spec, &crossing));
     Ok(placed(FaultKind::LoopWithoutLocation, first))
 }
 
@@ -177,8 +230,8 @@ fn location_fault(
     requires short { length order.now ≤ call_depth (spec_tree scopes.now) }
     ensures { IfOk result (IsFirstOf (kind.LocationInAtomic ∷ []) (spec_tree spec.now)) }
 {
-    let pausing = pausing_tasks(alloc, scopes, order)?;
-    let first = first_atomic_location(alloc, scopes, spec, &pausing)?;
+    let pausing = given!(pausing_tasks(alloc, scopes, order));
+    let first = given!(first_atomic_location(alloc, scopes, spec, &pausing));
     Ok(placed(FaultKind::LocationInAtomic, first))
 }
 
@@ -195,24 +248,41 @@ fn crossing_fault(
     requires short { length order.now ≤ call_depth (spec_tree scopes.now) }
     ensures { IfOk result (IsFirstOf (kind.LoopWithoutLocation ∷ kind.LocationInAtomic ∷ []) (spec_tree spec.now)) }
 {
-    if let Some(fault) = loop_fault(alloc, scopes, spec, order)? {
-        return Ok(Some(fault));
-    }
-    location_fault(alloc, scopes, spec, order)
+    or_else!(
+        loop_fault(alloc, scopes, spec, order),
+        location_fault(alloc, scopes, spec, order)
+    )
 }
 
-/// `F8`, or else `F9`, or else `F10`.
-pub(crate) fn call_fault(
-    alloc: Global,
-    scopes: &Scopes,
-    spec: &Spec,
-) -> Result<Option<Faulty>, AllocError>
+// `F8`, or else `F9`, or else `F10`.
+fn call_fault(alloc: Global, scopes: &Scopes, spec: &Spec) -> Result<Option<Faulty>, AllocError>
     requires { scopes.now ≡ spec.now }
     ensures { IfOk result (IsFirstOf
         (kind.CallCycle ∷ kind.LoopWithoutLocation ∷ kind.LocationInAtomic ∷ []) (spec_tree spec.now)) }
 {
-    match call_order(alloc, scopes)? {
-        Some(order) => crossing_fault(alloc, scopes, spec, order.as_slice()),
-        None => cycle_fault(alloc, scopes, spec),
+    match call_order(alloc, scopes) {
+        Ok(Some(order)) => crossing_fault(alloc, scopes, spec, order.as_slice()),
+        Ok(None) => cycle_fault(alloc, scopes, spec),
+        Err(error) => Err(error),
     }
+}
+
+/// The first fault of `F4` to `F10`, given the names, the scopes and the tables of the text. `AllocError` is want of
+/// memory.
+pub(crate) fn type_fault(
+    alloc: Global,
+    names: &TextNames,
+    scopes: &TextScopes,
+    tables: &Scopes,
+    spec: &Spec,
+) -> Result<Option<Faulty>, AllocError>
+    requires names { names.now ≡ spec.now }
+    requires scopes { AreTextScopes (spec_tree spec.now) scopes.now }
+    requires tables { tables.now ≡ spec.now }
+    ensures { IfOk result (IsFirstOf type_kinds (spec_tree spec.now)) }
+{
+    or_else!(
+        text_fault(alloc, names, scopes, spec),
+        call_fault(alloc, tables, spec)
+    )
 }

@@ -1,5 +1,5 @@
 //! Locations of a body, and calls of bodies that hold one.
-ghost use Rattle.std.specs.Prelude.{◌≡◌, not, map, IfOk};
+ghost use Rattle.std.specs.Prelude.{◌≡◌, ◌<◌, not, map, IfOk, length};
 ghost use Rattle.std.specs.List.{flat_map, list_any};
 ghost use Rattle.tm_syntax.specs.Tree.View.{
   body_tree,
@@ -118,7 +118,7 @@ fn stmts_location(
     ensures { IfOk result (λ first. first
         ≡ first_of (flat_map (locations_of (is_marked calls.now)) (all_stmts (stmt_trees stmts.now)))) }
 {
-    let listed = all_stmts(alloc, stmts)?;
+    let listed = given!(all_stmts(alloc, stmts));
     let mut first = None;
     for stmt in listed.as_slice() {
         first = earlier_place(first, stmt_location(calls, *stmt));
@@ -136,7 +136,7 @@ fn first_location(
         ≡ first_of (body_locations (is_marked calls.now) (body_tree body.now))) }
 {
     let in_locals = locals_location(calls, body.locals.as_slice());
-    let in_stmts = stmts_location(alloc, calls, body.stmts.as_slice())?;
+    let in_stmts = given!(stmts_location(alloc, calls, body.stmts.as_slice()));
     Ok(earlier_place(in_locals, in_stmts))
 }
 
@@ -167,9 +167,26 @@ fn template_location(
 {
     let mut first = None;
     for task in template.tasks.as_slice() {
-        first = earlier_place(first, task_location(alloc, calls, task)?);
+        first = earlier_place(first, given!(task_location(alloc, calls, task)));
     }
     Ok(first)
+}
+
+// The first location of the procedures and controllable tasks of the template of a number, given the tasks whose bodies
+// hold one.
+fn numbered_location(
+    alloc: Global,
+    scopes: &Scopes,
+    marks: &TaskSet,
+    number: usize,
+    template: &Template,
+) -> Result<Option<Place>, AllocError>
+    requires { number < length scopes.now.templates.items }
+    ensures { IfOk result (λ first. first ≡ first_of (flat_map (task_locations_by (is_marked
+        (record { spec = scopes.now; from = number; tasks = marks.now }))) (template_tree template.now).tasks)) }
+{
+    let calls = CallMarks::new(scopes, number, marks);
+    template_location(alloc, &calls, template)
 }
 
 /// The first location of a text that a procedure or controllable task holds, itself or by a call, given the
@@ -186,8 +203,8 @@ pub(crate) fn first_atomic_location(
 {
     let mut first = None;
     for (number, template) in spec.templates.as_slice().iter().enumerate() {
-        let calls = CallMarks::new(scopes, number, marks);
-        first = earlier_place(first, template_location(alloc, &calls, template)?);
+        let here = given!(numbered_location(alloc, scopes, marks, number, template));
+        first = earlier_place(first, here);
     }
     Ok(first)
 }

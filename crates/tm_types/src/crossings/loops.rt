@@ -1,5 +1,5 @@
 //! Loops whose bodies are not sure to cross a location.
-ghost use Rattle.std.specs.Prelude.{◌≡◌, IfOk, map};
+ghost use Rattle.std.specs.Prelude.{◌≡◌, ◌<◌, IfOk, length, map};
 ghost use Rattle.std.specs.List.{flat_map};
 ghost use Rattle.tm_syntax.specs.Tree.View.{body_tree, process_tree, spec_tree, stmt_tree, task_tree, template_tree};
 ghost use Rattle.tm_syntax.specs.Tree as tree;
@@ -47,7 +47,7 @@ pub(crate) fn first_loop(
     ensures { IfOk result (λ first. first
         ≡ first_of (flat_map (loops_of (is_marked calls.now)) (stmts_in (body_tree body.now)))) }
 {
-    let stmts = all_stmts(alloc, body.stmts.as_slice())?;
+    let stmts = given!(all_stmts(alloc, body.stmts.as_slice()));
     let mut first = None;
     for stmt in stmts.as_slice() {
         first = earlier_place(first, loop_fault(calls, *stmt));
@@ -66,7 +66,7 @@ fn processes_loop(
 {
     let mut first = None;
     for process in processes {
-        first = earlier_place(first, first_loop(alloc, calls, &process.body)?);
+        first = earlier_place(first, given!(first_loop(alloc, calls, &process.body)));
     }
     Ok(first)
 }
@@ -82,7 +82,7 @@ fn tasks_loop(
 {
     let mut first = None;
     for task in tasks {
-        first = earlier_place(first, first_loop(alloc, calls, &task.body)?);
+        first = earlier_place(first, given!(first_loop(alloc, calls, &task.body)));
     }
     Ok(first)
 }
@@ -96,9 +96,25 @@ fn template_loop(
     ensures { IfOk result (λ first. first
         ≡ first_of (in_bodies (body_loops (is_marked calls.now)) (template_tree template.now))) }
 {
-    let in_processes = processes_loop(alloc, calls, template.processes.as_slice())?;
-    let in_tasks = tasks_loop(alloc, calls, template.tasks.as_slice())?;
+    let in_processes = given!(processes_loop(alloc, calls, template.processes.as_slice()));
+    let in_tasks = given!(tasks_loop(alloc, calls, template.tasks.as_slice()));
     Ok(earlier_place(in_processes, in_tasks))
+}
+
+// The first such loop of the template of a number, given marks on the tasks whose bodies are sure to cross.
+fn numbered_loop(
+    alloc: Global,
+    scopes: &Scopes,
+    marks: &TaskSet,
+    number: usize,
+    template: &Template,
+) -> Result<Option<Place>, AllocError>
+    requires { number < length scopes.now.templates.items }
+    ensures { IfOk result (λ first. first ≡ first_of (in_bodies (body_loops (is_marked
+        (record { spec = scopes.now; from = number; tasks = marks.now }))) (template_tree template.now))) }
+{
+    let calls = CallMarks::new(scopes, number, marks);
+    template_loop(alloc, &calls, template)
 }
 
 /// The first loop of a text whose body is not sure to cross a location, given marks on the tasks whose bodies are.
@@ -115,8 +131,8 @@ pub(crate) fn first_endless_loop(
 {
     let mut first = None;
     for (number, template) in spec.templates.as_slice().iter().enumerate() {
-        let calls = CallMarks::new(scopes, number, marks);
-        first = earlier_place(first, template_loop(alloc, &calls, template)?);
+        let here = given!(numbered_loop(alloc, scopes, marks, number, template));
+        first = earlier_place(first, here);
     }
     Ok(first)
 }

@@ -71,7 +71,10 @@ fn literal_numbers(ty: ExprType, literal: &Expr) -> Option<Place>
 fn size_numbers(size: Option<Num>) -> Option<Place>
     ensures { result ≡ first_of (flat_map length_faults (option_to_list size)) }
 {
-    length_faults(size?)
+    match size {
+        Some(n) => length_faults(n),
+        None => None,
+    }
 }
 
 // The first one in the initial literal of a variable.
@@ -123,7 +126,7 @@ pub(crate) fn declared_numbers(
         ≡ first_of (flat_map type_numbers (template_types (template_tree template.now))
         ++ flat_map var_numbers (template_tree template.now).vars)) }
 {
-    let types = template_types(alloc, template)?;
+    let types = given!(template_types(alloc, template));
     let in_types = types_numbers(types.as_slice());
     let in_vars = vars_numbers(template.vars.as_slice());
     Ok(earlier_place(in_types, in_vars))

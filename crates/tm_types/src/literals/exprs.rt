@@ -57,7 +57,10 @@ fn operand_asked<'a>(
 fn written_length(scope: &BodyScope, path: &[Ident]) -> Option<Num>
     ensures { result ≡ written_length (context_of scope.now) path.now }
 {
-    scope.variable_of(path)?.length
+    match scope.variable_of(path) {
+        Some(var) => var.length,
+        None => None,
+    }
 }
 
 // The place of an index that is a number and not below the length of its array; for another index the first place

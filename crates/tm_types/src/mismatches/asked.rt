@@ -1,26 +1,23 @@
 //! `F6` of an expression for which its place asks a type.
-ghost use Rattle.std.specs.Prelude.{◌≡◌, List, Option, map};
-ghost use Rattle.std.specs.List.{flat_map};
+ghost use Rattle.std.specs.Prelude.{◌≡◌, List, Option};
 ghost use Rattle.std.specs.Option.{option_map};
 ghost use Rattle.tm_base.specs.declared.place.Place as stands;
 ghost use Rattle.tm_syntax.specs.declared.design.Ty as resolved;
-ghost use Rattle.tm_syntax.specs.Tree.View.{named_tree};
 ghost use Rattle.tm_syntax.specs.Scopes.Types.{own_type};
+ghost use Rattle.tm_syntax.specs.Faults.Mismatches.{asked_faults};
 ghost use Rattle.tm_syntax.specs.Faults.Operands.{expr_faults, expr_place, value_faults};
 ghost use Rattle.tm_scope.specs.Context.{context_of};
 ghost use Rattle.tm_scope.specs.Types.{ty_of};
-ghost use Rattle.tm_names.specs.Asked.{asked_of, part_tree};
+ghost use Rattle.tm_names.specs.Asked.{part_tree};
 ghost use Rattle.tm_types.specs.Firsts.{first_of};
 ghost use Rattle.tm_types.specs.Findings.{IsOperand};
-ghost use Rattle.tm_types.specs.Inner.ExprFaults.{asked_faults, condition_faults};
+ghost use Rattle.tm_types.specs.Inner.TextParts.{expr_at};
 
-use crate::firsts::earlier_place;
 use crate::mismatches::exprs::{element_operand, expr_place, path_place, whole_operand};
 use crate::mismatches::operators::{Operand, judged};
 use tm_base::Place;
 use tm_names::{Asked, ExprPart, Site};
 use tm_scope::ExprType;
-use tm_syntax::tree::Named;
 
 // The first fault of a value, which fits the type that its place asks for, if it asks for one.
 fn value_faults(asked: Option<ExprType>, place: Place, x: Operand) -> Option<Place>
@@ -56,34 +53,11 @@ fn part_operand<'a>(at: &Site<'a>, part: ExprPart<'a>) -> Operand<'a>
 
 /// The first fault within an expression of a text, or of it as a value of the type that its place asks for.
 pub(crate) fn asked_faults<'a>(at: &Site<'a>, asked: &Asked<'a>) -> Option<Place>
-    ensures { result ≡ first_of (asked_faults (context_of at.now) (asked_of asked.now)) }
+    ensures { result ≡ first_of (asked_faults (expr_at at.now asked.now)) }
 {
     value_faults(
         asked.ty,
         part_place(asked.expr),
         part_operand(at, asked.expr),
     )
-}
-
-// The first fault of a goal or fairness condition.
-fn condition_faults<'a>(at: &Site<'a>, condition: &'a Named) -> Option<Place>
-    ensures { result ≡ first_of (condition_faults (context_of at.now) (named_tree condition.now)) }
-{
-    let asked = Asked {
-        ty: Some(ExprType::Bool),
-        expr: ExprPart::Whole(&condition.expr),
-    };
-    asked_faults(at, &asked)
-}
-
-/// The first fault of some goals or fairness conditions.
-pub(crate) fn conditions_faults<'a>(at: &Site<'a>, conditions: &'a [Named]) -> Option<Place>
-    ensures { result
-        ≡ first_of (flat_map (condition_faults (context_of at.now)) (map named_tree conditions.now)) }
-{
-    let mut first = None;
-    for condition in conditions {
-        first = earlier_place(first, condition_faults(at, condition));
-    }
-    first
 }

@@ -3,24 +3,25 @@ ghost use Rattle.std.specs.Prelude.{◌≡◌, IfOk, None, map};
 ghost use Rattle.std.specs.List.{flat_map};
 ghost use Rattle.std.specs.Option.{option_map};
 ghost use Rattle.tm_syntax.specs.Tree as tree;
-ghost use Rattle.tm_syntax.specs.Tree.View.{expr_tree, local_tree, stmt_tree, stmt_trees, value_tree};
+ghost use Rattle.tm_syntax.specs.Tree.View.{body_tree, expr_tree, local_tree, stmt_tree, stmt_trees, value_tree};
 ghost use Rattle.tm_syntax.specs.Scopes.Parts.{all_stmts};
 ghost use Rattle.tm_syntax.specs.Faults.Mismatches.{body_faults};
 ghost use Rattle.tm_scope.specs.Context.{context_of};
-ghost use Rattle.tm_names.specs.Bodies.{body_at};
 ghost use Rattle.tm_types.specs.Firsts.{first_of};
 ghost use Rattle.tm_names.specs.LocalStmts.{declaration};
 ghost use Rattle.tm_types.specs.Inner.StmtFaults.{stmt_faults};
+ghost use Rattle.tm_types.specs.Inner.TextParts.{bodies_of};
 
 use crate::firsts::earlier_place;
 use crate::mismatches::calls::{call_faults, value_call_faults};
 use crate::mismatches::exprs::wrong_path;
 use crate::mismatches::wanted::Wanted;
+use crate::parts::TextPart;
 use std::alloc::{AllocError, Global};
 use std::slice;
 use tm_base::Place;
-use tm_names::{BodyPart, Site, all_stmts};
-use tm_syntax::tree::{Expr, Ident, LocalDef, Stmt, Value};
+use tm_names::{Site, all_stmts};
+use tm_syntax::tree::{Body, Expr, Ident, LocalDef, Stmt, Value};
 
 // The first fault of the target and the call of an assignment to a name that stands without an index.
 fn bare_faults<'a>(at: &Site<'a>, path: &'a [Ident], value: &'a Value) -> Option<Place>
@@ -100,7 +101,7 @@ fn stmts_faults<'a>(
     ensures { IfOk result (λ first. first
         ≡ first_of (flat_map (stmt_faults (context_of at.now)) (all_stmts (stmt_trees stmts.now)))) }
 {
-    let listed = all_stmts(alloc, stmts)?;
+    let listed = given!(all_stmts(alloc, stmts));
     let mut first = None;
     for stmt in listed.as_slice() {
         first = earlier_place(first, stmt_faults(at, *stmt));
@@ -108,11 +109,26 @@ fn stmts_faults<'a>(
     Ok(first)
 }
 
-/// The first fault of the targets and calls in a body. `AllocError` is want of memory.
-pub(crate) fn body_faults(alloc: Global, part: &BodyPart) -> Result<Option<Place>, AllocError>
-    ensures { IfOk result (λ first. first ≡ first_of (body_faults (body_at part.now))) }
+// The first fault of the targets and calls in a body.
+fn body_faults<'a>(
+    alloc: Global,
+    at: &Site<'a>,
+    body: &'a Body,
+) -> Result<Option<Place>, AllocError>
+    ensures { IfOk result (λ first. first ≡ first_of (body_faults
+        (record { context = context_of at.now; body = body_tree body.now }))) }
 {
-    let in_locals = locals_faults(&part.site, part.body.locals.as_slice());
-    let in_stmts = stmts_faults(alloc, &part.site, part.body.stmts.as_slice())?;
+    let in_locals = locals_faults(at, body.locals.as_slice());
+    let in_stmts = given!(stmts_faults(alloc, at, body.stmts.as_slice()));
     Ok(earlier_place(in_locals, in_stmts))
+}
+
+/// The first fault of the targets and calls in a part, if it is a body. `AllocError` is want of memory.
+pub(crate) fn part_faults(alloc: Global, part: &TextPart) -> Result<Option<Place>, AllocError>
+    ensures { IfOk result (λ first. first ≡ first_of (flat_map body_faults (bodies_of part.now))) }
+{
+    match part.body {
+        Some(body) => body_faults(alloc, &part.site, body),
+        None => Ok(None),
+    }
 }

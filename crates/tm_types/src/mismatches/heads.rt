@@ -6,7 +6,7 @@ ghost use Rattle.tm_syntax.specs.Faults.Marks.{place_unless};
 ghost use Rattle.tm_syntax.specs.Faults.Mismatches.{template_faults};
 ghost use Rattle.tm_scope.specs.Context.{context_of};
 ghost use Rattle.tm_types.specs.Firsts.{first_of};
-ghost use Rattle.tm_types.specs.Inner.ExprFaults.{main_faults};
+ghost use Rattle.tm_types.specs.Inner.HeadFaults.{main_faults};
 
 use crate::firsts::{earlier_place, place_unless};
 use crate::mismatches::declared::{tasks_faults, types_faults, vars_faults};
@@ -46,7 +46,7 @@ pub(crate) fn template_faults(
     ensures { IfOk result (λ first. first
         ≡ first_of (template_faults (context_of at.now).spec (template_tree template.now))) }
 {
-    let types = template_types(alloc, template)?;
+    let types = given!(template_types(alloc, template));
     let of_main = main_faults(template);
     let of_ports = ports_faults(at.names(), template.ports.as_slice());
     let of_types = types_faults(at.names(), types.as_slice());

@@ -3,23 +3,24 @@ ghost use Rattle.std.specs.Prelude.{◌≡◌, ◌++◌, IfOk, map};
 ghost use Rattle.std.specs.List.{flat_map};
 ghost use Rattle.std.specs.Option.{option_map};
 ghost use Rattle.tm_syntax.specs.Tree as tree;
-ghost use Rattle.tm_syntax.specs.Tree.View.{expr_tree, local_tree, stmt_tree, stmt_trees, value_tree};
+ghost use Rattle.tm_syntax.specs.Tree.View.{body_tree, expr_tree, local_tree, stmt_tree, stmt_trees, value_tree};
 ghost use Rattle.tm_syntax.specs.Scopes.Parts.{all_stmts, bare_targets, own_calls, value_calls};
 ghost use Rattle.tm_syntax.specs.Faults.Marks.{first_mark};
 ghost use Rattle.tm_syntax.specs.Faults.Names.{unknown_in_body, unknown_paths};
 ghost use Rattle.tm_scope.specs.Context.{context_of};
-ghost use Rattle.tm_names.specs.Bodies.{body_at};
 ghost use Rattle.tm_names.specs.Parts.{listed_stmts};
 ghost use Rattle.tm_names.specs.ScopeNames.{mark_of};
 ghost use Rattle.tm_names.specs.LocalStmts.{declaration};
+ghost use Rattle.tm_types.specs.Inner.TextParts.{bodies_of};
 ghost use Rattle.tm_types.specs.Inner.UnknownParts.{unknown_in_stmt};
 
 use crate::firsts_named::earlier_name;
+use crate::parts::TextPart;
 use crate::unknown::exprs::unknown_path;
 use std::alloc::{AllocError, Global};
 use std::slice;
-use tm_names::{BodyPart, NameMark, Site, all_stmts, earlier_mark};
-use tm_syntax::tree::{Expr, LocalDef, Path, Stmt, Value};
+use tm_names::{NameMark, Site, all_stmts, earlier_mark};
+use tm_syntax::tree::{Body, Expr, LocalDef, Path, Stmt, Value};
 
 // In a value, which may be a call.
 #[tactic(auto, using(crate::proofs::UnknownPaths::path_lists))]
@@ -115,14 +116,30 @@ fn unknown_in_listed<'a>(site: &Site<'a>, stmts: &[&'a Stmt]) -> Option<NameMark
     first
 }
 
-/// The first one in the targets and calls of a body. `AllocError` is want of memory.
-pub(crate) fn unknown_in_body<'a>(
+// The first one in the targets and calls of a body.
+fn unknown_in_body<'a>(
     alloc: Global,
-    part: &BodyPart<'a>,
+    site: &Site<'a>,
+    body: &'a Body,
 ) -> Result<Option<NameMark<'a>>, AllocError>
-    ensures { IfOk result (λ first. option_map mark_of first ≡ first_mark (unknown_in_body (body_at part.now))) }
+    ensures { IfOk result (λ first. option_map mark_of first ≡ first_mark (unknown_in_body
+        (record { context = context_of site.now; body = body_tree body.now }))) }
 {
-    let stmts = all_stmts(alloc, part.body.stmts.as_slice())?;
-    let in_locals = unknown_in_locals(&part.site, part.body.locals.as_slice());
-    Ok(earlier_name(in_locals, unknown_in_listed(&part.site, stmts.as_slice())))
+    let stmts = given!(all_stmts(alloc, body.stmts.as_slice()));
+    let in_locals = unknown_in_locals(site, body.locals.as_slice());
+    Ok(earlier_name(in_locals, unknown_in_listed(site, stmts.as_slice())))
+}
+
+/// The first one in the targets and calls of a part, if it is a body. `AllocError` is want of memory.
+pub(crate) fn unknown_in_part<'a>(
+    alloc: Global,
+    part: &TextPart<'a>,
+) -> Result<Option<NameMark<'a>>, AllocError>
+    ensures { IfOk result (λ first. option_map mark_of first
+        ≡ first_mark (flat_map unknown_in_body (bodies_of part.now))) }
+{
+    match part.body {
+        Some(body) => unknown_in_body(alloc, &part.site, body),
+        None => Ok(None),
+    }
 }

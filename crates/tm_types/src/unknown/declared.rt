@@ -178,7 +178,7 @@ pub(crate) fn unknown_in_template<'a>(
     ensures { IfOk result (λ first. option_map mark_of first
         ≡ first_mark (unknown_in_template (context_of site.now).spec (template_tree template.now))) }
 {
-    let types = template_types(alloc, template)?;
+    let types = given!(template_types(alloc, template));
     let in_ports = unknown_ports(site.names(), template.ports.as_slice());
     let in_instances = unknown_in_instances(site, template.instances.as_slice());
     let in_types = unknown_types(site.names(), types.as_slice());

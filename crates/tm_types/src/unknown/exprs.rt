@@ -4,12 +4,12 @@ ghost use Rattle.std.specs.Option.{option_map};
 ghost use Rattle.tm_syntax.specs.Tree.View.{expr_tree};
 ghost use Rattle.tm_syntax.specs.Scopes.Declared as text;
 ghost use Rattle.tm_syntax.specs.Faults.Marks.{first_mark, named};
-ghost use Rattle.tm_syntax.specs.Faults.Names.{unknown_of};
+ghost use Rattle.tm_syntax.specs.Faults.Names.{unknown_in_expr, unknown_of};
 ghost use Rattle.tm_scope.specs.Context.{context_of};
-ghost use Rattle.tm_names.specs.Asked.{asked_of};
 ghost use Rattle.tm_names.specs.Meanings.{meaning_of};
 ghost use Rattle.tm_names.specs.ScopeNames.{mark_of};
-ghost use Rattle.tm_types.specs.Inner.UnknownParts.{unknown_in_asked, unknown_within};
+ghost use Rattle.tm_types.specs.Inner.TextParts.{expr_at};
+ghost use Rattle.tm_types.specs.Inner.UnknownParts.{unknown_within};
 
 use crate::firsts_named::earlier_name;
 use tm_names::{Asked, ExprPart, Meaning, NameMark, Site};
@@ -74,8 +74,7 @@ pub(crate) fn unknown_in_expr<'a>(site: &Site<'a>, e: &'a Expr) -> Option<NameMa
 
 /// The first one in an expression for which a type is asked.
 pub(crate) fn unknown_in_asked<'a>(site: &Site<'a>, asked: &Asked<'a>) -> Option<NameMark<'a>>
-    ensures { option_map mark_of result
-        ≡ first_mark (unknown_in_asked (context_of site.now) (asked_of asked.now)) }
+    ensures { option_map mark_of result ≡ first_mark (unknown_in_expr (expr_at site.now asked.now)) }
 {
     match asked.expr {
         ExprPart::Whole(e) => unknown_in_expr(site, e),

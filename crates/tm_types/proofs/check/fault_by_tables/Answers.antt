@@ -1,49 +1,7 @@
-use Rattle.std.proofs.Common.{Option, Some, List, [], ◌∷◌, subst}
-use Rattle.std.proofs.lemmas.Result.{IfOk-weaker}
-use Rattle.tm_syntax.specs.declared.fault.FaultKind.{FaultKind}
-use Rattle.tm_syntax.specs.declared.fault.FaultKind.TheVariants as kind
-use Rattle.tm_syntax.specs.declared.fault.Faulty.{Faulty}
-use Rattle.tm_syntax.specs.Tree.{SpecTree}
-use Rattle.tm_syntax.specs.Tree.View.{spec_tree}
-use Rattle.tm_types.specs.Answer.{IsFirstOf, type_kinds}
-use Rattle.tm_types.proofs.FirstOfKinds.{first_here, first_then}
+use Rattle.std.proofs.Common.{◌≡◌, subst}
+use Rattle.std.specs.Prelude.{IfOk}
 use Rattle.tm_types.proofs.check.fault_by_tables.Goals as goal
 
--- the kinds of faults of names, of values, and of calls and loops
-abbrev name_kinds : List FaultKind
-name_kinds = kind.UnknownName ∷ kind.Twice ∷ []
-
-abbrev value_kinds : List FaultKind
-value_kinds = kind.Mismatch ∷ kind.Literal ∷ []
-
-abbrev call_kinds : List FaultKind
-call_kinds = kind.CallCycle ∷ kind.LoopWithoutLocation ∷ kind.LocationInAtomic ∷ []
-
-abbrev later_kinds : List FaultKind
-later_kinds =
-    kind.Mismatch ∷ kind.Literal ∷ kind.CallCycle ∷ kind.LoopWithoutLocation ∷ kind.LocationInAtomic ∷ []
-
-pub returns-in-Some : goal.returns-in-Some
-returns-in-Some c =
-    let spec : SpecTree = spec_tree c.args.spec.now in
-    first_here name_kinds later_kinds spec c.in-Some.fault
-    (subst (λ (o : Option Faulty). IsFirstOf name_kinds spec o) c.in-Some.is c.in_ok-fault.ensures)
-
-pub returns-in-Some-2 : goal.returns-in-Some-2
-returns-in-Some-2 c =
-    let spec : SpecTree = spec_tree c.args.spec.now in
-    first_then name_kinds later_kinds spec (Some c.in-Some-2.fault)
-    (subst (λ (o : Option Faulty). IsFirstOf name_kinds spec o) c.in_default.is c.in_ok-fault.ensures)
-    (first_here value_kinds call_kinds spec c.in-Some-2.fault
-    (subst (λ (o : Option Faulty). IsFirstOf value_kinds spec o) c.in-Some-2.is c.in_ok-fault-2.ensures))
-
-pub returns : goal.returns
-returns c =
-    let spec : SpecTree = spec_tree c.args.spec.now in
-    IfOk-weaker c.call_fault.result (IsFirstOf call_kinds spec) (IsFirstOf type_kinds spec)
-    (λ r first. first_then name_kinds later_kinds spec r
-    (subst (λ (o : Option Faulty). IsFirstOf name_kinds spec o) c.in_default.is c.in_ok-fault.ensures)
-    (first_then value_kinds call_kinds spec r
-    (subst (λ (o : Option Faulty). IsFirstOf value_kinds spec o) c.in_default-2.is c.in_ok-fault-2.ensures)
-    first))
-    c.call_fault.ensures
+pub fault_by_names-requires-clause-tables : goal.fault_by_names-requires-clause-tables
+fault_by_names-requires-clause-tables c =
+    subst (λ r. IfOk r (λ tables. tables ≡ c.args.spec.now)) c.in-Ok.is c.requires.tables

@@ -14,18 +14,18 @@ use Rattle.tm_types.proofs.cycles.first_looping.Goals as goal
 
 pub returns-clause-first : goal.returns-clause-first
 returns-clause-first c =
-    let looping : List Member = c.in_ok-looping.looping in
+    let looping : List Member = c.in-Ok.given in
     looping_found (spec_tree c.args.spec.now) looping
     (subst (λ (s : Spec). (m : Member) → (is_in looping m ≡ true) ↔ Reaches (spec_tree s) m m) c.requires
-    c.in_ok-looping.ensures) c.first_in_templates.result
+    c.in-Ok.ensures) c.first_in_templates.result
     (c.first_in_templates.ensures ∙ ap (λ ts. first_mark (flat_map (looping_mark looping)
     (flat_map template_tasks (enumerate_from 0 (map template_tree ts))))) c.as_slice.ensures.value)
 
 pub returns-clause-none : goal.returns-clause-none
 returns-clause-none c =
-    let looping : List Member = c.in_ok-looping.looping in
+    let looping : List Member = c.in-Ok.given in
     looping_none (spec_tree c.args.spec.now) looping
     (subst (λ (s : Spec). (m : Member) → (is_in looping m ≡ true) ↔ Reaches (spec_tree s) m m) c.requires
-    c.in_ok-looping.ensures) c.first_in_templates.result
+    c.in-Ok.ensures) c.first_in_templates.result
     (c.first_in_templates.ensures ∙ ap (λ ts. first_mark (flat_map (looping_mark looping)
     (flat_map template_tasks (enumerate_from 0 (map template_tree ts))))) c.as_slice.ensures.value)

@@ -12,26 +12,26 @@ use Rattle.tm_types.specs.Answer.{IsFirstOf}
 use Rattle.tm_types.proofs.FirstOfKinds.{first_among, first_then}
 use Rattle.tm_types.proofs.stages.call_fault.Goals as goal
 
-pub returns-in-Some : goal.returns-in-Some
-returns-in-Some c =
+pub returns-in-Ok-Some : goal.returns-in-Ok-Some
+returns-in-Ok-Some c =
     let spec : SpecTree = spec_tree c.args.spec.now in
     let free : (m : Member) → ¬ Reaches spec m m =
     subst (λ (s : Spec). (m : Member) → ¬ Reaches (spec_tree s) m m) c.requires
-    (MatchOption-at_some ⊤ (λ _. (m : Member) → ¬ Reaches (spec_tree c.args.scopes.now) m m) c.in-Some.order
-    c.in-Some.is c.in_ok-order.ensures.acyclic) in
+    (MatchOption-at_some ⊤ (λ _. (m : Member) → ¬ Reaches (spec_tree c.args.scopes.now) m m) c.in-Ok-Some.order
+    c.in-Ok-Some.field-0-is c.in-Ok-Some.ensures.acyclic) in
     IfOk-weaker c.crossing_fault.result (IsFirstOf (kind.LoopWithoutLocation ∷ kind.LocationInAtomic ∷ []) spec)
     (IsFirstOf (kind.CallCycle ∷ kind.LoopWithoutLocation ∷ kind.LocationInAtomic ∷ []) spec)
     (λ r first. first_then (kind.CallCycle ∷ []) (kind.LoopWithoutLocation ∷ kind.LocationInAtomic ∷ []) spec r
     (free, tt) first)
     c.crossing_fault.ensures
 
-pub returns-in-None : goal.returns-in-None
-returns-in-None c =
+pub returns-in-Ok-None : goal.returns-in-Ok-None
+returns-in-Ok-None c =
     let spec : SpecTree = spec_tree c.args.spec.now in
     let looping : (m : Member) × Reaches spec m m =
     subst (λ (s : Spec). (m : Member) × Reaches (spec_tree s) m m) c.requires
-    (MatchOption-at_none ((m : Member) × Reaches (spec_tree c.args.scopes.now) m m) (λ _. ⊤) c.in-None.is
-    c.in_ok-order.ensures.cyclic) in
+    (MatchOption-at_none ((m : Member) × Reaches (spec_tree c.args.scopes.now) m m) (λ _. ⊤) c.in-Ok-None.field-0-is
+    c.in-Ok-None.ensures.cyclic) in
     IfOk-weaker c.cycle_fault.result (IsFirstOf (kind.CallCycle ∷ []) spec)
     (IsFirstOf (kind.CallCycle ∷ kind.LoopWithoutLocation ∷ kind.LocationInAtomic ∷ []) spec)
     (λ r first. first_among (kind.CallCycle ∷ []) (kind.LoopWithoutLocation ∷ kind.LocationInAtomic ∷ []) spec r

@@ -13,7 +13,7 @@ use Rattle.tm_types.proofs.stages.cycle_fault.Goals as goal
 pub returns : goal.returns
 returns c =
     let spec : SpecTree = spec_tree c.args.spec.now in
-    IfOk-weaker c.named.result (λ found. found ≡ option_map (λ m. fault kind.CallCycle (mark_of m)) c.in_ok-first.first)
+    IfOk-weaker c.named.result (λ found. found ≡ option_map (λ m. fault kind.CallCycle (mark_of m)) c.in-Ok.given)
     (IsFirstOf (kind.CallCycle ∷ []) spec)
-    (of_found kind.CallCycle spec c.in_ok-first.first c.in_ok-first.ensures.none c.in_ok-first.ensures.first)
+    (of_found kind.CallCycle spec c.in-Ok.given c.in-Ok.ensures.none c.in-Ok.ensures.first)
     c.named.ensures

@@ -9,12 +9,12 @@ use Rattle.tm_types.proofs.stages.loop_fault.Goals as goal
 pub returns : goal.returns
 returns c =
     let spec : SpecTree = spec_tree c.args.spec.now in
-    of_places kind.LoopWithoutLocation spec (endless_loops spec) (λ e. e) (λ m e. e) c.in_ok-first.first
-    c.in_ok-first.ensures
+    of_places kind.LoopWithoutLocation spec (endless_loops spec) (λ e. e) (λ m e. e) c.in-Ok-first_endless_loop.given
+    c.in-Ok-first_endless_loop.ensures
     c.placed.result c.placed.ensures
 
 pub first_endless_loop-requires-clause-marked : goal.first_endless_loop-requires-clause-marked
 first_endless_loop-requires-clause-marked c =
-    crossing_told c.args.spec.now c.args.scopes.now c.args.order.now c.in_ok-crossing.crossing c.requires.same
+    crossing_told c.args.spec.now c.args.scopes.now c.args.order.now c.in-Ok.given c.requires.same
     c.requires.covers
-    c.in_ok-crossing.ensures
+    c.in-Ok.ensures

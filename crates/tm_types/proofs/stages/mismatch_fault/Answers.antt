@@ -8,5 +8,5 @@ use Rattle.tm_types.proofs.stages.mismatch_fault.Goals as goal
 pub returns : goal.returns
 returns c =
     let spec : SpecTree = spec_tree c.args.spec.now in
-    of_places kind.Mismatch spec (mismatches spec) (λ e. e) (λ m e. e) c.in_ok-first.first c.in_ok-first.ensures
+    of_places kind.Mismatch spec (mismatches spec) (λ e. e) (λ m e. e) c.in-Ok.given c.in-Ok.ensures
     c.placed.result c.placed.ensures

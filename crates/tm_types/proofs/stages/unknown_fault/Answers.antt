@@ -15,7 +15,7 @@ pub returns : goal.returns
 returns c =
     let spec : SpecTree = spec_tree c.args.spec.now in
     IfOk-weaker c.named.result
-    (λ found. found ≡ option_map (λ m. fault kind.UnknownName (mark_of m)) c.in_ok-first.first)
+    (λ found. found ≡ option_map (λ m. fault kind.UnknownName (mark_of m)) c.in-Ok.given)
     (IsFirstOf (kind.UnknownName ∷ []) spec)
-    (of_names kind.UnknownName spec (unknown_names spec) (λ e. e) (λ m e. e) c.in_ok-first.first c.in_ok-first.ensures)
+    (of_names kind.UnknownName spec (unknown_names spec) (λ e. e) (λ m e. e) c.in-Ok.given c.in-Ok.ensures)
     c.named.ensures

@@ -8,18 +8,18 @@ use Rattle.tm_types.specs.Answer.{IsFirstOf}
 use Rattle.tm_types.proofs.FirstOfKinds.{first_here, first_then}
 use Rattle.tm_types.proofs.stages.value_fault.Goals as goal
 
-pub returns-in-Some : goal.returns-in-Some
-returns-in-Some c =
+pub returns-in-Ok-Some : goal.returns-in-Ok-Some
+returns-in-Ok-Some c =
     let spec : SpecTree = spec_tree c.args.spec.now in
-    first_here (kind.Mismatch ∷ []) (kind.Literal ∷ []) spec c.in-Some.fault
-    (subst (λ (o : Option Faulty). IsFirstOf (kind.Mismatch ∷ []) spec o) c.in-Some.is c.in_ok-fault.ensures)
+    first_here (kind.Mismatch ∷ []) (kind.Literal ∷ []) spec c.in-Ok-Some.fault
+    (subst (λ (o : Option Faulty). IsFirstOf (kind.Mismatch ∷ []) spec o) c.in-Ok-Some.field-0-is c.in-Ok-Some.ensures)
 
-pub returns : goal.returns
-returns c =
+pub returns-in-Ok-None : goal.returns-in-Ok-None
+returns-in-Ok-None c =
     let spec : SpecTree = spec_tree c.args.spec.now in
     IfOk-weaker c.literal_fault.result (IsFirstOf (kind.Literal ∷ []) spec)
     (IsFirstOf (kind.Mismatch ∷ kind.Literal ∷ []) spec)
     (λ r first. first_then (kind.Mismatch ∷ []) (kind.Literal ∷ []) spec r
-    (subst (λ (o : Option Faulty). IsFirstOf (kind.Mismatch ∷ []) spec o) c.in_default.is c.in_ok-fault.ensures)
+    (subst (λ (o : Option Faulty). IsFirstOf (kind.Mismatch ∷ []) spec o) c.in-Ok-None.field-0-is c.in-Ok-None.ensures)
     first)
     c.literal_fault.ensures

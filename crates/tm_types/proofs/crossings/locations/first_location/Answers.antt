@@ -17,6 +17,6 @@ returns c =
     let of_stmts = λ (ss : List Stmt). first_of (flat_map (locations_of called) (all_stmts (stmt_trees ss))) in
     let in_locals : c.locals_location-in_locals.result ≡ of_locals body.locals.items =
     c.locals_location-in_locals.ensures ∙ ap of_locals c.as_slice.ensures.value in
-    let in_stmts : c.in_ok-in_stmts.in_stmts ≡ of_stmts body.stmts.items =
-    c.in_ok-in_stmts.ensures ∙ ap of_stmts c.as_slice-2.ensures.value in
+    let in_stmts : c.in-Ok.given ≡ of_stmts body.stmts.items =
+    c.in-Ok.ensures ∙ ap of_stmts c.as_slice-2.ensures.value in
     c.earlier_place.ensures.joined _ _ in_locals in_stmts

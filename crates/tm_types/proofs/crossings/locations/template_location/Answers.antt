@@ -8,7 +8,7 @@ use Rattle.tm_types.proofs.crossings.locations.template_location.Goals as goal
 pub loop-task-preserved : goal.loop-task-preserved
 loop-task-preserved c =
     found_more (task_locations_by (is_marked c.args.calls.now)) task_tree c.as_slice-task-items.result.now
-    c.loop-task.task-index c.task-item.result (omega arith) c.task-item.is c.in_ok-task_location.ensures
+    c.loop-task.task-index c.task-item.result (omega arith) c.task-item.is c.in-Ok.ensures
     c.earlier_place-first.ensures.earlier c.loop-task.invariant
 
 pub returns : goal.returns

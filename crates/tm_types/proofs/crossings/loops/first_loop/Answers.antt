@@ -22,7 +22,7 @@ returns c =
     let loops = loops_of (is_marked c.args.calls.now) in
     let body = c.args.body.now in
     found_listed loops (λ (s : Bor Stmt). stmt_tree s.now) c.as_slice-stmt-items.result.now
-    c.in_ok-stmts.stmts.items _ c.loop-stmt.stmt-index c.as_slice-stmt-items.ensures.value c.in_ok-stmts.ensures
+    c.in-Ok.given.items _ c.loop-stmt.stmt-index c.as_slice-stmt-items.ensures.value c.in-Ok.ensures
     (omega arith) c.loop-stmt.invariant
     ∙ ap (λ ss. first_of (flat_map loops (all_stmts (stmt_trees ss)))) c.as_slice.ensures.value
     ∙ ap (λ xs. first_of (xs ++ flat_map loops (all_stmts (stmt_trees body.stmts.items))))

@@ -9,7 +9,7 @@ use Rattle.tm_types.proofs.crossings.loops.processes_loop.Goals as goal
 pub loop-process-preserved : goal.loop-process-preserved
 loop-process-preserved c =
     found_more (λ (x : ProcessTree). body_loops (is_marked c.args.calls.now) x.body) process_tree c.args.processes.now
-    c.loop-process.process-index c.process-item.result (omega arith) c.process-item.is c.in_ok-first_loop.ensures
+    c.loop-process.process-index c.process-item.result (omega arith) c.process-item.is c.in-Ok.ensures
     c.earlier_place-first.ensures.earlier c.loop-process.invariant
 
 pub returns : goal.returns

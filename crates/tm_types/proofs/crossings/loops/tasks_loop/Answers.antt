@@ -9,7 +9,7 @@ use Rattle.tm_types.proofs.crossings.loops.tasks_loop.Goals as goal
 pub loop-task-preserved : goal.loop-task-preserved
 loop-task-preserved c =
     found_more (λ (x : TaskTree). body_loops (is_marked c.args.calls.now) x.body) task_tree c.args.tasks.now
-    c.loop-task.task-index c.task-item.result (omega arith) c.task-item.is c.in_ok-first_loop.ensures
+    c.loop-task.task-index c.task-item.result (omega arith) c.task-item.is c.in-Ok.ensures
     c.earlier_place-first.ensures.earlier c.loop-task.invariant
 
 pub returns : goal.returns

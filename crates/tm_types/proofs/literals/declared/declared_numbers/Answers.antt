@@ -15,7 +15,7 @@ returns c =
     c.types_numbers-in_types.result ≡ first_of (flat_map type_numbers (template_types (template_tree t))) =
     c.types_numbers-in_types.ensures
     ∙ ap (λ xs. first_of (flat_map type_numbers (listed_types xs))) c.as_slice.ensures.value
-    ∙ ap (λ xs. first_of (flat_map type_numbers xs)) c.in_ok-types.ensures in
+    ∙ ap (λ xs. first_of (flat_map type_numbers xs)) c.in-Ok.ensures in
     let in_vars : c.vars_numbers-in_vars.result ≡ first_of (flat_map var_numbers (template_tree t).vars) =
     c.vars_numbers-in_vars.ensures
     ∙ ap (λ (vs : List VarDef). first_of (flat_map var_numbers (map var_tree vs))) c.as_slice-2.ensures.value in

@@ -7,7 +7,7 @@ use Rattle.tm_types.proofs.literals.text.templates_declared.Goals as goal
 pub loop-template-preserved : goal.loop-template-preserved
 loop-template-preserved c =
     found_more declared_numbers template_tree c.args.templates.now c.loop-template.template-index
-    c.template-item.result (omega arith) c.template-item.is c.in_ok-declared_numbers.ensures
+    c.template-item.result (omega arith) c.template-item.is c.in-Ok.ensures
     c.earlier_place-first.ensures.earlier c.loop-template.invariant
 
 pub returns : goal.returns

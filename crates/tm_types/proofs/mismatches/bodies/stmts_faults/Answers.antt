@@ -16,5 +16,5 @@ loop-stmt-preserved c =
 pub returns : goal.returns
 returns c =
     found_listed (stmt_faults (context_of c.args.at.now)) (λ (s : Bor Stmt). stmt_tree s.now)
-    c.as_slice-stmt-items.result.now c.in_ok-listed.listed.items _ c.loop-stmt.stmt-index
-    c.as_slice-stmt-items.ensures.value c.in_ok-listed.ensures (omega arith) c.loop-stmt.invariant
+    c.as_slice-stmt-items.result.now c.in-Ok.given.items _ c.loop-stmt.stmt-index
+    c.as_slice-stmt-items.ensures.value c.in-Ok.ensures (omega arith) c.loop-stmt.invariant

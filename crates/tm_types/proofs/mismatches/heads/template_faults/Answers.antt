@@ -10,7 +10,7 @@ use Rattle.tm_syntax.specs.Scopes.Parts.{template_types}
 use Rattle.tm_syntax.specs.Faults.Mismatches as text
 use Rattle.tm_types.specs.Firsts.{first_of}
 use Rattle.tm_names.specs.Parts.{listed_types}
-use Rattle.tm_types.specs.Inner.ExprFaults.{main_faults}
+use Rattle.tm_types.specs.Inner.HeadFaults.{main_faults}
 use Rattle.tm_types.proofs.mismatches.heads.template_faults.Goals as goal
 
 pub returns : goal.returns
@@ -31,7 +31,7 @@ returns c =
     c.types_faults-of_types.ensures
     ∙ (λ i. first_of (flat_map (text.type_faults (spec_tree (c.names-2.ensures i)))
     (listed_types (c.as_slice-2.ensures.value i))))
-    ∙ ap (λ ts. first_of (flat_map (text.type_faults spec) ts)) c.in_ok-types.ensures in
+    ∙ ap (λ ts. first_of (flat_map (text.type_faults spec) ts)) c.in-Ok.ensures in
     let in_vars : c.vars_faults-of_vars.result ≡ first_of vars =
     c.vars_faults-of_vars.ensures
     ∙ ap (λ (vs : List VarDef). first_of (flat_map (text.var_faults spec) (map var_tree vs)))

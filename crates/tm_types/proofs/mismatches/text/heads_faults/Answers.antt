@@ -1,29 +1,21 @@
-use Rattle.std.proofs.Common.{sym, ap, ◌∙◌, arith}
-use Rattle.std.specs.List.{flat_map}
-use Rattle.std.proofs.lemmas.List.{take_all}
-use Rattle.std.proofs.lemmas.List.Folds.{flat_map-map}
-use Rattle.tm_base.specs.declared.place.Place.{Place}
-use Rattle.tm_syntax.specs.declared.tree.Template.{Template}
-use Rattle.tm_syntax.specs.Tree.View.{spec_tree, template_tree}
+use Rattle.std.proofs.Common.{subst, sym, arith}
 use Rattle.tm_syntax.specs.Faults.Mismatches.{template_faults}
-use Rattle.tm_types.specs.Firsts.{first_of}
-use Rattle.tm_names.proofs.FirstFaults.{first_more}
+use Rattle.tm_types.specs.Inner.TextParts.{IsOwnHead, in_head}
+use Rattle.tm_types.specs.declared.parts.TextHead.{TextHead}
+use Rattle.tm_types.proofs.FoundPlaces.{found_more, found_whole}
 use Rattle.tm_types.proofs.mismatches.text.heads_faults.Goals as goal
 
-pub loop-number-preserved : goal.loop-number-preserved
-loop-number-preserved c =
-    let spec = spec_tree c.args.names.now in
-    first_more (λ (at : Place). at) (λ (t : Template). template_faults spec (template_tree t))
-    c.args.templates.now c.loop-number.number c.index-templates-number.result c.loop-number.first
-    c.in_ok-head_faults.field-0 c.earlier_place-first.result (omega (arith, c.loop-number-test.true))
-    c.index-templates-number.is c.in_ok-head_faults.ensures c.earlier_place-first.ensures.earlier
-    c.loop-number.invariant
+pub template_faults-requires : goal.template_faults-requires
+template_faults-requires c =
+    subst IsOwnHead (sym c.head-item.is) (c.requires c.loop-head.head-index c.head-item.result (omega arith))
+
+pub loop-head-preserved : goal.loop-head-preserved
+loop-head-preserved c =
+    found_more (in_head template_faults) (λ (h : TextHead). h) c.args.heads.now c.loop-head.head-index
+    c.head-item.result
+    (omega arith) c.head-item.is c.in-Ok.ensures c.earlier_place-first.ensures.earlier c.loop-head.invariant
 
 pub returns : goal.returns
 returns c =
-    let spec = spec_tree c.args.names.now in
-    let faults = λ (t : Template). template_faults spec (template_tree t) in
-    c.loop-number.invariant
-    ∙ ap (λ ts. first_of (flat_map faults ts))
-    (take_all c.loop-number.number c.args.templates.now (omega (arith, c.loop-number-test.false)) ∙ c.requires)
-    ∙ ap first_of (sym (flat_map-map (template_faults spec) template_tree c.args.names.now.templates.items))
+    found_whole (in_head template_faults) (λ (h : TextHead). h) c.args.heads.now c.loop-head.head-index (omega arith)
+    c.loop-head.invariant

@@ -1,12 +1,10 @@
-use Rattle.std.proofs.Common.{◌≡◌, take}
-use Rattle.std.specs.List.{flat_map}
-use Rattle.tm_syntax.specs.declared.tree.Template.{Template}
-use Rattle.tm_syntax.specs.Tree.View.{spec_tree, template_tree}
+use Rattle.std.proofs.Common.{◌≡◌}
 use Rattle.tm_syntax.specs.Faults.Mismatches.{template_faults}
-use Rattle.tm_types.specs.Firsts.{first_of}
+use Rattle.tm_types.specs.Inner.TextParts.{in_head}
+use Rattle.tm_types.specs.declared.parts.TextHead.{TextHead}
+use Rattle.tm_types.proofs.FoundPlaces.{found_before}
 use Rattle.tm_types.proofs.mismatches.text.heads_faults.Given as goal
 
-abbrev pub invariant-loop-number : goal.invariant-loop-number
-invariant-loop-number l =
-    l.first ≡ first_of (flat_map (λ (t : Template). template_faults (spec_tree l.names) (template_tree t))
-    (take l.number l.templates))
+abbrev pub invariant-loop-head : goal.invariant-loop-head
+invariant-loop-head l =
+    l.first ≡ found_before (in_head template_faults) (λ (h : TextHead). h) l.heads l.head-index

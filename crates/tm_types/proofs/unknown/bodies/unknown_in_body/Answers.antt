@@ -16,8 +16,8 @@ use Rattle.tm_types.proofs.unknown.bodies.unknown_in_body.Goals as goal
 
 pub returns : goal.returns
 returns c =
-    let body = c.args.part.now.body.now in
-    let unknown = unknown_in_stmt (context_of c.args.part.now.site) in
+    let body = c.args.body.now in
+    let unknown = unknown_in_stmt (context_of c.args.site.now) in
     let in_local = λ (l : LocalTree). unknown (declaration l) in
     c.earlier_name.ensures (flat_map in_local (map local_tree body.locals.items))
     (flat_map unknown (all_stmts (stmt_trees body.stmts.items)))
@@ -26,5 +26,5 @@ returns c =
     (c.unknown_in_listed.ensures
     ∙ ap (λ (ss : List (Bor Stmt)). first_mark (flat_map unknown (listed_stmts ss))) c.as_slice-3.ensures.value
     ∙ ap (λ (ss : List StmtTree). first_mark (flat_map unknown ss))
-    (c.in_ok-stmts.ensures ∙ ap (λ ss. all_stmts (stmt_trees ss)) c.as_slice.ensures.value))
+    (c.in-Ok.ensures ∙ ap (λ ss. all_stmts (stmt_trees ss)) c.as_slice.ensures.value))
     ∙ ap first_mark (sym (flat_map-stmts_in unknown (body_tree body)))

@@ -35,7 +35,7 @@ returns c =
     ∙ ap (λ (s : Spec). first_mark (flat_map (unknown_type (spec_tree s)) (listed_types c.as_slice-3.result.now)))
     c.names-2.ensures
     ∙ ap (λ xs. first_mark (flat_map (unknown_type at.spec) (listed_types xs))) c.as_slice-3.ensures.value
-    ∙ ap (λ xs. first_mark (flat_map (unknown_type at.spec) xs)) c.in_ok-types.ensures)
+    ∙ ap (λ xs. first_mark (flat_map (unknown_type at.spec) xs)) c.in-Ok.ensures)
     (c.unknown_inits-in_literals.ensures
     ∙ ap (λ (s : Spec). first_mark (flat_map (λ (v : VarTree). flat_map (unknown_literal (spec_tree s))
     (option_to_list v.init)) (map var_tree c.as_slice-4.result.now))) c.names-3.ensures

@@ -1,31 +1,19 @@
-use Rattle.std.proofs.Common.{List, sym, ap, ◌∙◌, arith}
-use Rattle.std.specs.List.{flat_map}
-use Rattle.std.specs.Option.{option_map}
-use Rattle.std.proofs.lemmas.List.{take_all}
-use Rattle.std.proofs.lemmas.List.Folds.{flat_map-map}
-use Rattle.tm_syntax.specs.declared.tree.Template.{Template}
-use Rattle.tm_syntax.specs.Tree.View.{spec_tree, template_tree}
-use Rattle.tm_syntax.specs.Faults.Marks.{Mark, first_mark}
+use Rattle.std.proofs.Common.{subst, sym, arith}
 use Rattle.tm_syntax.specs.Faults.Names.{unknown_in_template}
-use Rattle.tm_names.specs.ScopeNames.{mark_of}
-use Rattle.tm_names.proofs.FirstFaults.{first_more}
+use Rattle.tm_types.specs.Inner.TextParts.{IsOwnHead, in_head}
+use Rattle.tm_types.specs.declared.parts.TextHead.{TextHead}
+use Rattle.tm_types.proofs.FoundNames.{bare_all, found_more}
 use Rattle.tm_types.proofs.unknown.text.unknown_in_heads.Goals as goal
 
-pub loop-number-preserved : goal.loop-number-preserved
-loop-number-preserved c =
-    first_more (λ (m : Mark). m.place)
-    (λ (t : Template). unknown_in_template (spec_tree c.args.names.now) (template_tree t))
-    c.args.templates.now c.loop-number.number c.index-templates-number.result (option_map mark_of c.loop-number.first)
-    (option_map mark_of c.in_ok-unknown_in_head.field-0) (option_map mark_of c.earlier_mark-first.result)
-    (omega (arith, c.loop-number-test.true)) c.index-templates-number.is c.in_ok-unknown_in_head.ensures
-    c.earlier_mark-first.ensures c.loop-number.invariant
+pub unknown_in_template-requires : goal.unknown_in_template-requires
+unknown_in_template-requires c =
+    subst IsOwnHead (sym c.head-item.is) (c.requires c.loop-head.head-index c.head-item.result (omega arith))
+
+pub loop-head-preserved : goal.loop-head-preserved
+loop-head-preserved c =
+    found_more (in_head unknown_in_template) (λ (h : TextHead). h) c.args.heads.now c.loop-head.head-index
+    c.head-item.result (omega arith) c.head-item.is c.in-Ok.ensures c.earlier_mark-first.ensures c.loop-head.invariant
 
 pub returns : goal.returns
 returns c =
-    let unknown = λ (t : Template).
-    unknown_in_template (spec_tree c.args.names.now) (template_tree t) in
-    c.loop-number.invariant
-    ∙ ap (λ (ts : List Template). first_mark (flat_map unknown ts))
-    (take_all c.loop-number.number c.args.templates.now (omega (arith, c.loop-number-test.false)) ∙ c.requires)
-    ∙ ap first_mark (sym (flat_map-map (unknown_in_template (spec_tree c.args.names.now)) template_tree
-    c.args.names.now.templates.items))
+    bare_all (in_head unknown_in_template) c.args.heads.now c.loop-head.head-index (omega arith) c.loop-head.invariant
