@@ -8,15 +8,15 @@ use Rattle.tm_dd.proofs.hasher.NumberHasherHasher.write.Goals.{After-taking}
 number : (c : After-taking) → c.from_le_bytes-number.result ≡ from_le_bytes w64 c.args.bytes.now
 number c =
     c.from_le_bytes-number.ensures ∙ (λ i. from_le_bytes w64 (
-      c.byte.ensures i
-      ∷ c.byte-2.ensures i
-      ∷ c.byte-3.ensures i
-      ∷ c.byte-4.ensures i
-      ∷ c.byte-5.ensures i
-      ∷ c.byte-6.ensures i
-      ∷ c.byte-7.ensures i
-      ∷ c.byte-8.ensures i
-      ∷ []
+    c.byte.ensures i
+    ∷ c.byte-2.ensures i
+    ∷ c.byte-3.ensures i
+    ∷ c.byte-4.ensures i
+    ∷ c.byte-5.ensures i
+    ∷ c.byte-6.ensures i
+    ∷ c.byte-7.ensures i
+    ∷ c.byte-8.ensures i
+    ∷ []
     ))
 
 pub returns : goal.returns
