@@ -21,8 +21,8 @@
 //! - `copy F` and `copy F F`: what is kept behind these roots alone is copied, letters that are these roots stand for
 //!   the copies, and no other letter stands for anything;
 //! - `tables`: how many truth tables of three levels have a function of their own, with their complement and their
-//!   values; `tables CALL` and `tables values`: for how many functions of three levels, pairs of them or places the
-//!   manager gives what their tables do.
+//!   values; `tables CALL` and `tables values`: for how many functions of three levels, each with 16 of them, with its
+//!   levels or with its places, the manager gives what their tables do.
 //!
 //! A row is answered `unknown` where a function in it is none that the manager knows.
 

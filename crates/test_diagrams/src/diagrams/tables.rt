@@ -74,15 +74,22 @@ fn applied(
     }
 }
 
-/// Whether an operation on the functions of two tables and of their exclusive sum gives what the tables do.
+/// The table of one of 16 functions: this one, and others that lie a multiple of 17 further.
+fn other(table: u8, number: u8) -> u8 {
+    table.wrapping_add(number.wrapping_mul(17))
+}
+
+/// Whether an operation at the level of this number, on the function of a table, another one of this number and their
+/// exclusive sum, gives what the tables do.
 fn agrees(
     bench: &mut Workbench,
     verb: &str,
     functions: &Functions,
     a: u8,
-    b: u8,
+    number: u8,
 ) -> Result<bool, AllocError> {
-    let level = b % 3;
+    let level = number % 3;
+    let b = other(a, number);
     let of = [
         function_of(functions, a),
         function_of(functions, b),
@@ -120,13 +127,13 @@ fn is_so(
     }
 }
 
-/// The last number that is asked of beside a table: none, a place, a level or another table.
+/// The last number that is asked of beside a table: none, a place, a level or that of another table.
 fn last_number(verb: &str) -> u8 {
     match verb {
         "" => 0,
         "values" => 7,
         "exists" | "forall" => 2,
-        _ => 255,
+        _ => 15,
     }
 }
 
