@@ -175,7 +175,8 @@ fn found(
     let set = from_table(bench, table(rest))?;
     match verb {
         "predecessors" => predecessors_text(alloc, bench, game, set),
-        _ => single_text(alloc, bench, game, verb, set),
+        "calm" | "moves" => single_text(alloc, bench, game, verb, set),
+        _ => String::from_str(alloc, "no question"),
     }
 }
 

@@ -69,14 +69,15 @@ impl Workbench {
         self.dd.make(level, lo, hi, &mut self.steps)
     }
 
-    /// What a connective makes of two functions.
+    /// What a connective makes of two functions. Of any other word it is not known.
     pub fn joined(&mut self, verb: &str, f: NodeId, g: NodeId) -> Result<NodeId, AllocError> {
         let f = known(&self.dd, &mut self.is_lost, f);
         let g = known(&self.dd, &mut self.is_lost, g);
         match verb {
             "and" => self.dd.and(f, g, &mut self.steps),
             "or" => self.dd.or(f, g, &mut self.steps),
-            _ => self.dd.xor(f, g, &mut self.steps),
+            "xor" => self.dd.xor(f, g, &mut self.steps),
+            _ => Ok(self.unknown()),
         }
     }
 
