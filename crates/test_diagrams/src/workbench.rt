@@ -1,4 +1,5 @@
 //! A manager of diagrams, and what is noted of its operations.
+ghost use Rattle.std.specs.Prelude.{◌≡◌};
 ghost use Rattle.tm_dd.specs.Table.{Knows};
 
 use crate::knowing::{copy_known, is_deeper, knows, knows_changes};
@@ -45,7 +46,9 @@ impl Workbench {
     }
 
     /// Notes that a function is not known. `FALSE` takes its place.
-    pub fn unknown(&mut self) -> NodeId {
+    pub fn unknown(&mut self) -> NodeId
+        ensures { self.new.dd ≡ self.old.dd }
+    {
         self.is_lost = true;
         FALSE
     }
