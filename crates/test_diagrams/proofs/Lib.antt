@@ -1,0 +1,2 @@
+mod ExampleFacts
+mod Known
