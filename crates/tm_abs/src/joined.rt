@@ -6,7 +6,7 @@ ghost use Rattle.tm_abs.specs.Inner.Atoms.{ReadsNone};
 ghost use Rattle.tm_abs.specs.Inner.Joining.{IsJoining};
 
 use crate::atoms::Atom;
-use crate::marks::{equal_marks, mark_levels};
+use crate::marks::{count_marked, equal_marks, mark_levels, set_marks};
 use std::alloc::{AllocError, Global};
 
 /// Levels of a state that are quantified: a mark for each level of a state, and their list.
@@ -28,6 +28,17 @@ impl Gone {
             }
         }
         false
+    }
+
+    // 0 where none of some levels is in it, and otherwise one more than how many of them have a mark.
+    fn rank(&self, read: &[bool], reads: &[u32]) -> usize
+        ensures { result ≡ 0 → ReadsNone self.now.marks.items reads.now }
+    {
+        if self.has_one(reads) {
+            1 + count_marked(read, reads)
+        } else {
+            0
+        }
     }
 }
 
@@ -51,7 +62,9 @@ pub(crate) fn join(
         waiting.new.items) }
 {
     let mut joined = join_none(alloc, free, reads)?;
-    while let Some(at) = next_joined(&joined.gone, waiting) {
+    let mut read = equal_marks(alloc, false, free.len())?;
+    while let Some(at) = next_joined(&joined.gone, &read, waiting) {
+        set_marks(&mut read, &waiting[at].reads);
         join_at(free, at, &mut joined, waiting)?;
     }
     Ok(joined)
@@ -98,16 +111,24 @@ fn join_at(
     Ok(())
 }
 
-// The first atom that reads a level that is quantified.
-fn next_joined(gone: &Gone, waiting: &[Atom]) -> Option<usize>
+// The atom that is joined next, of those that read a level that is quantified: one that reads the most levels that joined
+// atoms read, by these marks.
+fn next_joined(gone: &Gone, read: &[bool], waiting: &[Atom]) -> Option<usize>
     ensures { MatchOption result
         (All (λ (a : AtomData). ReadsNone gone.now.marks.items a.reads.items) waiting.now)
         (λ at. at < length waiting.now) }
 {
+    let mut next = 0;
+    let mut most = 0;
     for (at, atom) in waiting.iter().enumerate() {
-        if gone.has_one(&atom.reads) {
-            return Some(at);
+        let rank = gone.rank(read, &atom.reads);
+        if most < rank {
+            next = at;
+            most = rank;
         }
     }
-    None
+    if most == 0 {
+        return None;
+    }
+    Some(next)
 }

@@ -1,5 +1,5 @@
 //! Marks that levels get once.
-ghost use Rattle.std.specs.Prelude.{◌≡◌, ◌<◌, ◌&&◌, ◌∷◌, [], IfOk, OnOk, length, nat_lt, not, replicate};
+ghost use Rattle.std.specs.Prelude.{◌≡◌, ◌<◌, ◌≤◌, ◌&&◌, ◌∷◌, [], IfOk, OnOk, length, nat_lt, not, replicate};
 ghost use Rattle.tm_abs.specs.Inner.Marks.{AreMarked};
 ghost use Rattle.tm_ddops.specs.Quantified.{is_marked_level};
 
@@ -57,4 +57,28 @@ fn is_new(allowed: &[bool], marks: &[bool], level: u32) -> bool
 {
     let at = level as usize;
     at < marks.len() && allowed[at] && !marks[at]
+}
+
+// Marks some levels.
+pub(crate) fn set_marks(marks: &mut Vec<bool>, levels: &[u32]) {
+    for level in levels {
+        let at = *level as usize;
+        if at < marks.len() {
+            marks[at] = true;
+        }
+    }
+}
+
+// How many of some levels have a mark.
+pub(crate) fn count_marked(marks: &[bool], levels: &[u32]) -> usize
+    ensures { result ≤ length levels.now }
+{
+    let mut count = 0;
+    for level in levels {
+        let at = *level as usize;
+        if at < marks.len() && marks[at] {
+            count += 1;
+        }
+    }
+    count
 }

@@ -11,4 +11,4 @@ loop-at-preserved c =
 pub returns-clause-left : goal.returns-clause-left
 returns-clause-left c =
     All-same (λ (a : Atom). ReadsNone c.loop-at.joined.gone.marks.items a.reads.items) c.loop-at.waiting.items
-    c.deref.result.now (sym c.deref.ensures.value) c.in_default.ensures
+    c.deref-in-loop-at.result.now (sym c.deref-in-loop-at.ensures.value) c.in_default.ensures
