@@ -111,8 +111,9 @@ fn join_at(
     Ok(())
 }
 
-// The atom that is joined next, of those that read a level that is quantified: one that reads the most levels that joined
-// atoms read, by these marks.
+// The atom that is joined next, of those that read a level that is quantified: one that reads the most levels that have
+// a mark, which joined atoms read. So atoms of the same levels follow each other (a maximum cardinality search, Tarjan
+// and Yannakakis 1984), and the turns, which go backwards, have few levels open at a time.
 fn next_joined(gone: &Gone, read: &[bool], waiting: &[Atom]) -> Option<usize>
     ensures { MatchOption result
         (All (λ (a : AtomData). ReadsNone gone.now.marks.items a.reads.items) waiting.now)

@@ -131,8 +131,8 @@ fn related(
     requires unread { ReadsNoneOf game.old.diagrams.table set unread.now }
 
     ensures grows { Grows game.old game.new }
-    ensures related { IfOk result (IsPutTo game.new.diagrams.table level (means game.old.diagrams.table holds) unread.now
-        (means game.old.diagrams.table set)) }
+    ensures related { IfOk result (IsPutTo game.new.diagrams.table level (means game.old.diagrams.table holds)
+        unread.now (means game.old.diagrams.table set)) }
 {
     let bit = game.make(level, FALSE, TRUE)?;
     let differs = game.xor(bit, holds)?;
