@@ -29,16 +29,6 @@ none_marked n k h =
           true≢false (sym h ∙ get_or_past (replicate n false) k false (omega (arith, length-replicate n false, above)))
     ]
 
--- levels that are listed after others are none of these
-pub listed_after : (allowed marks after last : List Bool) (levels more listed longer : List ℕ) →
-    AreMarked allowed levels marks [] after listed → AreMarked allowed more after [] last longer →
-    (k : ℕ) → Contains longer k → Contains more k × ¬ Contains levels k
-listed_after allowed marks after last levels more listed longer first second k h =
-    elim ((second.listed_are k).0 h) [
-      | inl there ↦ absurd (no_level k there)
-      | inr new ↦ (new.0, λ before. new.2 ((first.marks_are k).1 (inr (before, new.1))))
-    ]
-
 -- a mark stands within the list
 pub marked_within : (marks : List Bool) (k : ℕ) → is_marked_level marks k ≡ true → k < length marks
 marked_within marks k h =

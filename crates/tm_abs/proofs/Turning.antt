@@ -6,7 +6,6 @@ use Rattle.std.proofs.lemmas.Map.Made.{is_member-Decides}
 use Rattle.std.specs.Set.{is_member}
 use Rattle.tm_abs.specs.Inner.Eliminated.{AgreeBeside, IsEliminated}
 use Rattle.tm_abs.specs.Inner.Quantified.{IsPutTo}
-use Rattle.tm_abs.specs.Inner.Reading.{ReadsNoneOf}
 use Rattle.tm_dd.specs.declared.node.NodeId.{NodeId}
 use Rattle.tm_dd.specs.NodeId.{complement}
 use Rattle.tm_dd.specs.declared.node.TheConstants.{FALSE, TRUE}
@@ -53,58 +52,43 @@ pub bit_of : (b x y : Bool) → x ≡ true → y ≡ false → (if b then x else
 bit_of true x y p q = p
 bit_of false x y p q = q
 
--- an atom is put to a set, where levels that this does not read are quantified before
-pub related_then : (r s t u x : Table) → Extends r s → Extends s t → Extends t u → Extends u x →
-    (set : NodeId) (level : ℕ) (holds bit differs same id : NodeId) (unread : List ℕ) → Knows r set → Knows r holds →
-    ReadsNoneOf r set unread →
+-- an atom is put to a set
+pub related_then : (r s t u : Table) → Extends r s → Extends s t → Extends t u →
+    (set : NodeId) (level : ℕ) (holds bit differs id : NodeId) → Knows r set → Knows r holds →
     IsFunction s bit (λ v. if v level then means s TRUE v else means s FALSE v) →
     IsFunction t differs (λ v. xor (means t bit v) (means t holds v)) →
-    IsExists u unread (complement differs) same → IsFunction x id (λ v. means x set v && means x same v) →
-    IsPutTo x level (means r holds) unread (means r set) id
-related_then r s t u x rs st tu ux set level holds bit differs same id unread set_known holds_known reads_none bit_is
-    differs_is same_is is = record {
-      known = is.known;
-      some = λ v h.
-          let parts = and_parts (means x set v) (means x same v) (sym (is.meaning v) ∙ h) in
-          let found = same_is.some v (sym (ux.same_meaning same same_is.known v) ∙ parts.1) in
-          let w = found.0 in (
-            w,
-            found.1,
-            reads_none v w found.1 ∙ sym (set_kept v) ∙ parts.0,
-            same_values (w level) (means r holds w) (sym (tied w) ∙ found.2),
-          );
-      enough = λ v w agrees here equal.
-          is.meaning v
-          ∙ and_from (means x set v) (means x same v) (set_kept v ∙ sym (reads_none v w agrees) ∙ here)
-          (ux.same_meaning same same_is.known v
-          ∙ same_is.enough v w agrees (tied w ∙ values_same (w level) (means r holds w) equal));
-    }
-  where
-    set_kept : (v : Assignment) → means x set v ≡ means r set v
-    set_kept v =
-        (Extends-trans r t x (Extends-trans r s t rs st) (Extends-trans t u x tu ux)).same_meaning set set_known v
+    IsFunction u id (λ v. means u set v && means u (complement differs) v) →
+    IsFunction u id (λ v. means r set v && not (xor (v level) (means r holds v)))
+related_then r s t u rs st tu set level holds bit differs id set_known holds_known bit_is differs_is is = record {
+  known = is.known;
+  meaning = λ v.
+      let ru = Extends-trans r t u (Extends-trans r s t rs st) tu in
+      let first = ru.same_meaning set set_known v in
+      let value = st.same_meaning bit bit_is.known v ∙ bit_is.meaning v
+      ∙ bit_of (v level) (means s TRUE v) (means s FALSE v) (means-TRUE s v) (means-FALSE s v) in
+      let other = (Extends-trans r s t rs st).same_meaning holds holds_known v in
+      let second = means-complement u differs v
+      ∙ ap not (tu.same_meaning differs differs_is.known v ∙ differs_is.meaning v
+      ∙ (λ i. xor (value i) (other i))) in
+      is.meaning v ∙ (λ i. first i && second i);
+}
 
-    tied : (v : Assignment) → means u (complement differs) v ≡ not (xor (v level) (means r holds v))
-    tied v =
-        let value = st.same_meaning bit bit_is.known v ∙ bit_is.meaning v
-        ∙ bit_of (v level) (means s TRUE v) (means s FALSE v) (means-TRUE s v) (means-FALSE s v) in
-        let other = (Extends-trans r s t rs st).same_meaning holds holds_known v in
-        means-complement u differs v
-        ∙ ap not (tu.same_meaning differs differs_is.known v ∙ differs_is.meaning v
-        ∙ (λ i. xor (value i) (other i)))
-
--- and then levels are quantified, those and more
-pub put_then : (s t : Table) → Extends s t → (level : ℕ) (holds : Function) (unread ends : List ℕ) (f : Function)
-    (related id : NodeId) → ((k : ℕ) → Contains unread k → Contains ends k) →
-    IsPutTo s level holds unread f related → IsExists t ends related id → IsPutTo t level holds ends f id
-put_then s t e level holds unread ends f related id among put some = record {
+-- and then levels are quantified
+pub put_then : (s t : Table) → Extends s t → (level : ℕ) (holds : Function) (ends : List ℕ) (f : Function)
+    (related id : NodeId) → IsFunction s related (λ v. f v && not (xor (v level) (holds v))) →
+    IsExists t ends related id → IsPutTo t level holds ends f id
+put_then s t e level holds ends f related id is some = record {
   known = some.known;
   some = λ v h.
       let found = some.some v h in
-      let near = put.some found.0 (sym (e.same_meaning related put.known found.0) ∙ found.2) in
-      (near.0, λ k not_so. near.1 k (λ there. not_so (among k there)) ∙ found.1 k not_so, near.2, near.3);
+      let w = found.0 in
+      let parts = and_parts (f w) (not (xor (w level) (holds w)))
+      (sym (e.same_meaning related is.known w ∙ is.meaning w) ∙ found.2) in
+      (w, found.1, parts.0, same_values (w level) (holds w) parts.1);
   enough = λ v w agrees here same.
-      some.enough v w agrees (e.same_meaning related put.known w ∙ put.enough w w (λ k elsewhere. refl) here same);
+      some.enough v w agrees
+      (e.same_meaning related is.known w ∙ is.meaning w
+      ∙ and_from (f w) (not (xor (w level) (holds w))) here (values_same (w level) (holds w) same));
 }
 
 module _ (IsGone : ℕ → Type 0) (IsRelated : Assignment → Type 0) (f so_far : Function)

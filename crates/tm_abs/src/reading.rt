@@ -1,8 +1,8 @@
 //! The tracked predicates as diagrams. The game remembers the diagram of each.
-ghost use Rattle.std.specs.Prelude.{◌≡◌, ℕ, ◌<◌, ◌++◌, ◌∷◌, [], All, Contains, IfOk, List, MatchOption, OnOk, length};
+ghost use Rattle.std.specs.Prelude.{◌≡◌, ◌<◌, ◌++◌, ◌∷◌, [], All, IfOk, List, MatchOption, OnOk, length};
 ghost use Rattle.tm_abs.specs.declared.atoms.Atom.{Atom as AtomData};
 ghost use Rattle.tm_abs.specs.Inner.Atoms.{AreTracked, IsAtom, IsNumbered};
-ghost use Rattle.tm_abs.specs.Inner.Reading.{AreRead, IsPredicate, ReadsNoneOf, bit_at};
+ghost use Rattle.tm_abs.specs.Inner.Reading.{AreRead, IsPredicate, bit_at};
 ghost use Rattle.tm_abs.specs.Tracked.{AreInPool, HasPooled, IsPooled, tracked_of};
 ghost use Rattle.tm_dd.specs.Table.{Knows, means};
 ghost use Rattle.tm_flat_pool.specs.Predicates.{Predicate};
@@ -12,7 +12,7 @@ ghost use Rattle.tm_game_bits.specs.Order.{IsOrder};
 ghost use Rattle.tm_syntax.specs.Design.{DesignTree};
 
 use crate::atoms::{Atom, Tracked};
-use crate::marks::{equal_marks, mark_levels};
+use crate::marks::equal_marks;
 use std::alloc::{AllocError, Global};
 use tm_dd::{FALSE, NodeId, TRUE};
 use tm_game::Game;
@@ -133,25 +133,4 @@ pub(crate) fn levels_read(game: &Game, id: NodeId) -> Result<Vec<u32>, AllocErro
     let manager = game.manager();
     let _store = manager.store();
     manager.support(id)
-}
-
-// Those of some levels of a state that a diagram does not read.
-pub(crate) fn levels_unread(
-    alloc: Global,
-    game: &Game,
-    levels: &[u32],
-    id: NodeId,
-) -> Result<Vec<u32>, AllocError>
-    requires { Knows game.now.diagrams.table id }
-    ensures among { IfOk result (λ unread. (k : ℕ) → Contains unread.items k → Contains levels.now k) }
-    ensures unread { IfOk result (λ unread. ReadsNoneOf game.now.diagrams.table id unread.items) }
-{
-    let reads = levels_read(game, id)?;
-    let states = equal_marks(alloc, true, game.order().len())?;
-    let mut marks = equal_marks(alloc, false, states.len())?;
-    let mut read = Vec::new(alloc);
-    mark_levels(&states, &reads, &mut marks, &mut read)?;
-    let mut unread = Vec::new(alloc);
-    mark_levels(&states, levels, &mut marks, &mut unread)?;
-    Ok(unread)
 }

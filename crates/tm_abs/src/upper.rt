@@ -1,13 +1,14 @@
 //! The upper part of a set of valid states.
-ghost use Rattle.std.specs.Prelude.{◌≡◌, ◌<◌, All, Bool, IfOk, List, length, map, true};
+ghost use Rattle.std.specs.Prelude.{◌≡◌, ◌<◌, ◌&&◌, All, Bool, IfOk, List, length, map, not, true};
 ghost use Rattle.tm_abs.specs.Inner.Atoms.{AreApart, IsAtom};
 ghost use Rattle.tm_abs.specs.Inner.Marks.{AreListed};
 ghost use Rattle.tm_abs.specs.Inner.Quantified.{IsPutTo, IsQuantified, IsReached};
-ghost use Rattle.tm_abs.specs.Inner.Reading.{ReadsNoneOf};
 ghost use Rattle.tm_abs.specs.Inner.Turns.{AreTurnsOf};
 ghost use Rattle.tm_abs.specs.Tracked.{AreInPool, HasPooled, IsPooled, tracked_of};
 ghost use Rattle.tm_abs.specs.declared.atoms.Atom.{Atom as AtomData};
 ghost use Rattle.tm_dd.specs.Table.{Knows, means};
+ghost use Rattle.tm_ddops.specs.Connective.{xor};
+ghost use Rattle.tm_ddops.specs.Manager.{IsFunction};
 ghost use Rattle.tm_flat_pool.specs.Cells.{IsInUpper};
 ghost use Rattle.tm_game.specs.Game.{Grows, IsSet, IsStates};
 ghost use Rattle.tm_game.specs.Least.{test_of};
@@ -16,7 +17,7 @@ ghost use Rattle.tm_syntax.specs.Design.{DesignTree};
 
 use crate::atoms::Atom;
 use crate::joined::{Joined, join};
-use crate::reading::{levels_read, levels_unread, read_tracked};
+use crate::reading::{levels_read, read_tracked};
 use crate::turns::{Turn, Turns, order_turns};
 use std::alloc::{AllocError, Global};
 use tm_dd::{FALSE, NodeId, TRUE};
@@ -70,18 +71,13 @@ fn reached(
         (length game.old.order) (means game.old.diagrams.table set)) }
 {
     let turns = order_turns(alloc, &joined.gone, &joined.atoms)?;
-    let quantified = quantified(alloc, game, turns, set)?;
+    let quantified = quantified(game, turns, set)?;
     let parts = atom_parts(alloc, &joined.atoms)?;
     game.compose(quantified, &parts)
 }
 
 // Where a set is true, and each atom's level has the atom's value, for some values of the levels that are quantified.
-fn quantified(
-    alloc: Global,
-    game: &mut Game,
-    turns: Turns,
-    set: NodeId,
-) -> Result<NodeId, AllocError>
+fn quantified(game: &mut Game, turns: Turns, set: NodeId) -> Result<NodeId, AllocError>
     requires known { Knows game.old.diagrams.table set }
     requires turns { (gone : List Bool) × (atoms : List AtomData)
         × AreTurnsOf gone atoms turns.unread.items turns.turns.items
@@ -96,13 +92,13 @@ fn quantified(
     let mut waiting = turns.turns;
     let mut left = game.exists(set, &turns.unread)?;
     while let Some(turn) = waiting.pop() {
-        left = take_turn(alloc, game, &turn, left)?;
+        left = take_turn(game, &turn, left)?;
     }
     Ok(left)
 }
 
 // Puts an atom to a set, and quantifies the levels that end with it.
-fn take_turn(alloc: Global, game: &mut Game, turn: &Turn, set: NodeId) -> Result<NodeId, AllocError>
+fn take_turn(game: &mut Game, turn: &Turn, set: NodeId) -> Result<NodeId, AllocError>
     requires level { turn.now.level < game.old.diagrams.table.levels }
     requires set { Knows game.old.diagrams.table set }
     requires holds { Knows game.old.diagrams.table turn.now.holds }
@@ -111,33 +107,23 @@ fn take_turn(alloc: Global, game: &mut Game, turn: &Turn, set: NodeId) -> Result
     ensures taken { IfOk result (IsPutTo game.new.diagrams.table turn.now.level
         (means game.old.diagrams.table turn.now.holds) turn.now.ends.items (means game.old.diagrams.table set)) }
 {
-    let unread = levels_unread(alloc, game, &turn.ends, set)?;
-    let related = related(game, set, turn.level, turn.holds, &unread)?;
+    let related = related(game, set, turn.level, turn.holds)?;
     game.exists(related, &turn.ends)
 }
 
-// Where a set is true and a level has the value of an atom, for some values of levels that the set does not read: these
-// are quantified before the set and the atom are joined, where they are read by few nodes.
-fn related(
-    game: &mut Game,
-    set: NodeId,
-    level: u32,
-    holds: NodeId,
-    unread: &[u32],
-) -> Result<NodeId, AllocError>
+// Where a set is true and a level has the value of an atom.
+fn related(game: &mut Game, set: NodeId, level: u32, holds: NodeId) -> Result<NodeId, AllocError>
     requires level { level < game.old.diagrams.table.levels }
     requires set { Knows game.old.diagrams.table set }
     requires holds { Knows game.old.diagrams.table holds }
-    requires unread { ReadsNoneOf game.old.diagrams.table set unread.now }
 
     ensures grows { Grows game.old game.new }
-    ensures related { IfOk result (IsPutTo game.new.diagrams.table level (means game.old.diagrams.table holds)
-        unread.now (means game.old.diagrams.table set)) }
+    ensures related { IfOk result (λ id. IsFunction game.new.diagrams.table id (λ v.
+        means game.old.diagrams.table set v && not (xor (v level) (means game.old.diagrams.table holds v)))) }
 {
     let bit = game.make(level, FALSE, TRUE)?;
     let differs = game.xor(bit, holds)?;
-    let same = game.exists(differs.complement(), unread)?;
-    game.and(set, same)
+    game.and(set, differs.complement())
 }
 
 // The atoms, to be put back in the places of their levels.

@@ -5,7 +5,6 @@ use Rattle.tm_base.specs.Arithmetic.{bit}
 use Rattle.tm_blast.specs.Bits.{input_values}
 use Rattle.tm_dd.specs.declared.node.NodeId.{NodeId}
 use Rattle.tm_dd.specs.Table.{Table, Knows, means}
-use Rattle.tm_ddops.specs.Quantified.{AgreeElsewhere}
 use Rattle.tm_ddops.specs.Support.{DependsOn}
 use Rattle.tm_flat_pool.specs.Predicates.{Predicate, pool, predicate_holds}
 use Rattle.tm_game.specs.Game.{GameData}
@@ -50,10 +49,6 @@ bit_at k v = v k
 abbrev pub ReadsOnly : Table → NodeId → List ℕ → Type 0
 ReadsOnly s id levels =
     (v w : Assignment) → ((k : ℕ) → Contains levels k → v k ≡ w k) → means s id v ≡ means s id w
-
--- an id means the same whatever values these levels have
-abbrev pub ReadsNoneOf : Table → NodeId → List ℕ → Type 0
-ReadsNoneOf s id levels = (v w : Assignment) → AgreeElsewhere levels v w → means s id w ≡ means s id v
 
 -- levels are those that an id depends on
 pub record AreRead (s : Table) (id : NodeId) (levels : List ℕ) : Type 0 where

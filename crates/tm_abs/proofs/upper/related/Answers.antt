@@ -1,11 +1,12 @@
-use Rattle.std.proofs.Common.{inl, ◌&&◌, subst, arith}
+use Rattle.std.proofs.Common.{inl, not, ◌&&◌, IfOk, subst, arith}
 use Rattle.std.proofs.lemmas.Result.{IfOk-weaker}
 use Rattle.tm_abs.proofs.Turning.{related_then}
-use Rattle.tm_abs.specs.Inner.Quantified.{IsPutTo}
 use Rattle.tm_dd.specs.declared.node.NodeId.{NodeId}
+use Rattle.tm_dd.specs.declared.node.TheConstants.{TRUE}
+use Rattle.tm_dd.specs.NodeId.{complement}
 use Rattle.tm_dd.specs.Table.{means}
+use Rattle.tm_ddops.specs.Connective.{xor}
 use Rattle.tm_ddops.specs.Manager.{IsFunction}
-use Rattle.tm_ddops.specs.Quantified.{IsExists}
 use Rattle.tm_game.proofs.Growing.{grows_then, known_kept}
 use Rattle.tm_abs.proofs.upper.related.Goals as goal
 
@@ -21,51 +22,37 @@ xor-requires c = record {
   g = known_kept c.args.game.now c.make.new.self c.make.ensures.grows c.args.holds c.requires.holds;
 }
 
-pub exists-requires : goal.exists-requires
-exists-requires c = record {
-  known = c.complement.ensures.known c.xor.new.self.diagrams.table c.in_ok-differs.ensures.answer.known;
-}
-
 pub and-requires : goal.and-requires
 and-requires c = record {
-  f = known_kept c.args.game.now c.exists.new.self
-      (grows_then c.args.game.now c.xor.new.self c.exists.new.self
-      (grows_then c.args.game.now c.make.new.self c.xor.new.self c.make.ensures.grows c.xor.ensures.grows)
-      c.exists.ensures.grows) c.args.set c.requires.set;
-  g = c.in_ok-same.ensures.answer.known;
+  f = known_kept c.args.game.now c.xor.new.self
+      (grows_then c.args.game.now c.make.new.self c.xor.new.self c.make.ensures.grows c.xor.ensures.grows) c.args.set
+      c.requires.set;
+  g = c.complement.ensures.known c.xor.new.self.diagrams.table c.in_ok-differs.ensures.answer.known;
 }
 
 pub returns-in_err-differs-clause-grows : goal.returns-in_err-differs-clause-grows
 returns-in_err-differs-clause-grows c =
     grows_then c.args.game.now c.make.new.self c.xor.new.self c.make.ensures.grows c.xor.ensures.grows
 
-pub returns-in_err-same-clause-grows : goal.returns-in_err-same-clause-grows
-returns-in_err-same-clause-grows c =
-    grows_then c.args.game.now c.xor.new.self c.exists.new.self
-    (grows_then c.args.game.now c.make.new.self c.xor.new.self c.make.ensures.grows c.xor.ensures.grows)
-    c.exists.ensures.grows
-
 pub returns-clause-grows : goal.returns-clause-grows
 returns-clause-grows c =
-    grows_then c.args.game.now c.exists.new.self c.and.new.self
-    (grows_then c.args.game.now c.xor.new.self c.exists.new.self
+    grows_then c.args.game.now c.xor.new.self c.and.new.self
     (grows_then c.args.game.now c.make.new.self c.xor.new.self c.make.ensures.grows c.xor.ensures.grows)
-    c.exists.ensures.grows) c.and.ensures.grows
+    c.and.ensures.grows
 
 pub returns-clause-related : goal.returns-clause-related
 returns-clause-related c =
     let r = c.args.game.now.diagrams.table in
     let s = c.make.new.self.diagrams.table in
     let t = c.xor.new.self.diagrams.table in
-    let u = c.exists.new.self.diagrams.table in
-    let x = c.and.new.self.diagrams.table in
-    let unread = c.args.unread.now in
-    let same = c.in_ok-same.same in
-    IfOk-weaker c.and.result (λ id. IsFunction x id (λ v. means x c.args.set v && means x same v))
-    (IsPutTo x c.args.level (means r c.args.holds) unread (means r c.args.set))
-    (λ id is. related_then r s t u x c.make.ensures.grows.diagrams c.xor.ensures.grows.diagrams
-    c.exists.ensures.grows.diagrams c.and.ensures.grows.diagrams c.args.set c.args.level c.args.holds c.in_ok-bit.bit
-    c.in_ok-differs.differs same id unread c.requires.set c.requires.holds c.requires.unread
-    c.in_ok-bit.ensures.answer c.in_ok-differs.ensures.answer
-    (subst (λ (turned : NodeId). IsExists u unread turned same) c.complement.ensures.value
-    c.in_ok-same.ensures.answer) is) c.and.ensures.answer
+    let u = c.and.new.self.diagrams.table in
+    let differs = c.in_ok-differs.differs in
+    IfOk-weaker c.and.result
+    (λ id. IsFunction u id (λ v. means u c.args.set v && means u (complement differs) v))
+    (λ id. IsFunction u id (λ v. means r c.args.set v && not (xor (v c.args.level) (means r c.args.holds v))))
+    (λ id is. related_then r s t u c.make.ensures.grows.diagrams c.xor.ensures.grows.diagrams
+    c.and.ensures.grows.diagrams c.args.set c.args.level c.args.holds c.in_ok-bit.bit differs id c.requires.set
+    c.requires.holds c.in_ok-bit.ensures.answer c.in_ok-differs.ensures.answer is)
+    (subst (λ (turned : NodeId). IfOk c.and.result
+    (λ id. IsFunction u id (λ v. means u c.args.set v && means u turned v))) c.complement.ensures.value
+    c.and.ensures.answer)
