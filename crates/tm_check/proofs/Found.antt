@@ -1,7 +1,8 @@
 -- What is tried is the set of the states at which a part is found to fail.
-use Rattle.std.proofs.Common.{◌≡◌, ℕ, ◌+◌, ◌-◌, ◌<◌, true, ◌&&◌, not, List, [], ◌∷◌, None, Some, length, get_or}
-use Rattle.std.proofs.Common.{sym, ap, ◌∙◌, subst, arith}
+use Rattle.std.proofs.Common.{◌≡◌, ℕ, ◌+◌, ◌-◌, ◌<◌, Bool, true, ◌&&◌, not, List, [], ◌∷◌, None, Some, Vec, length}
+use Rattle.std.proofs.Common.{get_or, sym, ap, ◌∙◌, subst, arith, true≢false}
 use Rattle.std.specs.Prelude.{MatchOption, Option, false, is_some, slice_get}
+use Rattle.std.specs.declared.alloc.Global.{Global}
 use Rattle.std.specs.Option.{option_map_or}
 use Rattle.std.proofs.lemmas.Option.{slice_get-get_or, slice_get_within}
 use Rattle.tm_check.specs.declared.loaded.DriverDiagrams.{DriverDiagrams}
@@ -17,8 +18,11 @@ use Rattle.tm_cir.specs.Answer.{Answers}
 use Rattle.tm_cir.specs.Tree.{BlockTree}
 use Rattle.tm_dd.specs.declared.node.NodeId.{NodeId}
 use Rattle.tm_dd.specs.declared.node.TheConstants.{FALSE}
-use Rattle.tm_dd.specs.Table.{Table, means}
-use Rattle.tm_ddops.specs.Manager.{IsFunction}
+use Rattle.tm_dd.specs.Table.{Table, assignment, means}
+use Rattle.tm_dd.proofs.CallerLaws.{means-FALSE}
+use Rattle.tm_ddops.specs.Least.{IsLeast}
+use Rattle.tm_ddops.specs.Manager.{Diagrams, IsFunction}
+use Rattle.tm_game_bits.specs.AssignedStates.{assignment_of, state_of}
 use Rattle.tm_verdict.specs.Found.{IsFound, NamesStates, RestsOn, within_rank}
 use Rattle.tm_game.specs.Game.{GameData, Grows, IsSet, IsStates}
 use Rattle.tm_game.specs.Least.{HoldsNowhere, test_of}
@@ -134,16 +138,20 @@ module _ (d : DesignTree) (bs : List BlockTree) (c : DriverSets) (told : DriverD
         is.diagrams.region initial_is fn)
 
 -- ---- a ranked region adds a state
--- what was found, and what is known where nothing was
-pub some_found : {X : Type 0} (A : Type 0) (B : X → Type 0) (o : Option X) → MatchOption o A B → is_some o ≡ true →
-    (x : X) × B x
-some_found A B None is there = absurd (cc)
-some_found A B (Some x) is there = (x, is)
+-- values that make a known function true, and what it is where none were found
+pub found_somewhere : (m n : Diagrams) (id : NodeId) → m ≡ n → (o : Option (Vec Bool Global)) →
+    MatchOption o (id ≡ FALSE) (λ values. IsLeast m.table id values.items) → is_some o ≡ true →
+    (v : ℕ → Bool) × (means n.table id v ≡ true)
+found_somewhere m n id same None is there = absurd (cc)
+found_somewhere m n id same (Some values) is there = (
+  assignment values.items,
+  ap (λ (x : Diagrams). means x.table id (assignment values.items)) (sym same) ∙ is.holds,
+)
 
-pub none_found : {X : Type 0} (A : Type 0) (B : X → Type 0) (o : Option X) → MatchOption o A B → is_some o ≡ false →
-    A
-none_found A B None is nowhere = is
-none_found A B (Some x) is nowhere = absurd (cc)
+pub found_nowhere : (m : Diagrams) (id : NodeId) (o : Option (Vec Bool Global)) →
+    MatchOption o (id ≡ FALSE) (λ values. IsLeast m.table id values.items) → is_some o ≡ false → id ≡ FALSE
+found_nowhere m id None is nowhere = is
+found_nowhere m id (Some values) is nowhere = absurd (cc)
 
 module _ (d : DesignTree) (bs : List BlockTree) (c : DriverSets) (told : DriverDiagrams) (g h : GameData)
     (is : IsTold d bs c g told) (grows : Grows g h) (goal : ℕ) (there : goal < length told.goals.items) (index : ℕ)
@@ -162,51 +170,53 @@ module _ (d : DesignTree) (bs : List BlockTree) (c : DriverSets) (told : DriverD
   added : IsStates d h.order h.diagrams.table (λ st. rank (ranked_here d bs c g told is goal there).0 st ≡ 1 + index) id
   added = adding_found d bs c told g h is grows goal there index x at id fn
 
-  pub added_set : IsSet h id
-  added_set =
-      set_is d h later.of later.sized (λ st. rank (ranked_here d bs c g told is goal there).0 st ≡ 1 + index) id added
-
-  pub adds_passes : (s : StateData) → IsIn d (test_of d h id) s →
+  pub adds_passes : (v : ℕ → Bool) → means h.diagrams.table id v ≡ true →
       AreTried d (Answers bs) c (adds_state goal index ∷ []) Accepted
-  adds_passes s here = (
+  adds_passes v here = (
     λ ranked are. (
-      s,
-      here.0,
-      subst (λ (xs : List RankedSet). rank xs s ≡ 1 + index) (sym (same_ranked ranked are))
-          (test_only d h later.of later.sized h.diagrams.table
-          (λ st. rank (ranked_here d bs c g told is goal there).0 st ≡ 1 + index) id added s here.0 here.1),
+      state_of d h.order v,
+      (added.only v here).0,
+      subst (λ (xs : List RankedSet). rank xs (state_of d h.order v) ≡ 1 + index) (sym (same_ranked ranked are))
+          (added.only v here).1,
     ),
     tt,
   )
 
+  adds_none : id ≡ FALSE → HoldsNowhere d (test_of d h id)
+  adds_none empty s here =
+      absurd (true≢false
+      (sym here.1
+      ∙ ap (λ (x : NodeId). means h.diagrams.table x (assignment_of d h.order s)) empty
+      ∙ means-FALSE h.diagrams.table (assignment_of d h.order s)))
+
   -- one that adds none is refused at the first initial state
-  pub adds_refused : (k : GameData) → Grows h k → HoldsNowhere d (test_of d h id) → (initial : NodeId) →
-      IsStates d k.order k.diagrams.table (IsInitial d) initial → (v : Verdict) →
-      IsFirstFailure d k initial 0 goal v → AreTried d (Answers bs) c (adds_state goal index ∷ []) v
-  adds_refused k more nowhere initial initial_is Accepted never =
-      let last = told_kept d h k more bs c told later in
-      let begin = last.begins in
-      let valid = last.regular.initial begin.0 begin.1 in
-      absurd (never begin.0
-      (valid, test_all d k last.of last.sized k.diagrams.table (IsInitial d) initial initial_is begin.0 valid begin.1))
-  adds_refused k more nowhere initial initial_is (Refused number j s) first =
-      let last = told_kept d h k more bs c told later in
+  pub adds_refused : id ≡ FALSE → (initial : NodeId) → IsStates d h.order h.diagrams.table (IsInitial d) initial →
+      (v : Verdict) → IsFirstFailure d h initial 0 goal v →
+      AreTried d (Answers bs) c (adds_state goal index ∷ []) v
+  adds_refused empty initial initial_is Accepted never =
+      let begin = later.begins in
+      let valid = later.regular.initial begin.0 begin.1 in
+      absurd (never begin.0 (
+        valid,
+        test_all d h later.of later.sized h.diagrams.table (IsInitial d) initial initial_is begin.0 valid begin.1,
+      ))
+  adds_refused empty initial initial_is (Refused number j s) first =
       refused_alone (driver_meaning d (Answers bs) c) (adds_state goal index) number j s first.0 first.1 (
         (ranked_here d bs c g told is goal there).0,
         (ranked_here d bs c g told is goal there).1,
-        λ adds. nowhere adds.0 (
+        λ adds. adds_none empty adds.0 (
           adds.1,
           test_all d h later.of later.sized h.diagrams.table
               (λ st. rank (ranked_here d bs c g told is goal there).0 st ≡ 1 + index) id added adds.0 adds.1 adds.2,
         ),
         record {
-          here = test_only d k last.of last.sized k.diagrams.table (IsInitial d) initial initial_is s first.2.here.0
+          here = test_only d h later.of later.sized h.diagrams.table (IsInitial d) initial initial_is s first.2.here.0
               first.2.here.1;
           none_before = λ t begins.
-              let valid = last.regular.initial t begins in
+              let valid = later.regular.initial t begins in
               first.2.none_before t (
                 valid,
-                test_all d k last.of last.sized k.diagrams.table (IsInitial d) initial initial_is t valid begins,
+                test_all d h later.of later.sized h.diagrams.table (IsInitial d) initial initial_is t valid begins,
               );
         },
       )

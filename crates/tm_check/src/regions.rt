@@ -120,8 +120,8 @@ fn adding(
 {
     let rank = ranked_at(told, goal, index);
     let added = without(game, rank.set, rank.before)?;
-    let state = game.least(added)?;
-    if state.is_some() {
+    let found = game.manager().least(added)?;
+    if found.is_some() {
         return Ok(Verdict::Accepted);
     }
     let initial = game.initial();

@@ -213,6 +213,34 @@ impl Manager {
         Ok(answer)
     }
 
+    /// The function that is `g` where `f` is true, and `h` where it is false. It remembers no result, so where none is
+    /// asked for again it takes less than `ite`.
+    pub fn ite_once(&mut self, f: NodeId, g: NodeId, h: NodeId) -> Result<NodeId, AllocError>
+        requires f { Knows self.old.table f }
+        requires g { Knows self.old.table g }
+        requires h { Knows self.old.table h }
+
+        ensures manager { IsManager self.new }
+        ensures extends { Extends self.old.table self.new.table }
+        ensures results { self.new.results ≡ self.old.results }
+        ensures answer { IfOk result (λ id.
+            IsFunction self.new.table id (λ v.
+            if means self.new.table f v then means self.new.table g v else means self.new.table h v)) }
+    {
+        let choice = Choice {
+            test: f,
+            if_true: g,
+            if_false: h,
+        };
+        self.tables.limit(self.alloc);
+        walk(
+            &mut self.store,
+            choice,
+            &mut self.tables.walks.choices,
+            &mut Steps::new(()),
+        )
+    }
+
     // What the changes make of `f`, by a walk. It remembers nothing.
     pub(crate) fn rewrite(&mut self, f: NodeId, changes: Changes) -> Result<NodeId, AllocError>
         requires known { Knows self.old.table f }

@@ -34,7 +34,8 @@ struct NextBit {
 }
 
 /// How many levels of a state are to stand above that of each bit of arguments, and then of each bit of choices: those
-/// down to the last one whose bit has the same weight in a value. Of a bit that no number reads it is all of them.
+/// down to the last one whose bit has the same weight in a value, for a choice in a value of the same width where there
+/// is one. Of a bit that no number reads it is all of them.
 ///
 /// `order` has the place of the bit of each level of a state. Bits that are copied or compared stand side by side so;
 /// else diagrams of a value double with each of its bits.
@@ -53,10 +54,17 @@ pub fn levels_above(
         .saturating_sub(1);
     let choices = readings(alloc, terms, numbers)?;
     let arguments = readings(alloc, terms, numbers.saturating_add(ROOM))?;
-    let depths = depths(alloc, &flat.widths, values, order)?;
+    let places = readings_by_place(alloc, &flat.widths, values)?;
+    let depths = depths(alloc, &places, order)?;
     let mut above = Vec::new(alloc);
     push_depths(&mut above, &arguments, &depths, states)?;
-    push_depths(&mut above, &choices, &depths, states)?;
+    for choice in &choices {
+        let depth = match depth_in_width(&places, order, *choice) {
+            Some(depth) => depth,
+            None => depth_of(*choice, &depths, states),
+        };
+        above.push(depth)?;
+    }
     Ok(above)
 }
 
@@ -181,19 +189,13 @@ fn known_term(terms: &Terms, id: TermId) -> Option<Term> {
 }
 
 // How deep the last level stands whose bit has each weight in a value, 0 where there is none.
-fn depths(
-    alloc: Global,
-    widths: &[u8],
-    values: usize,
-    order: &[u32],
-) -> Result<Vec<u32>, AllocError>
+fn depths(alloc: Global, places: &[Reading], order: &[u32]) -> Result<Vec<u32>, AllocError>
     requires { length order.now < 2 ^ 32 }
 {
-    let weights = weights_by_place(alloc, widths, values)?;
     let mut depths = vec![in alloc; 0; WEIGHTS]?;
     for (level, place) in order.iter().enumerate() {
-        if let Some(weight) = weights.get(*place as usize) {
-            if let Some(depth) = depths.get_mut(*weight as usize) {
+        if let Some(value) = places.get(*place as usize) {
+            if let Some(depth) = depths.get_mut(value.weight as usize) {
                 *depth = level as u32 + 1;
             }
         }
@@ -201,13 +203,35 @@ fn depths(
     Ok(depths)
 }
 
-// The weight of the bit of each place of the first numbers, as many as are values.
-fn weights_by_place(alloc: Global, widths: &[u8], values: usize) -> Result<Vec<u8>, AllocError> {
-    let mut weights = Vec::new(alloc);
-    for width in widths.iter().take(values) {
-        for passed in 0..*width {
-            weights.push(*width - 1 - passed)?;
+// How deep the last level stands whose bit is read of a value as a bit is.
+fn depth_in_width(places: &[Reading], order: &[u32], bit: Reading) -> Option<u32>
+    requires { length order.now < 2 ^ 32 }
+{
+    let mut found = None;
+    for (level, place) in order.iter().enumerate() {
+        if let Some(value) = places.get(*place as usize) {
+            if value.width == bit.width && value.weight == bit.weight {
+                found = Some(level as u32 + 1);
+            }
         }
     }
-    Ok(weights)
+    found
+}
+
+// How the bit of each place is read of its value, for the first numbers, as many as are values.
+fn readings_by_place(
+    alloc: Global,
+    widths: &[u8],
+    values: usize,
+) -> Result<Vec<Reading>, AllocError> {
+    let mut places = Vec::new(alloc);
+    for width in widths.iter().take(values) {
+        for passed in 0..*width {
+            places.push(Reading {
+                width: *width,
+                weight: *width - 1 - passed,
+            })?;
+        }
+    }
+    Ok(places)
 }

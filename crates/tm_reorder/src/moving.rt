@@ -11,7 +11,7 @@ use tm_dd::{FALSE, NodeId, TRUE};
 use tm_ddops::Manager;
 
 // The diagrams of all ids of a certificate, in order: of 0 and 1, and of the entries, where `bits` has the diagram of
-// each place's bit. Each entry is made once, by one `ite` over its children.
+// each place's bit. Each entry is made once, by one `ite_once` over its children.
 pub(crate) fn load_moved(
     alloc: Global,
     dd: &mut Manager,
@@ -31,7 +31,7 @@ pub(crate) fn load_moved(
     ids.push(TRUE)?;
     for entry in nodes {
         let bit = moved_bit(order, bits, entry.level);
-        let id = dd.ite(bit, ids[entry.hi as usize], ids[entry.lo as usize])?;
+        let id = dd.ite_once(bit, ids[entry.hi as usize], ids[entry.lo as usize])?;
         ids.push(id)?;
     }
     Ok(ids)

@@ -45,13 +45,13 @@ index-requires-in-loop-entry c =
     c.loop-entry.dd.table c.loop-entry.ids.items c.loop-entry.invariant.first in
     omega arith
 
-pub ite-requires-clause-f : goal.ite-requires-clause-f
-ite-requires-clause-f c =
+pub ite_once-requires-clause-f : goal.ite_once-requires-clause-f
+ite_once-requires-clause-f c =
     bit_known c.args.dd.now.table c.loop-entry.dd.table c.args.bits.now _ c.moved_bit-bit.result
     c.loop-entry.invariant.extends c.requires.bits c.moved_bit-bit.ensures
 
-pub ite-requires-clause-g : goal.ite-requires-clause-g
-ite-requires-clause-g c =
+pub ite_once-requires-clause-g : goal.ite_once-requires-clause-g
+ite_once-requires-clause-g c =
     let see = seen c.args.dd.now.table c.args.order.now c.args.bits.now in
     let at = slice_get-get_or c.args.nodes.now c.loop-entry.entry-index (record { level = 0; lo = 0; hi = 0 })
     c.loop-entry-test.true in
@@ -60,8 +60,8 @@ ite-requires-clause-g c =
     (hi_read see c.args.nodes.now (length c.args.order.now) c.requires.nodes c.loop-entry.entry-index _ at
     c.loop-entry.dd.table c.loop-entry.ids.items c.loop-entry.invariant.first c.index.result.now c.index.ensures)
 
-pub ite-requires-clause-h : goal.ite-requires-clause-h
-ite-requires-clause-h c =
+pub ite_once-requires-clause-h : goal.ite_once-requires-clause-h
+ite_once-requires-clause-h c =
     let see = seen c.args.dd.now.table c.args.order.now c.args.bits.now in
     let at = slice_get-get_or c.args.nodes.now c.loop-entry.entry-index (record { level = 0; lo = 0; hi = 0 })
     c.loop-entry-test.true in
@@ -73,13 +73,13 @@ ite-requires-clause-h c =
 
 pub returns-in_err-id-clause-extends : goal.returns-in_err-id-clause-extends
 returns-in_err-id-clause-extends c =
-    Extends-trans c.args.dd.now.table c.loop-entry.dd.table c.ite.new.self.table c.loop-entry.invariant.extends
-    c.ite.ensures.grows.extends
+    Extends-trans c.args.dd.now.table c.loop-entry.dd.table c.ite_once.new.self.table c.loop-entry.invariant.extends
+    c.ite_once.ensures.extends
 
 pub returns-in_err-push-3-clause-extends : goal.returns-in_err-push-3-clause-extends
 returns-in_err-push-3-clause-extends c =
-    Extends-trans c.args.dd.now.table c.loop-entry.dd.table c.ite.new.self.table c.loop-entry.invariant.extends
-    c.ite.ensures.grows.extends
+    Extends-trans c.args.dd.now.table c.loop-entry.dd.table c.ite_once.new.self.table c.loop-entry.invariant.extends
+    c.ite_once.ensures.extends
 
 pub loop-entry-preserved : goal.loop-entry-preserved
 loop-entry-preserved c =
@@ -87,12 +87,12 @@ loop-entry-preserved c =
     let at = slice_get-get_or c.args.nodes.now c.loop-entry.entry-index (record { level = 0; lo = 0; hi = 0 })
     c.loop-entry-test.true in
     record {
-      extends = Extends-trans c.args.dd.now.table c.loop-entry.dd.table c.ite.new.self.table
-          c.loop-entry.invariant.extends c.ite.ensures.grows.extends;
+      extends = Extends-trans c.args.dd.now.table c.loop-entry.dd.table c.ite_once.new.self.table
+          c.loop-entry.invariant.extends c.ite_once.ensures.extends;
       first = one_more see c.args.nodes.now (length c.args.order.now) c.requires.nodes c.loop-entry.entry-index _ at
-          c.loop-entry.dd.table c.loop-entry.ids.items c.loop-entry.invariant.first c.ite.new.self.table
+          c.loop-entry.dd.table c.loop-entry.ids.items c.loop-entry.invariant.first c.ite_once.new.self.table
           c.moved_bit-bit.result c.index-in-loop-entry.result.now c.index.result.now c.in_ok-id.id
-          c.push-in-loop-entry.new.self.items c.ite.ensures.grows.extends
+          c.push-in-loop-entry.new.self.items c.ite_once.ensures.extends
           (lo_read see c.args.nodes.now (length c.args.order.now) c.requires.nodes c.loop-entry.entry-index _ at
           c.loop-entry.dd.table c.loop-entry.ids.items c.loop-entry.invariant.first c.index-in-loop-entry.result.now
           c.index-in-loop-entry.ensures)
