@@ -37,7 +37,7 @@ ranked_at g h ids zs zm j y items same_game same_z is =
 
 module _ (g : Game) (mono : IsMonotone g) (z : StateSet) (j : ℕ) where
   -- what waits over a set that reaches the goal reaches it
-  some_reaches : (y : StateSet) → ((s : StateData) → IsAmong s g.states → y s ≡ true → InReach g z j s) →
+  pub some_reaches : (y : StateSet) → ((s : StateData) → IsAmong s g.states → y s ≡ true → InReach g z j s) →
       (s : StateData) → IsAmong s g.states → InSome g z y j s → InReach g z j s
   some_reaches y below s among some = record {
     every = λ f closed.
