@@ -10,11 +10,13 @@ use Rattle.tm_sem.specs.Forcing.{Forced}
 use Rattle.tm_sem.specs.Certificates.{Level, IsIn, IsNew, nowhere, level_before, last_level, either, set_before, E1, MeetsEnvironment}
 use Rattle.tm_solve.specs.Sets.{StateSet, outside, IsAmong, IsWithin}
 use Rattle.tm_solve.specs.Game.{Game}
+use Rattle.tm_solve.specs.Narrowed.{narrowed}
 use Rattle.tm_solve.specs.Levels.{AreLinks, last_link, ChainFits, IsLevel, AreLevels, last_of_levels, LevelsFit}
 use Rattle.tm_solve.specs.Operator.{Operator}
 use Rattle.tm_solve.specs.Exact.{IsGameOf, MeetsLevels, LeavesOut}
 use Rattle.tm_solve.proofs.Items.{get_below, get_some, some_same}
-use Rattle.tm_solve.proofs.Sets.{within_here, within_then}
+use Rattle.tm_solve.proofs.Joins.{and_both}
+use Rattle.tm_solve.proofs.Sets.{within_here, within_then, not_true}
 use Rattle.tm_solve.proofs.Operators.{forced_more, Fails, part_fails}
 
 -- the level before one of a list that begins behind this one
@@ -179,15 +181,15 @@ module _ {d : DesignTree} {op : Operator} {g : Game} (region : StateSet) (levels
       let c : ChainFits g (level_before levels k) l i chain = is.chains i chain got_chain in
       let listed : IsAmong s g.states = exact.all s new.0.0 in
       let of : PlaceOf nowhere chain s = place_of nowhere chain s refl (c.ends s listed new.1 new.0.1) in
-      let link = link_at g (outside (level_before levels k)) (outside l.set) l.goal i nowhere chain c.links
-      (place chain s)
-      of.set of.found in
+      let link = link_at (narrowed g (outside (level_before levels k))) (outside (level_before levels k)) (outside l.set)
+      l.goal i nowhere chain c.links (place chain s) of.set of.found in
       let less = get_below l.chains i chain got_chain in
       let many = is.count in
       let below : i < g.fairs = omega arith in
       let no : g.part (outside (level_before levels k)) (outside l.set)
       (outside (before_link nowhere chain (place chain s))) l.goal i s ≡ false =
-      not_true_false _ (of.set s) (link.leads.within s listed) of.inside in
+      not_true_false _ (of.set s) (λ made. link.leads.within s listed (and_both _ (not (level_before levels k s)) made
+      (not_true (level_before levels k s) new.1))) of.inside in
       record {
         fails = subst (λ (a : StateSet). Fails d (level_before levels k) l.set a l.goal i s)
             (set_before_is chain (place chain s))
@@ -223,11 +225,12 @@ module _ {d : DesignTree} {op : Operator} {g : Game} (region : StateSet) (levels
               let c : ChainFits g (level_before levels k) l i chain = is.chains i chain got_chain in (
                 c.some,
                 λ x set got_set.
-                    let link = link_at g (outside (level_before levels k)) (outside l.set) l.goal i nowhere chain
-                    c.links x set got_set in
+                    let link = link_at (narrowed g (outside (level_before levels k))) (outside (level_before levels k))
+                    (outside l.set) l.goal i nowhere chain c.links x set got_set in
                     let w : IsWithin g.states set l.set =
-                    within_then (set_within g (outside (level_before levels k)) (outside l.set) l.goal
-                    i nowhere chain c.links x set got_set) c.inside in
+                    within_then (set_within (narrowed g (outside (level_before levels k)))
+                    (outside (level_before levels k)) (outside l.set) l.goal i nowhere chain c.links x set got_set)
+                    c.inside in
                     let grows : IsWithin g.states (set_before chain x) set =
                     subst (λ (a : StateSet). IsWithin g.states a set)
                     (set_before_is chain x) link.grows in (

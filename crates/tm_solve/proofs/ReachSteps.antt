@@ -9,6 +9,7 @@ use Rattle.tm_solve.specs.declared.turns.Turned.{Turned}
 use Rattle.tm_solve.specs.declared.goals.Reached.{Reached}
 use Rattle.tm_solve.specs.Sets.{StateSet, outside, IsAmong, IsWithin, IsSame, Gains, count}
 use Rattle.tm_solve.specs.Game.{Game, IsMonotone, IsAbsorbing}
+use Rattle.tm_solve.specs.Narrowed.{narrowed}
 use Rattle.tm_solve.specs.Ids.{Ids, IsExact, Extends}
 use Rattle.tm_solve.specs.Fixpoints.{InStay, InSome, InReach, Holds}
 use Rattle.tm_solve.specs.Levels.{last_link}
@@ -23,17 +24,17 @@ use Rattle.tm_solve.proofs.Fixed.{stay_rises, some_rises, stay_of}
 
 -- what a turn answers, said of the game and the sets of the start
 pub turned_at : (g h : Game) (ids : Ids) (zs zm y : StateSet) (j : ℕ) (t : Turned) → h ≡ g → zm ≡ zs →
-    IsTurned h ids zm y j t → IsTurned g ids zs y j t
+    IsTurned (narrowed h zm) ids zm y j t → IsTurned (narrowed g zs) ids zs y j t
 turned_at g h ids zs zm y j t same_game same_z is =
-    subst (λ (q : Game). IsTurned q ids zs y j t) same_game
-    (subst (λ (v : StateSet). IsTurned h ids v y j t) same_z is)
+    subst (λ (q : Game). IsTurned (narrowed q zs) ids zs y j t) same_game
+    (subst (λ (v : StateSet). IsTurned (narrowed h v) ids v y j t) same_z is)
 
 pub ranked_at : (g h : Game) (ids : Ids) (zs zm : StateSet) (j : ℕ) (y : NodeId) (items : List RankSet) → h ≡ g →
     zm ≡ zs →
-    IsRanked h ids zm j y items → IsRanked g ids zs j y items
+    IsRanked (narrowed h zm) ids zm j y items → IsRanked (narrowed g zs) ids zs j y items
 ranked_at g h ids zs zm j y items same_game same_z is =
-    subst (λ (q : Game). IsRanked q ids zs j y items) same_game
-    (subst (λ (v : StateSet). IsRanked h ids v j y items) same_z is)
+    subst (λ (q : Game). IsRanked (narrowed q zs) ids zs j y items) same_game
+    (subst (λ (v : StateSet). IsRanked (narrowed h v) ids v j y items) same_z is)
 
 module _ (g : Game) (mono : IsMonotone g) (z : StateSet) (j : ℕ) where
   -- what waits over a set that reaches the goal reaches it
