@@ -53,12 +53,16 @@ met_is g b c zs p z made next same_z is met = record {
 pub reach_of_narrowed : (g : Game) (w z : StateSet) (j : ℕ) (s : StateData) → InReach (narrowed g w) z j s →
     InReach g z j s
 reach_of_narrowed g w z j s reach = record {
-  every = λ f closed. reach.every f (λ t among some. closed t among (some.0, some.1, record {
-    set = some.2.set;
-    holds = λ u u_in here.
-        and_left (g.part z f some.2.set j some.0 u) (w u) (some.2.holds u u_in here);
-    here = some.2.here;
-  }));
+  every = λ f closed. reach.every f (λ t among some. closed t among (
+    some.0,
+    some.1,
+    record {
+      set = some.2.set;
+      holds = λ u u_in here.
+          and_left (g.part z f some.2.set j some.0 u) (w u) (some.2.holds u u_in here);
+      here = some.2.here;
+    },
+  ));
 }
 
 pub reach_within : (g : Game) (z : StateSet) (j : ℕ) (s : StateData) → InReach (narrowed g z) z j s → z s ≡ true
@@ -133,14 +137,18 @@ module _ (g : Game) (mono : IsMonotone g) (absorb : IsAbsorbing g) (r : StateSet
     -- so it waits there too
     some_narrowed : (y : StateSet) → ((s : StateData) → IsAmong s g.states → y s ≡ true → InReach g r j s) →
         (s : StateData) → InSome g r y j s → InSome (narrowed g z) z y j s
-    some_narrowed y low s (i, less, stay) = (i, less, record {
-      set = stay.set;
-      holds = λ t in_n here. and_both (g.part z y stay.set j i t) (z t)
-          ((mono.rises r z y y stay.set stay.set j i all_within (within_here _ _) (within_here _ _)).within t in_n
-          (stay.holds t in_n here))
-          ((waits_within y low i less stay.set (record { within = stay.holds })).within t in_n here);
-      here = stay.here;
-    })
+    some_narrowed y low s (i, less, stay) = (
+      i,
+      less,
+      record {
+        set = stay.set;
+        holds = λ t in_n here. and_both (g.part z y stay.set j i t) (z t)
+            ((mono.rises r z y y stay.set stay.set j i all_within (within_here _ _) (within_here _ _)).within t in_n
+            (stay.holds t in_n here))
+            ((waits_within y low i less stay.set (record { within = stay.holds })).within t in_n here);
+        here = stay.here;
+      },
+    )
 
     module _ (f : StateSet)
         (closed : (t : StateData) → IsAmong t g.states → InSome (narrowed g z) z f j t → f t ≡ true)

@@ -5,15 +5,13 @@ use Rattle.tm_sem.specs.State.{StateData}
 use Rattle.tm_sem.specs.Certificates.{nowhere}
 use Rattle.tm_solve.specs.Sets.{StateSet, outside, everywhere, IsWithin, IsSame, count}
 use Rattle.tm_solve.specs.Game.{Game, IsMonotone}
-use Rattle.tm_solve.specs.Narrowed.{narrowed}
 use Rattle.tm_solve.specs.Ids.{Ids, Is, IsExact, Extends}
 use Rattle.tm_solve.specs.Fixpoints.{InStay, Holds}
 use Rattle.tm_solve.specs.Levels.{AreLinks, last_link}
 use Rattle.tm_solve.specs.Iterates.{Each}
 use Rattle.tm_solve.specs.declared.conditions.Waited.{Waited}
 use Rattle.tm_solve.specs.Inner.Waits.{IsWaited, WaitsSoFar}
-use Rattle.tm_solve.proofs.Joins.{and_right}
-use Rattle.tm_solve.proofs.Sets.{not_not, within_here, within_then, same_back, same_then, same_within, outside_within, outside_same, outside_twice, count_gains}
+use Rattle.tm_solve.proofs.Sets.{within_here, within_then, same_back, same_then, same_within, outside_within, outside_same, outside_twice, count_gains}
 use Rattle.tm_solve.proofs.Following.{other_gains, is_kept}
 use Rattle.tm_solve.proofs.Items.{map_more, each_more, each_kept, map_kept}
 use Rattle.tm_solve.proofs.Fixed.{stay_of}
@@ -44,34 +42,6 @@ pub removed_is : {n : List StateData} {b c : Ids} (whole next removed : NodeId) 
     Is n c removed (λ s. b.means whole s && not (b.means next s)) → IsSame n (c.means removed) (outside (b.means next))
 removed_is {b = b} whole next removed all is =
     record { same = λ s among. is.means.same s among ∙ ap (λ v. v && not (b.means next s)) (all.means.same s among) }
-
--- at the start Z is the iterate, and what is outside Z the chain
-pub wait_begins : (g : Game) (c : Ids) (zs y : StateSet) (j i : ℕ) (z outer : NodeId) (items : List NodeId) →
-    c.knows z → c.means z ≡ zs → c.knows outer → IsSame g.states (c.means outer) (outside zs) →
-    items ≡ outer ∷ [] → WaitsSoFar (narrowed g zs) c zs y j i z items
-wait_begins g c zs y j i z outer items known same_z outer_known out items_are =
-    subst (λ (l : List NodeId). WaitsSoFar (narrowed g zs) c zs y j i z l) (sym items_are) (record {
-      known = known;
-      above = λ s among stay. subst (λ (m : StateSet). m s ≡ true) (sym same_z)
-          (and_right (g.part zs y stay.set j i s) (zs s) (stay.holds s among stay.here));
-      falls = record {
-        within = λ s among here. subst (λ (m : StateSet). m s ≡ true) (sym same_z)
-            (and_right (g.part zs y (c.means z) j i s) (zs s) here);
-      };
-      chain_known = (outer_known, tt);
-      links = (
-        (
-          record { within = λ s among here. cc },
-          record {
-            within = λ s among here. ap not (out.same s among) ∙ not_not (zs s)
-                ∙ and_right (g.part zs y (outside nowhere) j i s) (zs s) here;
-          },
-        ),
-        tt,
-      );
-      ends = subst (λ (m : StateSet). IsSame g.states (outside (c.means outer)) m) (sym same_z)
-          (same_then (outside_same out) (outside_twice _ zs));
-    })
 
 module _ (g : Game) (mono : IsMonotone g) (z y : StateSet) (j i : ℕ) where
   -- one more iterate, and what it leaves out
