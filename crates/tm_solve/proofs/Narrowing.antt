@@ -1,10 +1,10 @@
 -- The game of which a set of states alone is looked at has the laws of the game, and where the set holds the region no
 -- state of it is lost.
-use Rattle.std.proofs.Common.{◌≡◌, ◌⊎◌, inl, inr, ℕ, zero, suc, ◌+◌, ◌<◌, Bool, true, false, ◌&&◌, ◌||◌, List, [], ◌∷◌, length, refl, sym, ap, ◌∙◌, arith}
+use Rattle.std.proofs.Common.{◌≡◌, ◌⊎◌, inl, inr, ℕ, zero, suc, ◌+◌, ◌<◌, Bool, true, false, ◌&&◌, ◌||◌, List, [], ◌∷◌, length, refl, sym, ap, ◌∙◌, subst, arith}
 use Rattle.tm_dd.specs.declared.node.NodeId.{NodeId}
 use Rattle.tm_sem.specs.State.{StateData}
 use Rattle.tm_sem.specs.Certificates.{RankedSet, nowhere}
-use Rattle.tm_solve.specs.Sets.{StateSet, IsAmong, IsWithin, Gains, count}
+use Rattle.tm_solve.specs.Sets.{StateSet, IsAmong, IsWithin, common, count}
 use Rattle.tm_solve.specs.Game.{Game, IsMonotone, IsAbsorbing}
 use Rattle.tm_solve.specs.Narrowed.{narrowed}
 use Rattle.tm_solve.specs.Ids.{Ids, Is}
@@ -38,16 +38,20 @@ narrowed_absorbing g w absorb = record {
   };
 }
 
--- what the operator makes, met with a set
-pub met_is : (g : Game) (b c : Ids) (zs p : StateSet) (z made next : NodeId) → b.means z ≡ zs → Is g.states b made p →
-    Is g.states c next (λ s. b.means made s && b.means z s) → Is g.states c next (λ s. p s && zs s)
-met_is g b c zs p z made next same_z is met = record {
-  known = met.known;
-  means = record {
-    same = λ s among. met.means.same s among ∙ ap (λ (v : Bool). v && b.means z s) (is.means.same s among)
-        ∙ ap (λ (m : StateSet). p s && m s) same_z;
-  };
-}
+-- what the operator makes, met with a set, said of the game and the set of the start
+pub met_at : (g h : Game) (b c : Ids) (zs made_set : StateSet) (z made next : NodeId) → h ≡ g → b.means z ≡ zs →
+    Is g.states b made made_set → Is h.states c next (λ s. b.means made s && b.means z s) →
+    Is g.states c next (common made_set zs)
+met_at g h b c zs made_set z made next same_game same_z is met =
+    let here : Is g.states c next (λ s. b.means made s && b.means z s) =
+    subst (λ (q : Game). Is q.states c next (λ s. b.means made s && b.means z s)) same_game met in
+    record {
+      known = here.known;
+      means = record {
+        same = λ s among. here.means.same s among ∙ ap (λ (v : Bool). v && b.means z s) (is.means.same s among)
+            ∙ ap (λ (m : StateSet). made_set s && m s) same_z;
+      };
+    }
 
 -- what reaches a goal there reaches it in the game, and lies in the set
 pub reach_of_narrowed : (g : Game) (w z : StateSet) (j : ℕ) (s : StateData) → InReach (narrowed g w) z j s →

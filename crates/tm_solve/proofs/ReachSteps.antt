@@ -7,7 +7,7 @@ use Rattle.tm_solve.specs.declared.iterates.RankSet.{RankSet}
 use Rattle.tm_solve.specs.declared.iterates.Chain.{Chain}
 use Rattle.tm_solve.specs.declared.turns.Turned.{Turned}
 use Rattle.tm_solve.specs.declared.goals.Reached.{Reached}
-use Rattle.tm_solve.specs.Sets.{StateSet, outside, IsAmong, IsWithin, IsSame, Gains, count}
+use Rattle.tm_solve.specs.Sets.{StateSet, outside, common, IsAmong, IsWithin, IsSame, Gains, count}
 use Rattle.tm_solve.specs.Game.{Game, IsMonotone, IsAbsorbing}
 use Rattle.tm_solve.specs.Narrowed.{narrowed}
 use Rattle.tm_solve.specs.Ids.{Ids, IsExact, Extends}
@@ -135,6 +135,6 @@ module _ (g : Game) (mono : IsMonotone g) (z : StateSet) (j : ℕ) where
             let below_fairs : i < g.fairs = omega (arith, turned.chains.many) in
             record {
               links = chain.links;
-              ends = chain_ends (a.means y) (outside (last_link nowhere sets)) i far.below closed below_fairs
+              ends = chain_ends (a.means y) (common (outside (last_link nowhere sets)) z) i far.below closed below_fairs
                   chain.stays;
             }

@@ -8,7 +8,7 @@ use Rattle.tm_solve.specs.declared.iterates.LevelSet.{LevelSet}
 use Rattle.tm_solve.specs.declared.iterates.Ranking.{Ranking}
 use Rattle.tm_solve.specs.declared.goals.Reached.{Reached}
 use Rattle.tm_solve.specs.declared.rounds.Remaining.{Remaining}
-use Rattle.tm_solve.specs.Sets.{StateSet, outside, everywhere, IsAmong, IsWithin, IsSame, Gains}
+use Rattle.tm_solve.specs.Sets.{StateSet, outside, common, everywhere, IsAmong, IsWithin, IsSame, Gains}
 use Rattle.tm_solve.specs.Game.{Game, IsMonotone}
 use Rattle.tm_solve.specs.Narrowed.{narrowed}
 use Rattle.tm_solve.specs.Ids.{Ids, Is, IsExact, Extends}
@@ -107,14 +107,21 @@ links_lower g mono z z' y y' j i before (c ∷ cs) v w links = (
   (
     links.0.0,
     record {
-      within = λ s among here. links.0.1.within s among (and_both (g.part z y (outside before) j i s) (z s)
-          ((mono.rises z' z y' y (outside before) (outside before) j i v w (within_here _ _)).within s among
-          (and_left (g.part z' y' (outside before) j i s) (z' s) here))
-          (v.within s among (and_right (g.part z' y' (outside before) j i s) (z' s) here)));
+      within = λ s among here. links.0.1.within s among (and_both (g.part z y (common (outside before) z) j i s) (z s)
+          ((mono.rises z' z y' y (common (outside before) z') (common (outside before) z) j i v w
+          (common_within before)).within s among
+          (and_left (g.part z' y' (common (outside before) z') j i s) (z' s) here))
+          (v.within s among (and_right (g.part z' y' (common (outside before) z') j i s) (z' s) here)));
     },
   ),
   links_lower g mono z z' y y' j i c cs v w links.1,
 )
+  where
+    common_within : (a : StateSet) → IsWithin g.states (common (outside a) z') (common (outside a) z)
+    common_within a = record {
+      within = λ s among here. and_both (outside a s) (z s) (and_left (outside a s) (z' s) here)
+          (v.within s among (and_right (outside a s) (z' s) here));
+    }
 
 some_link : (cs : List StateSet) (s : StateData) → last_link nowhere cs s ≡ true → 0 < length cs
 some_link [] s e = cc
@@ -141,27 +148,32 @@ module _ (g : Game) (mono : IsMonotone g) (z : StateSet) (j : ℕ) where
       within_then (same_within (same_then (outside_same same_before) (outside_twice _ _))) in_z in
       let y_in : IsWithin g.states (outside l.set) y =
       within_then (same_within (same_then (outside_same same_left) (outside_twice _ _))) in_y in
+      let in_last : IsWithin g.states left (outside (last_link nowhere chain)) = record {
+        within = λ s among here. and_left (outside (last_link nowhere chain) s) (z s)
+            (out.ends.same s among ∙ in_y.within s among here);
+      } in
       let ends : (s : StateData) → IsAmong s g.states → before s ≡ false → l.set s ≡ true →
       last_link nowhere chain s ≡ true = λ s among old new.
-      holds (last_link nowhere chain s) (out.ends.same s among ∙ gone s among
-      (held (region s) (sym (same_before.same s among) ∙ old)) (not_false _ (sym (same_left.same s among) ∙ new))) in
+      let here : region s ≡ true = held (region s) (sym (same_before.same s among) ∙ old) in
+      lost (last_link nowhere chain s) (z s) (out.ends.same s among ∙ gone s among here
+      (not_false _ (sym (same_left.same s among) ∙ new))) (in_z.within s among here) in
       record {
         some = some_link chain gains.state (ends gains.state gains.listed gains.without_it gains.with_it);
         links = subst (λ (n : ℕ). AreLinks (narrowed g (outside before)) (outside before) (outside l.set) n i nowhere
             chain) (sym goal)
             (links_lower g mono z (outside before) y (outside l.set) j i nowhere chain z_in y_in out.links);
         inside = within_then (same_within (same_back (outside_twice _ _)))
-            (within_then (outside_within (within_then in_y (same_within (same_back out.ends))))
-            (same_within (same_back same_left)));
+            (within_then (outside_within in_last) (same_within (same_back same_left)));
         ends = ends;
       }
     where
-      holds : (b : Bool) → not b ≡ false → b ≡ true
-      holds true e = refl
-      holds false e = sym e
+      lost : (b q : Bool) → (not b && q) ≡ false → q ≡ true → b ≡ true
+      lost true q e here = refl
+      lost false q e here = sym e ∙ here
 
       held : (b : Bool) → not b ≡ false → b ≡ true
-      held = holds
+      held true e = refl
+      held false e = sym e
 
   -- the levels stay where a goal loses no state, and else there is one more
   pub level_added : {a b c : Ids} (region left : NodeId) (r : Reached) (old new : List LevelSet) → j < g.goals →

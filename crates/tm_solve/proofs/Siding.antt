@@ -1,7 +1,7 @@
 -- Ranked sets of a lower operator are ranked sets of a higher one, and levels of a higher one those of a lower one.
 use Rattle.std.proofs.Common.{ℕ, List, [], ◌∷◌}
 use Rattle.tm_sem.specs.Certificates.{RankedSet, DriverSets, Level, nowhere}
-use Rattle.tm_solve.specs.Sets.{StateSet, outside}
+use Rattle.tm_solve.specs.Sets.{StateSet, outside, common}
 use Rattle.tm_solve.specs.Game.{Game}
 use Rattle.tm_solve.specs.Ranks.{AreRanks, RanksFit}
 use Rattle.tm_solve.specs.Levels.{AreLinks, AreLevels, LevelsFit}
@@ -39,9 +39,10 @@ module _ (g : Game) (part : StateSet → StateSet → StateSet → ℕ → ℕ �
     (
       links.0.0,
       record {
-        within = λ s among here. links.0.1.within s among (and_both (g.part z y (outside before) j i s) (z s)
-            (below.below z y (outside before) j i s among (and_left (part z y (outside before) j i s) (z s) here))
-            (and_right (part z y (outside before) j i s) (z s) here));
+        within = λ s among here. links.0.1.within s among (and_both (g.part z y (common (outside before) z) j i s) (z s)
+            (below.below z y (common (outside before) z) j i s among
+            (and_left (part z y (common (outside before) z) j i s) (z s) here))
+            (and_right (part z y (common (outside before) z) j i s) (z s) here));
       },
     ),
     links_fall below z y j i c cs links.1,

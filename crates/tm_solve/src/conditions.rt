@@ -36,8 +36,6 @@ pub(crate) fn wait<P: Pre>(
 {
     let whole = pre.whole();
     let mut sets = Vec::new(alloc);
-    let outer = pre.without(whole, z)?;
-    sets.push(outer)?;
     let mut x = z;
     'iterates: loop {
         let made = pre.part(z, y, x, goal, fair)?;

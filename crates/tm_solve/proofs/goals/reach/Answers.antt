@@ -19,9 +19,9 @@ returns-then-same-clause-reached g c =
     c.args.goal c.in_ok-turned.turned.set c.take_turn.new.ranks.items inv.follows.game same_z
     c.in_ok-turned.ensures.ranked in
     reach_ends (narrowed game z) mono _ c.args.goal
-    (narrowed_absorbing game z (g.met.P.Pre.absorbing c.args.pre.now)) c.turns.y c.in_ok-turned.turned c.take_turn.new.ranks.items _ inv.reach t
-    ranked
-    c.take_turn.ensures.follows.extends (told_same c.if-same.ensures) refl refl refl
+    (narrowed_absorbing game z (g.met.P.Pre.absorbing c.args.pre.now)) c.turns.y c.in_ok-turned.turned
+    c.take_turn.new.ranks.items _ inv.reach t ranked c.take_turn.ensures.follows.extends
+    (told_same c.if-same.ensures) refl refl refl
 
 pub turns-smaller : goal.turns-smaller
 turns-smaller g c =

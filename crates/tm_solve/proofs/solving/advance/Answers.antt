@@ -24,5 +24,5 @@ returns-clause-ends g c = λ same.
 pub returns-clause-falls : goal.returns-clause-falls
 returns-clause-falls g c = λ differ.
     begun_falls (g.P.Pre.game c.args.pre.now) (g.P.Pre.ids c.args.pre.now) c.args.begun c.requires.begun
-    (g.P.Pre.ids c.play_round.new.pre) c.in_ok-remaining.remaining c.in_ok-remaining.ensures.remaining c.play_round.ensures.follows.extends c.play_round.ensures.follows.exact
-    differ
+    (g.P.Pre.ids c.play_round.new.pre) c.in_ok-remaining.remaining c.in_ok-remaining.ensures.remaining
+    c.play_round.ensures.follows.extends c.play_round.ensures.follows.exact differ

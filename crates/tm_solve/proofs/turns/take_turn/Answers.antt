@@ -21,11 +21,13 @@ loop-fair-preserved g c =
     let grown = is_at to_wait.game c.in_ok-set.ensures.grown in
     record {
       follows = all;
-      turns = turn_continues (narrowed game z) mono _ _ c.args.goal c.loop-fair.fair c.loop-fair.set c.in_ok-set.set c.loop-fair.chains.items _ c.in_ok-waited.waited inv.turns w
-          below c.wait.ensures.follows.extends c.grow.ensures.follows.extends grown c.in_ok-push.ensures.items;
-      ranked = rank_added (narrowed game z) mono _ _ c.args.goal c.loop-fair.fair c.loop-fair.set c.in_ok-set.set c.loop-fair.chains.items c.in_ok-waited.waited
-          c.loop-fair.ranks.items c.grow.new.ranks.items inv.turns inv.ranked w below c.wait.ensures.follows.extends
-          c.grow.ensures.follows.extends all.exact grown c.in_ok-set.ensures.ranks;
+      turns = turn_continues (narrowed game z) mono _ _ c.args.goal c.loop-fair.fair c.loop-fair.set c.in_ok-set.set
+          c.loop-fair.chains.items _ c.in_ok-waited.waited inv.turns w below
+          c.wait.ensures.follows.extends c.grow.ensures.follows.extends grown c.in_ok-push.ensures.items;
+      ranked = rank_added (narrowed game z) mono _ _ c.args.goal c.loop-fair.fair c.loop-fair.set c.in_ok-set.set
+          c.loop-fair.chains.items c.in_ok-waited.waited c.loop-fair.ranks.items c.grow.new.ranks.items
+          inv.turns inv.ranked w below c.wait.ensures.follows.extends c.grow.ensures.follows.extends
+          all.exact grown c.in_ok-set.ensures.ranks;
     }
 
 pub returns-clause-turned : goal.returns-clause-turned
