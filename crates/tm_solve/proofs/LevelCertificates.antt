@@ -1,5 +1,5 @@
 -- Levels of a solution over the exact operator are an environment's certificate.
-use Rattle.std.proofs.Common.{◌≡◌, ◌⊎◌, inl, inr, ℕ, zero, suc, ◌+◌, ◌<◌, Bool, true, false, not, ◌||◌, List, [], ◌∷◌, length, slice_get, Some, cond, refl, sym, ap, ◌∙◌, subst, arith}
+use Rattle.std.proofs.Common.{◌≡◌, ◌⊎◌, inl, inr, ℕ, zero, suc, ◌+◌, ◌<◌, Bool, true, false, not, ◌||◌, ◌&&◌, List, [], ◌∷◌, length, slice_get, Some, cond, refl, sym, ap, ◌∙◌, subst, arith}
 use Rattle.std.specs.List.{list_any, position_or_len}
 use Rattle.std.specs.Option.{option_map_or}
 use Rattle.tm_syntax.specs.Design.{DesignTree}
@@ -8,13 +8,15 @@ use Rattle.tm_sem.specs.Step.{IsState}
 use Rattle.tm_sem.specs.Fairness.{conditions, IsFair}
 use Rattle.tm_sem.specs.Forcing.{Forced}
 use Rattle.tm_sem.specs.Certificates.{Level, IsIn, IsNew, nowhere, level_before, last_level, either, set_before, E1, MeetsEnvironment}
-use Rattle.tm_solve.specs.Sets.{StateSet, outside, IsAmong, IsWithin}
+use Rattle.tm_solve.specs.Sets.{StateSet, outside, common, IsAmong, IsWithin}
 use Rattle.tm_solve.specs.Game.{Game}
+use Rattle.tm_solve.specs.Narrowed.{narrowed}
 use Rattle.tm_solve.specs.Levels.{AreLinks, last_link, ChainFits, IsLevel, AreLevels, last_of_levels, LevelsFit}
 use Rattle.tm_solve.specs.Operator.{Operator}
 use Rattle.tm_solve.specs.Exact.{IsGameOf, MeetsLevels, LeavesOut}
 use Rattle.tm_solve.proofs.Items.{get_below, get_some, some_same}
-use Rattle.tm_solve.proofs.Sets.{within_here, within_then}
+use Rattle.tm_solve.proofs.Joins.{and_both}
+use Rattle.tm_solve.proofs.Sets.{within_here, within_then, not_true}
 use Rattle.tm_solve.proofs.Operators.{forced_more, Fails, part_fails}
 
 -- the level before one of a list that begins behind this one
@@ -55,7 +57,7 @@ set_before_is chain (suc x) = refl
 -- a set of a chain, over the one before it
 record LinkAt (g : Game) (z y : StateSet) (j i : ℕ) (before set : StateSet) : Type 0 where
   grows : IsWithin g.states before set
-  leads : IsWithin g.states (g.part z y (outside before) j i) (outside set)
+  leads : IsWithin g.states (g.part z y (common (outside before) z) j i) (outside set)
 
 link_at : (g : Game) (z y : StateSet) (j i : ℕ) (start : StateSet) (chain : List StateSet) →
     AreLinks g z y j i start chain →
@@ -151,11 +153,11 @@ place_of start (c ∷ cs) s out last = by (c s) refl (λ gone. place_of c cs s g
         shift zero h = h
         shift (suc x) h = h
 
--- a state of a set is in a greater one
-in_more : {d : DesignTree} (a b : StateSet) → ((t : StateData) → a t ≡ true → b t ≡ true) → (t : StateData) →
-    IsIn d a t →
-    IsIn d b t
-in_more a b f t here = (here.0, f t here.1)
+-- what is not outside both of two sets is in one of them
+in_either : (a b : Bool) → not (not a && not b) ≡ true → (a || b) ≡ true
+in_either true b out = refl
+in_either false true out = refl
+in_either false false out = out
 
 not_true_false : (a b : Bool) → (a ≡ true → not b ≡ true) → b ≡ true → a ≡ false
 not_true_false true b f e = let h : not b ≡ true = f refl in cc
@@ -169,7 +171,8 @@ module _ {d : DesignTree} {op : Operator} {g : Game} (region : StateSet) (levels
 
   -- at a new state the operator fails, from the set of a chain before the one that holds it
   record FailsAt (k i : ℕ) (l : Level) (chain : List StateSet) (s : StateData) : Type 0 where
-    fails : Fails d (level_before levels k) l.set (set_before chain (place chain s)) l.goal i s
+    fails : Fails d (level_before levels k) l.set
+        (either (set_before chain (place chain s)) (level_before levels k)) l.goal i s
     any : list_any (λ a. a s) chain ≡ true
 
   fails_at : (k i : ℕ) (l : Level) (chain : List StateSet) (s : StateData) → slice_get levels k ≡ Some l →
@@ -179,21 +182,25 @@ module _ {d : DesignTree} {op : Operator} {g : Game} (region : StateSet) (levels
       let c : ChainFits g (level_before levels k) l i chain = is.chains i chain got_chain in
       let listed : IsAmong s g.states = exact.all s new.0.0 in
       let of : PlaceOf nowhere chain s = place_of nowhere chain s refl (c.ends s listed new.1 new.0.1) in
-      let link = link_at g (outside (level_before levels k)) (outside l.set) l.goal i nowhere chain c.links
-      (place chain s)
-      of.set of.found in
+      let link = link_at (narrowed g (outside (level_before levels k))) (outside (level_before levels k))
+      (outside l.set) l.goal i nowhere chain c.links (place chain s) of.set of.found in
       let less = get_below l.chains i chain got_chain in
       let many = is.count in
       let below : i < g.fairs = omega arith in
       let no : g.part (outside (level_before levels k)) (outside l.set)
-      (outside (before_link nowhere chain (place chain s))) l.goal i s ≡ false =
-      not_true_false _ (of.set s) (link.leads.within s listed) of.inside in
+      (common (outside (before_link nowhere chain (place chain s))) (outside (level_before levels k))) l.goal i s
+      ≡ false =
+      not_true_false _ (of.set s) (λ made. link.leads.within s listed (and_both _ (not (level_before levels k s)) made
+      (not_true (level_before levels k s) new.1))) of.inside in
       record {
-        fails = subst (λ (a : StateSet). Fails d (level_before levels k) l.set a l.goal i s)
+        fails = subst (λ (a : StateSet).
+            Fails d (level_before levels k) l.set (either a (level_before levels k)) l.goal i s)
             (set_before_is chain (place chain s))
-            (part_fails exact (level_before levels k) l.set (before_link nowhere chain (place chain s)) l.goal i s
-            new.0.0
-            below no);
+            (part_fails exact (level_before levels k) l.set
+            (common (outside (before_link nowhere chain (place chain s))) (outside (level_before levels k)))
+            (either (before_link nowhere chain (place chain s)) (level_before levels k))
+            (λ t out. in_either (before_link nowhere chain (place chain s) t) (level_before levels k t) out) l.goal i s
+            new.0.0 below no);
         any = of.any;
       }
 
@@ -223,11 +230,12 @@ module _ {d : DesignTree} {op : Operator} {g : Game} (region : StateSet) (levels
               let c : ChainFits g (level_before levels k) l i chain = is.chains i chain got_chain in (
                 c.some,
                 λ x set got_set.
-                    let link = link_at g (outside (level_before levels k)) (outside l.set) l.goal i nowhere chain
-                    c.links x set got_set in
+                    let link = link_at (narrowed g (outside (level_before levels k))) (outside (level_before levels k))
+                    (outside l.set) l.goal i nowhere chain c.links x set got_set in
                     let w : IsWithin g.states set l.set =
-                    within_then (set_within g (outside (level_before levels k)) (outside l.set) l.goal
-                    i nowhere chain c.links x set got_set) c.inside in
+                    within_then (set_within (narrowed g (outside (level_before levels k)))
+                    (outside (level_before levels k)) (outside l.set) l.goal i nowhere chain c.links x set got_set)
+                    c.inside in
                     let grows : IsWithin g.states (set_before chain x) set =
                     subst (λ (a : StateSet). IsWithin g.states a set)
                     (set_before_is chain x) link.grows in (
@@ -241,23 +249,8 @@ module _ {d : DesignTree} {op : Operator} {g : Game} (region : StateSet) (levels
     e3 = λ k i l chain s got got_chain new. (fails_at k i l chain s got got_chain new).any;
     e4 = λ k l s got new. let first = first_chain k l got in
         (fails_at k 0 l first.chain s got first.got new).fails.step;
-    e5 = λ k i l chain s got got_chain new.
-        by k i chain s (fails_at k i l chain s got got_chain new).fails.wait;
+    e5 = λ k i l chain s got got_chain new. (fails_at k i l chain s got got_chain new).fails.wait;
   }
-    where
-      or_left : (a b : Bool) → a ≡ true → (a || b) ≡ true
-      or_left true b e = refl
-      or_left false b e = cc
-
-      by : (k i : ℕ) (chain : List StateSet) (s : StateData) →
-          IsFair d s i ⊎ Forced d (IsIn d (set_before chain (place chain s))) s →
-          IsFair d s i ⊎ Forced d (IsIn d (either (set_before chain (place chain s)) (level_before levels k))) s
-      by k i chain s (inl fair) = inl fair
-      by k i chain s (inr forced) = inr (forced_more (IsIn d (set_before chain (place chain s)))
-          (IsIn d (either (set_before chain (place chain s)) (level_before levels k)))
-          (in_more (set_before chain (place chain s))
-          (either (set_before chain (place chain s)) (level_before levels k))
-          (λ t here. or_left _ (level_before levels k t) here)) forced)
 
   last_is : (s : StateData) → IsState d s → last_level levels s ≡ outside region s
   last_is s valid =

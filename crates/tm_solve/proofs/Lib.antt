@@ -5,6 +5,7 @@ pub mod Following
 pub mod Items
 pub mod Joins
 pub mod LevelCertificates
+pub mod Narrowing
 pub mod Operators
 pub mod RankCertificates
 mod ReachSteps

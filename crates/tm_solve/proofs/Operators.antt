@@ -95,10 +95,11 @@ module _ {d : DesignTree} {op : Operator} {g : Game} (exact : IsGameOf d op g) w
       at true e = refl
       at false e = e
 
-  pub part_fails : (z y x : StateSet) (j i : ℕ) (s : StateData) → IsState d s → i < g.fairs →
-      g.part (outside z) (outside y) (outside x) j i s ≡ false → Fails d z y x j i s
-  part_fails z y x j i s valid below fails =
-      let no = none _ _ _ (sym (exact.part (outside z) (outside y) (outside x) j i s (exact.all s valid)) ∙ fails) in
+  pub part_fails : (z y kept x : StateSet) → ((t : StateData) → outside kept t ≡ true → x t ≡ true) →
+      (j i : ℕ) (s : StateData) → IsState d s → i < g.fairs →
+      g.part (outside z) (outside y) kept j i s ≡ false → Fails d z y x j i s
+  part_fails z y kept x out j i s valid below fails =
+      let no = none _ _ _ (sym (exact.part (outside z) (outside y) kept j i s (exact.all s valid)) ∙ fails) in
       record {
         goal = λ holds. forced_in z s (exact.leave (outside z) s valid
             (second_false _ _ no.0 (exact.goal j s valid ∙ holds)));
@@ -106,6 +107,7 @@ module _ {d : DesignTree} {op : Operator} {g : Game} (exact : IsGameOf d op g) w
         wait = at (one_false _ _ no.2);
       }
     where
-      at : (op.fair i s ≡ true) ⊎ (op.stay (outside x) s ≡ false) → IsFair d s i ⊎ Forced d (IsIn d x) s
+      at : (op.fair i s ≡ true) ⊎ (op.stay kept s ≡ false) → IsFair d s i ⊎ Forced d (IsIn d x) s
       at (inl e) = inl (exact.fair i s (subst (λ (n : ℕ). i < n) exact.fairs below) valid e)
-      at (inr e) = inr (forced_in x s (exact.leave (outside x) s valid e))
+      at (inr e) = inr (forced_more (IsIn d (outside kept)) (IsIn d x) (λ t here. (here.0, out t here.1))
+          (exact.leave kept s valid e))

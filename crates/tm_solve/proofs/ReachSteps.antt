@@ -7,8 +7,9 @@ use Rattle.tm_solve.specs.declared.iterates.RankSet.{RankSet}
 use Rattle.tm_solve.specs.declared.iterates.Chain.{Chain}
 use Rattle.tm_solve.specs.declared.turns.Turned.{Turned}
 use Rattle.tm_solve.specs.declared.goals.Reached.{Reached}
-use Rattle.tm_solve.specs.Sets.{StateSet, outside, IsAmong, IsWithin, IsSame, Gains, count}
+use Rattle.tm_solve.specs.Sets.{StateSet, outside, common, IsAmong, IsWithin, IsSame, Gains, count}
 use Rattle.tm_solve.specs.Game.{Game, IsMonotone, IsAbsorbing}
+use Rattle.tm_solve.specs.Narrowed.{narrowed}
 use Rattle.tm_solve.specs.Ids.{Ids, IsExact, Extends}
 use Rattle.tm_solve.specs.Fixpoints.{InStay, InSome, InReach, Holds}
 use Rattle.tm_solve.specs.Levels.{last_link}
@@ -23,21 +24,21 @@ use Rattle.tm_solve.proofs.Fixed.{stay_rises, some_rises, stay_of}
 
 -- what a turn answers, said of the game and the sets of the start
 pub turned_at : (g h : Game) (ids : Ids) (zs zm y : StateSet) (j : ℕ) (t : Turned) → h ≡ g → zm ≡ zs →
-    IsTurned h ids zm y j t → IsTurned g ids zs y j t
+    IsTurned (narrowed h zm) ids zm y j t → IsTurned (narrowed g zs) ids zs y j t
 turned_at g h ids zs zm y j t same_game same_z is =
-    subst (λ (q : Game). IsTurned q ids zs y j t) same_game
-    (subst (λ (v : StateSet). IsTurned h ids v y j t) same_z is)
+    subst (λ (q : Game). IsTurned (narrowed q zs) ids zs y j t) same_game
+    (subst (λ (v : StateSet). IsTurned (narrowed h v) ids v y j t) same_z is)
 
 pub ranked_at : (g h : Game) (ids : Ids) (zs zm : StateSet) (j : ℕ) (y : NodeId) (items : List RankSet) → h ≡ g →
     zm ≡ zs →
-    IsRanked h ids zm j y items → IsRanked g ids zs j y items
+    IsRanked (narrowed h zm) ids zm j y items → IsRanked (narrowed g zs) ids zs j y items
 ranked_at g h ids zs zm j y items same_game same_z is =
-    subst (λ (q : Game). IsRanked q ids zs j y items) same_game
-    (subst (λ (v : StateSet). IsRanked h ids v j y items) same_z is)
+    subst (λ (q : Game). IsRanked (narrowed q zs) ids zs j y items) same_game
+    (subst (λ (v : StateSet). IsRanked (narrowed h v) ids v j y items) same_z is)
 
 module _ (g : Game) (mono : IsMonotone g) (z : StateSet) (j : ℕ) where
   -- what waits over a set that reaches the goal reaches it
-  some_reaches : (y : StateSet) → ((s : StateData) → IsAmong s g.states → y s ≡ true → InReach g z j s) →
+  pub some_reaches : (y : StateSet) → ((s : StateData) → IsAmong s g.states → y s ≡ true → InReach g z j s) →
       (s : StateData) → IsAmong s g.states → InSome g z y j s → InReach g z j s
   some_reaches y below s among some = record {
     every = λ f closed.
@@ -134,6 +135,6 @@ module _ (g : Game) (mono : IsMonotone g) (z : StateSet) (j : ℕ) where
             let below_fairs : i < g.fairs = omega (arith, turned.chains.many) in
             record {
               links = chain.links;
-              ends = chain_ends (a.means y) (outside (last_link nowhere sets)) i far.below closed below_fairs
+              ends = chain_ends (a.means y) (common (outside (last_link nowhere sets)) z) i far.below closed below_fairs
                   chain.stays;
             }

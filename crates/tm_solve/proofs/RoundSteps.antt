@@ -8,8 +8,9 @@ use Rattle.tm_solve.specs.declared.iterates.LevelSet.{LevelSet}
 use Rattle.tm_solve.specs.declared.iterates.Ranking.{Ranking}
 use Rattle.tm_solve.specs.declared.goals.Reached.{Reached}
 use Rattle.tm_solve.specs.declared.rounds.Remaining.{Remaining}
-use Rattle.tm_solve.specs.Sets.{StateSet, outside, everywhere, IsAmong, IsWithin, IsSame, Gains}
+use Rattle.tm_solve.specs.Sets.{StateSet, outside, common, everywhere, IsAmong, IsWithin, IsSame, Gains}
 use Rattle.tm_solve.specs.Game.{Game, IsMonotone}
+use Rattle.tm_solve.specs.Narrowed.{narrowed}
 use Rattle.tm_solve.specs.Ids.{Ids, Is, IsExact, Extends}
 use Rattle.tm_solve.specs.Fixpoints.{InReach, Holds}
 use Rattle.tm_solve.specs.Levels.{AreLinks, last_link, ChainFits, IsLevel, AreLevels, last_of_levels}
@@ -25,9 +26,10 @@ use Rattle.tm_solve.proofs.Joins.{and_left, and_right, and_both}
 
 -- what a goal's search answers, said of the game and the set of the start
 pub reached_at : (g h : Game) (ids : Ids) (zs zm : StateSet) (j : ℕ) (r : Reached) → h ≡ g → zm ≡ zs →
-    IsReached h ids zm j r → IsReached g ids zs j r
+    IsReached (narrowed h zm) ids zm j r → IsReached (narrowed g zs) ids zs j r
 reached_at g h ids zs zm j r same_game same_z is =
-    subst (λ (q : Game). IsReached q ids zs j r) same_game (subst (λ (v : StateSet). IsReached h ids v j r) same_z is)
+    subst (λ (q : Game). IsReached (narrowed q zs) ids zs j r) same_game
+    (subst (λ (v : StateSet). IsReached (narrowed h v) ids v j r) same_z is)
 
 pub removed_at : (g h : Game) (ids : Ids) (region : NodeId) (j : ℕ) (chains : List Chain) (left : NodeId)
     (old new : List LevelSet) → h ≡ g → AddsLevel h.states ids region j chains left old new →
@@ -96,14 +98,30 @@ reached_more {g = g} {a = a} {b = b} {c = c} {z = z} {j = j} items more r far re
         (subst (λ (l : List RankedSet). RanksReach g z j l)
         (sym (ranks_stay bc r.ranks.sets.items reached.ranked.known) ∙ is.1) new)
 
--- what leads on over greater sets does over smaller ones
+-- what leads on over greater sets does over smaller ones, in fewer states
 links_lower : (g : Game) → IsMonotone g → (z z' y y' : StateSet) (j i : ℕ) (before : StateSet) (cs : List StateSet) →
-    IsWithin g.states z' z → IsWithin g.states y' y → AreLinks g z y j i before cs → AreLinks g z' y' j i before cs
+    IsWithin g.states z' z → IsWithin g.states y' y → AreLinks (narrowed g z) z y j i before cs →
+    AreLinks (narrowed g z') z' y' j i before cs
 links_lower g mono z z' y y' j i before [] v w links = tt
 links_lower g mono z z' y y' j i before (c ∷ cs) v w links = (
-  (links.0.0, within_then (mono.rises z' z y' y _ _ j i v w (within_here _ _)) links.0.1),
+  (
+    links.0.0,
+    record {
+      within = λ s among here. links.0.1.within s among (and_both (g.part z y (common (outside before) z) j i s) (z s)
+          ((mono.rises z' z y' y (common (outside before) z') (common (outside before) z) j i v w
+          (common_within before)).within s among
+          (and_left (g.part z' y' (common (outside before) z') j i s) (z' s) here))
+          (v.within s among (and_right (g.part z' y' (common (outside before) z') j i s) (z' s) here)));
+    },
+  ),
   links_lower g mono z z' y y' j i c cs v w links.1,
 )
+  where
+    common_within : (a : StateSet) → IsWithin g.states (common (outside a) z') (common (outside a) z)
+    common_within a = record {
+      within = λ s among here. and_both (outside a s) (z s) (and_left (outside a s) (z' s) here)
+          (v.within s among (and_right (outside a s) (z' s) here));
+    }
 
 some_link : (cs : List StateSet) (s : StateData) → last_link nowhere cs s ≡ true → 0 < length cs
 some_link [] s e = cc
@@ -124,37 +142,43 @@ module _ (g : Game) (mono : IsMonotone g) (z : StateSet) (j : ℕ) where
       IsSame g.states before (outside region) → IsSame g.states l.set (outside left) → l.goal ≡ j →
       IsWithin g.states region z → IsWithin g.states left y →
       ((s : StateData) → IsAmong s g.states → region s ≡ true → left s ≡ false → y s ≡ false) →
-      Gains g.states before l.set → LeadsOut g z y j i chain → ChainFits g before l i chain
+      Gains g.states before l.set → LeadsOut (narrowed g z) z y j i chain → ChainFits g before l i chain
   chain_fits before y region left i l chain same_before same_left goal in_z in_y gone gains out =
       let z_in : IsWithin g.states (outside before) z =
       within_then (same_within (same_then (outside_same same_before) (outside_twice _ _))) in_z in
       let y_in : IsWithin g.states (outside l.set) y =
       within_then (same_within (same_then (outside_same same_left) (outside_twice _ _))) in_y in
+      let in_last : IsWithin g.states left (outside (last_link nowhere chain)) = record {
+        within = λ s among here. and_left (outside (last_link nowhere chain) s) (z s)
+            (out.ends.same s among ∙ in_y.within s among here);
+      } in
       let ends : (s : StateData) → IsAmong s g.states → before s ≡ false → l.set s ≡ true →
       last_link nowhere chain s ≡ true = λ s among old new.
-      holds (last_link nowhere chain s) (out.ends.same s among ∙ gone s among
-      (held (region s) (sym (same_before.same s among) ∙ old)) (not_false _ (sym (same_left.same s among) ∙ new))) in
+      let here : region s ≡ true = held (region s) (sym (same_before.same s among) ∙ old) in
+      lost (last_link nowhere chain s) (z s) (out.ends.same s among ∙ gone s among here
+      (not_false _ (sym (same_left.same s among) ∙ new))) (in_z.within s among here) in
       record {
         some = some_link chain gains.state (ends gains.state gains.listed gains.without_it gains.with_it);
-        links = subst (λ (n : ℕ). AreLinks g (outside before) (outside l.set) n i nowhere chain) (sym goal)
+        links = subst (λ (n : ℕ). AreLinks (narrowed g (outside before)) (outside before) (outside l.set) n i nowhere
+            chain) (sym goal)
             (links_lower g mono z (outside before) y (outside l.set) j i nowhere chain z_in y_in out.links);
         inside = within_then (same_within (same_back (outside_twice _ _)))
-            (within_then (outside_within (within_then in_y (same_within (same_back out.ends))))
-            (same_within (same_back same_left)));
+            (within_then (outside_within in_last) (same_within (same_back same_left)));
         ends = ends;
       }
     where
-      holds : (b : Bool) → not b ≡ false → b ≡ true
-      holds true e = refl
-      holds false e = sym e
+      lost : (b q : Bool) → (not b && q) ≡ false → q ≡ true → b ≡ true
+      lost true q e here = refl
+      lost false q e here = sym e ∙ here
 
       held : (b : Bool) → not b ≡ false → b ≡ true
-      held = holds
+      held true e = refl
+      held false e = sym e
 
   -- the levels stay where a goal loses no state, and else there is one more
   pub level_added : {a b c : Ids} (region left : NodeId) (r : Reached) (old new : List LevelSet) → j < g.goals →
-      RoundSoFar g a z j region → IsLeveled g a region old → IsReached g b z j r → Extends a b → Extends b c →
-      IsExact g.states c → Is g.states c left (λ s. b.means region s && b.means r.set s) →
+      RoundSoFar (narrowed g z) a z j region → IsLeveled g a region old → IsReached (narrowed g z) b z j r →
+      Extends a b → Extends b c → IsExact g.states c → Is g.states c left (λ s. b.means region s && b.means r.set s) →
       AddsLevel g.states c region j r.chains.items left old new → IsLeveled g c left new
   level_added {a = a} {b = b} {c = c} region left r old new below far leveled reached ab bc exact is (inl same) =
       let ac : Extends a c = extends_then ab bc in

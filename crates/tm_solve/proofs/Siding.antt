@@ -1,11 +1,13 @@
 -- Ranked sets of a lower operator are ranked sets of a higher one, and levels of a higher one those of a lower one.
 use Rattle.std.proofs.Common.{ℕ, List, [], ◌∷◌}
 use Rattle.tm_sem.specs.Certificates.{RankedSet, DriverSets, Level, nowhere}
-use Rattle.tm_solve.specs.Sets.{StateSet}
+use Rattle.tm_solve.specs.Sets.{StateSet, outside, common}
 use Rattle.tm_solve.specs.Game.{Game}
 use Rattle.tm_solve.specs.Ranks.{AreRanks, RanksFit}
 use Rattle.tm_solve.specs.Levels.{AreLinks, AreLevels, LevelsFit}
+use Rattle.tm_solve.specs.Narrowed.{narrowed}
 use Rattle.tm_solve.specs.Sides.{IsBelow, with_part}
+use Rattle.tm_solve.proofs.Joins.{and_left, and_right, and_both}
 
 module _ (g : Game) (part : StateSet → StateSet → StateSet → ℕ → ℕ → StateSet) where
   ranks_rise : IsBelow g.states g.part part → (z : StateSet) (j : ℕ) (before : StateSet) (ranked : List RankedSet) →
@@ -31,10 +33,18 @@ module _ (g : Game) (part : StateSet → StateSet → StateSet → ℕ → ℕ �
   }
 
   links_fall : IsBelow g.states part g.part → (z y : StateSet) (j i : ℕ) (before : StateSet) (cs : List StateSet) →
-      AreLinks g z y j i before cs → AreLinks (with_part g part) z y j i before cs
+      AreLinks (narrowed g z) z y j i before cs → AreLinks (narrowed (with_part g part) z) z y j i before cs
   links_fall below z y j i before [] links = tt
   links_fall below z y j i before (c ∷ cs) links = (
-    (links.0.0, record { within = λ s among here. links.0.1.within s among (below.below _ _ _ j i s among here) }),
+    (
+      links.0.0,
+      record {
+        within = λ s among here. links.0.1.within s among (and_both (g.part z y (common (outside before) z) j i s) (z s)
+            (below.below z y (common (outside before) z) j i s among
+            (and_left (part z y (common (outside before) z) j i s) (z s) here))
+            (and_right (part z y (common (outside before) z) j i s) (z s) here));
+      },
+    ),
     links_fall below z y j i c cs links.1,
   )
 

@@ -10,6 +10,7 @@ use Rattle.tm_solve.specs.declared.iterates.RankSet.{RankSet}
 use Rattle.tm_solve.specs.declared.rounds.Remaining.{Remaining}
 use Rattle.tm_solve.specs.Sets.{StateSet, IsAmong, IsWithin, IsSame, count}
 use Rattle.tm_solve.specs.Game.{Game, IsMonotone, IsAbsorbing}
+use Rattle.tm_solve.specs.Narrowed.{narrowed}
 use Rattle.tm_solve.specs.Ids.{Ids, IsExact, Extends}
 use Rattle.tm_solve.specs.Fixpoints.{InReach, InRegion, Holds}
 use Rattle.tm_solve.specs.Levels.{LevelsFit}
@@ -19,12 +20,12 @@ use Rattle.tm_solve.specs.Inner.Rounds.{IsLeveled, IsRemaining, RegionSoFar}
 use Rattle.tm_solve.proofs.Sets.{both_same, count_gains}
 use Rattle.tm_solve.proofs.Following.{other_gains}
 use Rattle.tm_solve.proofs.Items.{get_below, length_mapped}
-use Rattle.tm_solve.proofs.Fixed.{reach_rises, stay_of}
+use Rattle.tm_solve.proofs.Narrowing.{reach_narrowed, reach_of_narrowed, reach_within, ranks_of_narrowed}
 
 -- what a round answers, said of the game of the start
-pub remaining_at : (g h : Game) (ids : Ids) (z : StateSet) (r : Remaining) → h ≡ g → IsRemaining h ids z r →
-    IsRemaining g ids z r
-remaining_at g h ids z r same_game is = subst (λ (q : Game). IsRemaining q ids z r) same_game is
+pub remaining_at : (g h : Game) (ids : Ids) (z : StateSet) (r : Remaining) → h ≡ g →
+    IsRemaining (narrowed h z) ids z r → IsRemaining (narrowed g z) ids z r
+remaining_at g h ids z r same_game is = subst (λ (q : Game). IsRemaining (narrowed q z) ids z r) same_game is
 
 pub leveled_at : (g h : Game) (ids : Ids) (z : NodeId) (items : List LevelSet) → h ≡ g → IsLeveled h ids z items →
     IsLeveled g ids z items
@@ -65,27 +66,22 @@ end_all n ids z (r ∷ rs) exact known all same = (
   end_all n ids z rs exact known all.1 (λ j ranked got. same (suc j) ranked got),
 )
 
-module _ (g : Game) (mono : IsMonotone g) where
+module _ (g : Game) where
   -- what is left of an iterate that holds the region holds it
-  pub region_goes_on : {a b : Ids} (z : NodeId) (r : Remaining) → RegionSoFar g a z → IsRemaining g b (a.means z) r →
-      RegionSoFar g b r.region
-  region_goes_on {a = a} z r far remaining = record {
+  pub region_goes_on : IsMonotone g → IsAbsorbing g → {a b : Ids} (z : NodeId) (r : Remaining) → RegionSoFar g a z →
+      IsRemaining (narrowed g (a.means z)) b (a.means z) r → RegionSoFar g b r.region
+  region_goes_on mono absorb {a = a} z r far remaining = record {
     known = remaining.region.known;
-    above = λ s among region.
-        let w : IsWithin g.states region.set (a.means z) = record {
-          within = λ t in_n here. far.above t in_n
-              (record { set = region.set; holds = region.holds; here = here });
-        } in
-        remaining.region.set.all s among (
-          far.above s among region,
-          λ j below.
-              reach_rises g mono region.set (a.means z) j w s (region.holds s among region.here j below),
-        );
+    above = λ s among region. remaining.region.set.all s among (
+      far.above s among region,
+      λ j below. reach_narrowed g mono absorb region.set region.holds (a.means z) far.above j below s among
+          (region.holds s among region.here j below),
+    );
   }
 
   -- another iterate has fewer states
-  pub region_shrinks : {a b : Ids} (z : NodeId) (r : Remaining) → RegionSoFar g a z → IsRemaining g b (a.means z) r →
-      Extends a b → IsExact g.states b → r.region ≢ z →
+  pub region_shrinks : {a b : Ids} (z : NodeId) (r : Remaining) → RegionSoFar g a z →
+      IsRemaining (narrowed g (a.means z)) b (a.means z) r → Extends a b → IsExact g.states b → r.region ≢ z →
       count g.states (b.means r.region) < count g.states (a.means z)
   region_shrinks {a = a} {b = b} z r far remaining ab exact differ =
       let w : IsWithin g.states (b.means r.region) (a.means z) =
@@ -97,85 +93,63 @@ module _ (g : Game) (mono : IsMonotone g) where
       (count_gains g.states (b.means r.region) (b.means z) w'
       (other_gains r.region z exact remaining.region.known (ab.known z far.known) differ w'))
 
-  module _ (absorb : IsAbsorbing g) where
-    -- a set that reaches one goal from the region lies in the region
-    reach_is_region : (z last : StateSet) (j : ℕ) → j < g.goals →
-        ((s : StateData) → IsAmong s g.states → z s ≡ true → (k : ℕ) → k < g.goals → InReach g z k s) →
-        ((s : StateData) → IsAmong s g.states → InRegion g s → z s ≡ true) → Holds g.states last (InReach g z j) →
-        IsSame g.states last z
-    reach_is_region z last j below inside above holds =
-        let up : IsWithin g.states z last =
-        record { within = λ s among here. holds.all s among (inside s among here j below) } in
-        both_same (record {
-          within = λ s among here. above s among
-              (record { set = last; holds = λ t in_n in_last k below_k. at up t in_n in_last k below_k; here = here });
-        }) up
-      where
-        at : IsWithin g.states z last → (t : StateData) → IsAmong t g.states → last t ≡ true → (k : ℕ) → k < g.goals →
-            InReach g last k t
-        at up t in_n in_last k below_k = record {
-          every = λ f closed.
-              let in_f : IsWithin g.states z f = record {
-                within = λ u u_in here.
-                    (reach_rises g mono z last k up u (inside u u_in here k below_k)).every f closed;
-              } in
-              (holds.only t in_n in_last).every f (λ u u_in some. closed u u_in (
-                some.0,
-                some.1,
-                stay_of g last f some.2.set k some.0 (record {
-                  within = λ v v_in here.
-                      (absorb.goal z last f some.2.set j k some.0 in_f).within v v_in (some.2.holds v v_in here);
-                }) u some.2.here,
-              ));
-        }
+  module _ {a b : Ids} (z : NodeId) (r : Remaining) (far : RegionSoFar g a z)
+      (remaining : IsRemaining (narrowed g (a.means z)) b (a.means z) r)
+      (ab : Extends a b) (same_id : r.region ≡ z) where
+    same_set : b.means z ≡ a.means z
+    same_set = ab.same z far.known
 
-    module _ {a b : Ids} (z : NodeId) (r : Remaining) (far : RegionSoFar g a z)
-        (remaining : IsRemaining g b (a.means z) r)
-        (ab : Extends a b) (same_id : r.region ≡ z) where
-      same_set : b.means z ≡ a.means z
-      same_set = ab.same z far.known
+    inside : (s : StateData) → IsAmong s g.states → a.means z s ≡ true → (k : ℕ) → k < g.goals →
+        InReach (narrowed g (a.means z)) (a.means z) k s
+    inside s among here =
+        (remaining.region.set.only s among (subst (λ (m : StateSet). m s ≡ true)
+        (sym (ap b.means same_id ∙ same_set)) here)).1
 
-      inside : (s : StateData) → IsAmong s g.states → a.means z s ≡ true → (k : ℕ) → k < g.goals →
-          InReach g (a.means z) k s
-      inside s among here =
-          (remaining.region.set.only s among (subst (λ (m : StateSet). m s ≡ true)
-          (sym (ap b.means same_id ∙ same_set)) here)).1
+    -- the same iterate is the region
+    pub region_ends : Holds g.states (b.means z) (InRegion g)
+    region_ends = subst (λ (m : StateSet). Holds g.states m (InRegion g)) (sym same_set) (record {
+      only = λ s among here. record {
+        set = a.means z;
+        holds = λ t in_n in_z k below. reach_of_narrowed g (a.means z) (a.means z) k t (inside t in_n in_z k below);
+        here = here;
+      };
+      all = far.above;
+    })
 
-      -- the same iterate is the region
-      pub region_ends : Holds g.states (b.means z) (InRegion g)
-      region_ends = subst (λ (m : StateSet). Holds g.states m (InRegion g)) (sym same_set) (record {
-        only = λ s among here. record { set = a.means z; holds = λ t in_n in_z. inside t in_n in_z; here = here };
-        all = far.above;
-      })
+    goal_ends : (j : ℕ) (ranked : List RankedSet) → slice_get (map (ranked_sets b) r.ranks.items) j ≡ Some ranked →
+        IsSame g.states (last_ranked nowhere ranked) (b.means z)
+    goal_ends j ranked got =
+        let less = get_below (map (ranked_sets b) r.ranks.items) j ranked got in
+        let many = length_mapped (ranked_sets b) r.ranks.items in
+        let below : j < g.goals = omega (arith, remaining.ranks.many) in
+        subst (λ (m : StateSet). IsSame g.states (last_ranked nowhere ranked) m) (sym same_set)
+        (both_same (record {
+          within = λ s among here. reach_within g (a.means z) j s
+              ((remaining.ranks.each j ranked got).last.only s among here);
+        }) (record {
+          within = λ s among here.
+              (remaining.ranks.each j ranked got).last.all s among (inside s among here j below);
+        }))
 
-      goal_ends : (j : ℕ) (ranked : List RankedSet) → slice_get (map (ranked_sets b) r.ranks.items) j ≡ Some ranked →
-          IsSame g.states (last_ranked nowhere ranked) (b.means z)
-      goal_ends j ranked got =
-          let less = get_below (map (ranked_sets b) r.ranks.items) j ranked got in
-          let many = length_mapped (ranked_sets b) r.ranks.items in
-          let below : j < g.goals = omega (arith, remaining.ranks.many) in
-          subst (λ (m : StateSet). IsSame g.states (last_ranked nowhere ranked) m) (sym same_set)
-          (reach_is_region (a.means z) (last_ranked nowhere ranked) j below inside far.above
-          (remaining.ranks.each j ranked got).last)
+    module _ (it : Iterates) (region_is : it.region ≡ z) (ranks_are : it.ranks.items ≡ r.ranks.items) where
+      pub ranks_fit : RanksFit g (driver_sets b it)
+      ranks_fit =
+          let e : b.means it.region ≡ b.means z = ap b.means region_is in
+          record {
+            goals = length_mapped (ranked_sets b) it.ranks.items ∙ ap length ranks_are ∙ remaining.ranks.many;
+            each = λ j ranked got.
+                let got_r : slice_get (map (ranked_sets b) r.ranks.items) j ≡ Some ranked =
+                subst (λ (l : List Ranking). slice_get (map (ranked_sets b) l) j ≡ Some ranked) ranks_are got in
+                subst (λ (m : StateSet). RankGoal g m j ranked) (sym e) (record {
+                  ranks = subst (λ (m : StateSet). AreRanks g m j nowhere ranked) (sym same_set)
+                      (ranks_of_narrowed g (a.means z) (a.means z) j nowhere ranked
+                      (remaining.ranks.each j ranked got_r).ranks);
+                  last = goal_ends j ranked got_r;
+                });
+          }
 
-      module _ (it : Iterates) (region_is : it.region ≡ z) (ranks_are : it.ranks.items ≡ r.ranks.items) where
-        pub ranks_fit : RanksFit g (driver_sets b it)
-        ranks_fit =
-            let e : b.means it.region ≡ b.means z = ap b.means region_is in
-            record {
-              goals = length_mapped (ranked_sets b) it.ranks.items ∙ ap length ranks_are ∙ remaining.ranks.many;
-              each = λ j ranked got.
-                  let got_r : slice_get (map (ranked_sets b) r.ranks.items) j ≡ Some ranked =
-                  subst (λ (l : List Ranking). slice_get (map (ranked_sets b) l) j ≡ Some ranked) ranks_are got in
-                  subst (λ (m : StateSet). RankGoal g m j ranked) (sym e) (record {
-                    ranks = subst (λ (m : StateSet). AreRanks g m j nowhere ranked) (sym same_set)
-                        (remaining.ranks.each j ranked got_r).ranks;
-                    last = goal_ends j ranked got_r;
-                  });
-            }
-
-        pub last_ends : IsExact g.states b → EndAt it.region it.ranks.items
-        last_ends exact =
-            subst (λ (id : NodeId). EndAt id it.ranks.items) (sym region_is)
-            (subst (λ (l : List Ranking). EndAt z l) (sym ranks_are)
-            (end_all g.states b z r.ranks.items exact (ab.known z far.known) remaining.ranks.known goal_ends))
+      pub last_ends : IsExact g.states b → EndAt it.region it.ranks.items
+      last_ends exact =
+          subst (λ (id : NodeId). EndAt id it.ranks.items) (sym region_is)
+          (subst (λ (l : List Ranking). EndAt z l) (sym ranks_are)
+          (end_all g.states b z r.ranks.items exact (ab.known z far.known) remaining.ranks.known goal_ends))

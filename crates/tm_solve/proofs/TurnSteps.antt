@@ -9,6 +9,7 @@ use Rattle.tm_solve.specs.declared.conditions.Waited.{Waited}
 use Rattle.tm_solve.specs.declared.turns.Turned.{Turned}
 use Rattle.tm_solve.specs.Sets.{StateSet, IsAmong, IsWithin, IsSame, Gains}
 use Rattle.tm_solve.specs.Game.{Game, IsMonotone}
+use Rattle.tm_solve.specs.Narrowed.{narrowed}
 use Rattle.tm_solve.specs.Ids.{Ids, Is, IsExact, Extends}
 use Rattle.tm_solve.specs.Fixpoints.{InStay, InSome, Holds}
 use Rattle.tm_solve.specs.Ranks.{AreRanks, IsRank, last_ranked}
@@ -23,11 +24,11 @@ use Rattle.tm_solve.proofs.Joins.{or_cases, or_left, or_right, or_second}
 
 -- what the wait for a condition answers, said of the game and the sets of the start
 pub waited_at : (g h : Game) (ids : Ids) (zs ys zm ym : StateSet) (j i : ℕ) (w : Waited) → h ≡ g → zm ≡ zs → ym ≡ ys →
-    IsWaited h ids zm ym j i w → IsWaited g ids zs ys j i w
+    IsWaited (narrowed h zm) ids zm ym j i w → IsWaited (narrowed g zs) ids zs ys j i w
 waited_at g h ids zs ys zm ym j i w same_game same_z same_y is =
-    subst (λ (q : Game). IsWaited q ids zs ys j i w) same_game
-    (subst (λ (v : StateSet). IsWaited h ids zs v j i w) same_y
-    (subst (λ (v : StateSet). IsWaited h ids v ym j i w) same_z is))
+    subst (λ (q : Game). IsWaited (narrowed q zs) ids zs ys j i w) same_game
+    (subst (λ (v : StateSet). IsWaited (narrowed h zs) ids zs v j i w) same_y
+    (subst (λ (v : StateSet). IsWaited (narrowed h v) ids v ym j i w) same_z is))
 
 ranks_more : (g : Game) (z : StateSet) (j : ℕ) (before : StateSet) (rs : List RankedSet) (r : RankedSet) →
     AreRanks g z j before rs → IsRank g z j (last_ranked before rs) r → AreRanks g z j before (rs ++ r ∷ [])

@@ -3,7 +3,7 @@ use Rattle.std.proofs.Common.{◌≡◌, ◌≢◌, ℕ, ◌<◌, true, not, ◌
 use Rattle.tm_dd.specs.declared.node.NodeId.{NodeId}
 use Rattle.tm_sem.specs.State.{StateData}
 use Rattle.tm_sem.specs.Certificates.{nowhere}
-use Rattle.tm_solve.specs.Sets.{StateSet, outside, everywhere, IsWithin, IsSame, count}
+use Rattle.tm_solve.specs.Sets.{StateSet, outside, common, everywhere, IsWithin, IsSame, count}
 use Rattle.tm_solve.specs.Game.{Game, IsMonotone}
 use Rattle.tm_solve.specs.Ids.{Ids, Is, IsExact, Extends}
 use Rattle.tm_solve.specs.Fixpoints.{InStay, Holds}
@@ -11,7 +11,8 @@ use Rattle.tm_solve.specs.Levels.{AreLinks, last_link}
 use Rattle.tm_solve.specs.Iterates.{Each}
 use Rattle.tm_solve.specs.declared.conditions.Waited.{Waited}
 use Rattle.tm_solve.specs.Inner.Waits.{IsWaited, WaitsSoFar}
-use Rattle.tm_solve.proofs.Sets.{within_here, within_then, same_back, same_then, same_within, outside_within, outside_same, outside_twice, count_gains}
+use Rattle.tm_solve.proofs.Sets.{both_same, within_here, within_then, same_back, same_then, same_within, outside_within, outside_same, outside_twice, count_gains}
+use Rattle.tm_solve.proofs.Joins.{and_left, and_right, and_both}
 use Rattle.tm_solve.proofs.Following.{other_gains, is_kept}
 use Rattle.tm_solve.proofs.Items.{map_more, each_more, each_kept, map_kept}
 use Rattle.tm_solve.proofs.Fixed.{stay_of}
@@ -28,7 +29,7 @@ part_at g h a b zs ys z y x id j i same_game same_z same_y is =
 -- one more set at the end of a chain
 links_more : (g : Game) (z y : StateSet) (j i : ℕ) (before : StateSet) (cs : List StateSet) (c : StateSet) →
     AreLinks g z y j i before cs → IsWithin g.states (last_link before cs) c →
-    IsWithin g.states (g.part z y (outside (last_link before cs)) j i) (outside c) →
+    IsWithin g.states (g.part z y (common (outside (last_link before cs)) z) j i) (outside c) →
     AreLinks g z y j i before (cs ++ c ∷ [])
 links_more g z y j i before [] c links grows leads = ((grows, leads), tt)
 links_more g z y j i before (d ∷ ds) c links grows leads = (links.0, links_more g z y j i d ds c links.1 grows leads)
@@ -65,11 +66,14 @@ module _ (g : Game) (mono : IsMonotone g) (z y : StateSet) (j i : ℕ) where
       let e : map c.means (items ++ removed ∷ []) ≡ old ++ c.means removed ∷ [] =
       map_more c.means items removed ∙ ap (λ m. m ++ c.means removed ∷ []) kept in
       let last : StateSet = last_link nowhere old in
+      let left_before : IsWithin g.states (outside (c.means removed)) (outside last) = record {
+        within = λ s among left. and_left (outside last s) (z s)
+            (far.ends.same s among ∙ n_in_x.within s among (sym (out.same s among) ∙ left));
+      } in
       let grows : IsWithin g.states last (c.means removed) =
       within_then (same_within (same_back (outside_twice _ _)))
-      (within_then (outside_within (within_then (within_then (same_within out) n_in_x)
-      (same_within (same_back far.ends)))) (same_within (outside_twice _ _))) in
-      let leads : IsWithin g.states (g.part z y (outside last) j i) (outside (c.means removed)) =
+      (within_then (outside_within left_before) (same_within (outside_twice _ _))) in
+      let leads : IsWithin g.states (g.part z y (common (outside last) z) j i) (outside (c.means removed)) =
       within_then (mono.rises z z y y _ _ j i (within_here _ _) (within_here _ _) (same_within far.ends))
       (within_then (same_within (same_back same_n)) (same_within (same_back out))) in
       record {
@@ -91,8 +95,14 @@ module _ (g : Game) (mono : IsMonotone g) (z y : StateSet) (j i : ℕ) where
             (each_kept a.knows c.knows (λ id k. bc.known id (ab.known id k)) items far.chain_known) known;
         links = subst (λ (m : List StateSet). AreLinks g z y j i nowhere m) (sym e)
             (links_more g z y j i nowhere old (c.means removed) far.links grows leads);
-        ends = subst (λ (m : StateSet). IsSame g.states (outside m) N)
-            (sym (ap (last_link nowhere) e ∙ last_link_more nowhere old (c.means removed))) out;
+        ends = subst (λ (m : StateSet). IsSame g.states (common (outside m) z) N)
+            (sym (ap (last_link nowhere) e ∙ last_link_more nowhere old (c.means removed)))
+            (both_same (record {
+              within = λ s among here. sym (out.same s among) ∙ and_left (outside (c.means removed) s) (z s) here;
+            }) (record {
+              within = λ s among here. and_both (outside (c.means removed) s) (z s) (out.same s among ∙ here)
+                  (and_right (outside last s) (z s) (far.ends.same s among ∙ n_in_x.within s among here));
+            }));
       }
 
   -- the same, of the list that a push left
@@ -149,9 +159,9 @@ module _ (g : Game) (mono : IsMonotone g) (z y : StateSet) (j i : ℕ) where
           links = subst (λ (m : List StateSet). AreLinks g z y j i nowhere m) (sym e) far.links;
           stays = record {
             only = λ s among here. fixed.only s among (sym (far.ends.same s among)
-                ∙ subst (λ (m : List StateSet). outside (last_link nowhere m) s ≡ true) e here);
-            all = λ s among stay. subst (λ (m : List StateSet). outside (last_link nowhere m) s ≡ true) (sym e)
-                (far.ends.same s among ∙ fixed.all s among stay);
+                ∙ subst (λ (m : List StateSet). common (outside (last_link nowhere m)) z s ≡ true) e here);
+            all = λ s among stay. subst (λ (m : List StateSet). common (outside (last_link nowhere m)) z s ≡ true)
+                (sym e) (far.ends.same s among ∙ fixed.all s among stay);
           };
         };
       }

@@ -2,14 +2,15 @@
 use Rattle.std.specs.Prelude.{◌≡◌, ℕ, ◌<◌, true, false, List, [], ◌∷◌, length, slice_get, Some}
 use Rattle.tm_sem.specs.State.{StateData}
 use Rattle.tm_sem.specs.Certificates.{Level, nowhere}
-use Rattle.tm_solve.specs.Sets.{StateSet, IsAmong, IsWithin, IsSame, Gains, outside}
+use Rattle.tm_solve.specs.Sets.{StateSet, IsAmong, IsWithin, IsSame, Gains, outside, common}
 use Rattle.tm_solve.specs.Game.{Game}
+use Rattle.tm_solve.specs.Narrowed.{narrowed}
 
--- the sets of a chain grow, and each leaves in what the operator makes of what the set before it left in
+-- the sets of a chain grow, and each leaves in what the operator makes of what the set before it left in of Z
 abbrev pub AreLinks : Game → StateSet → StateSet → ℕ → ℕ → StateSet → List StateSet → Type 0
 AreLinks g z y j i before [] = Unit {0}
 AreLinks g z y j i before (c ∷ cs) =
-    (IsWithin g.states before c × IsWithin g.states (g.part z y (outside before) j i) (outside c))
+    (IsWithin g.states before c × IsWithin g.states (g.part z y (common (outside before) z) j i) (outside c))
     × AreLinks g z y j i c cs
 
 -- the last set of a chain, or the one before the first where there is none
@@ -17,10 +18,11 @@ abbrev pub last_link : StateSet → List StateSet → StateSet
 last_link before [] = before
 last_link before (c ∷ cs) = last_link c cs
 
--- a chain of a level is not empty and lies in the level, and its last set holds each new state
+-- a chain of a level is not empty and lies in the level, it leads on at states outside the level before, and its last
+-- set holds each new state
 pub record ChainFits (g : Game) (before : StateSet) (l : Level) (i : ℕ) (chain : List StateSet) : Type 0 where
   pub some : 0 < length chain
-  pub links : AreLinks g (outside before) (outside l.set) l.goal i nowhere chain
+  pub links : AreLinks (narrowed g (outside before)) (outside before) (outside l.set) l.goal i nowhere chain
   pub inside : IsWithin g.states (last_link nowhere chain) l.set
   pub ends : (s : StateData) → IsAmong s g.states → before s ≡ false → l.set s ≡ true →
       last_link nowhere chain s ≡ true

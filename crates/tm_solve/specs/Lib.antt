@@ -6,6 +6,7 @@ pub mod Ids
 pub mod Inner
 pub mod Iterates
 pub mod Levels
+pub mod Narrowed
 pub mod Operator
 pub mod OperatorLaws
 pub mod Ranks

@@ -1,5 +1,5 @@
 -- Sets of states, as tests, compared at the states of a list.
-use Rattle.std.specs.Prelude.{◌≡◌, ◌⊎◌, ℕ, ◌+◌, Bool, true, false, not, List, [], ◌∷◌, if◌then◌else◌}
+use Rattle.std.specs.Prelude.{◌≡◌, ◌⊎◌, ℕ, ◌+◌, Bool, true, false, not, ◌&&◌, List, [], ◌∷◌, if◌then◌else◌}
 use Rattle.tm_sem.specs.State.{StateData}
 
 -- a set of states
@@ -9,6 +9,10 @@ StateSet = StateData → Bool
 -- the states that a set leaves out
 abbrev pub outside : StateSet → StateSet
 outside a s = not (a s)
+
+-- the states in both of two sets
+abbrev pub common : StateSet → StateSet → StateSet
+common a b s = a s && b s
 
 -- every state
 abbrev pub everywhere : StateSet

@@ -1,7 +1,8 @@
-//! The states in which a fairness condition is waited for: the greatest fixpoint over X.
+//! The states in which a fairness condition is waited for: the greatest fixpoint over X, within Z.
 ghost use Rattle.std.specs.Prelude.{◌<◌, IfOk};
 ghost use Rattle.tm_solve.specs.Ids.{Follows};
 ghost use Rattle.tm_solve.specs.Inner.Waits.{IsWaited};
+ghost use Rattle.tm_solve.specs.Narrowed.{narrowed};
 
 use crate::ids::same;
 use crate::iterates::Chain;
@@ -16,7 +17,7 @@ pub(crate) struct Waited {
     pub(crate) chain: Chain,
 }
 
-// nu X . part(z, y, X, goal, fair), from all states down.
+// nu X . part(z, y, X, goal, fair) within z, from z down: what is outside z is lost already.
 pub(crate) fn wait<P: Pre>(
     alloc: Global,
     pre: &mut P,
@@ -29,15 +30,16 @@ pub(crate) fn wait<P: Pre>(
     requires y_known { (P.ids pre.old).knows y }
     requires goal { goal < (P.game pre.old).goals }
     requires fair { fair < (P.game pre.old).fairs }
-    ensures waited { IfOk result (λ w. IsWaited (P.game pre.old) (P.ids pre.new) ((P.ids pre.old).means z)
-        ((P.ids pre.old).means y) goal fair w) }
+    ensures waited { let Z = (P.ids pre.old).means z in IfOk result (λ w.
+        IsWaited (narrowed (P.game pre.old) Z) (P.ids pre.new) Z ((P.ids pre.old).means y) goal fair w) }
     ensures follows { Follows (P.game pre.old) (P.ids pre.old) (P.game pre.new) (P.ids pre.new) }
 {
     let whole = pre.whole();
     let mut sets = Vec::new(alloc);
-    let mut x = whole;
+    let mut x = z;
     'iterates: loop {
-        let next = pre.part(z, y, x, goal, fair)?;
+        let made = pre.part(z, y, x, goal, fair)?;
+        let next = pre.meet(made, z)?;
         if same(next, x) {
             return Ok(Waited {
                 set: x,

@@ -2,6 +2,7 @@
 ghost use Rattle.std.specs.Prelude.{◌<◌, IfOk};
 ghost use Rattle.tm_solve.specs.Ids.{Follows};
 ghost use Rattle.tm_solve.specs.Inner.Goals.{IsReached};
+ghost use Rattle.tm_solve.specs.Narrowed.{narrowed};
 
 use crate::ids::same;
 use crate::iterates::{Chain, Ranking};
@@ -18,7 +19,7 @@ pub(crate) struct Reached {
     pub(crate) chains: Vec<Chain>,
 }
 
-// mu Y . OR_i nu X . part(z, Y, X, goal, i), from no state up.
+// mu Y . OR_i nu X . part(z, Y, X, goal, i) within z, from no state up.
 pub(crate) fn reach<P: Pre>(
     alloc: Global,
     pre: &mut P,
@@ -27,7 +28,8 @@ pub(crate) fn reach<P: Pre>(
 ) -> Result<Reached, AllocError>
     requires z_known { (P.ids pre.old).knows z }
     requires goal { goal < (P.game pre.old).goals }
-    ensures reached { IfOk result (λ r. IsReached (P.game pre.old) (P.ids pre.new) ((P.ids pre.old).means z) goal r) }
+    ensures reached { let Z = (P.ids pre.old).means z in IfOk result (λ r.
+        IsReached (narrowed (P.game pre.old) Z) (P.ids pre.new) Z goal r) }
     ensures follows { Follows (P.game pre.old) (P.ids pre.old) (P.game pre.new) (P.ids pre.new) }
 {
     let whole = pre.whole();

@@ -2,6 +2,7 @@
 ghost use Rattle.std.specs.Prelude.{◌<◌, ◌&&◌, IfOk};
 ghost use Rattle.tm_solve.specs.Ids.{Follows, Is};
 ghost use Rattle.tm_solve.specs.Inner.Rounds.{AddsLevel, IsLeveled, IsRemaining};
+ghost use Rattle.tm_solve.specs.Narrowed.{narrowed};
 
 use crate::goals::reach;
 use crate::ids::same;
@@ -17,8 +18,8 @@ pub(crate) struct Remaining {
     pub(crate) ranks: Vec<Ranking>,
 }
 
-// The states of z in AND_j mu Y . OR_i nu X . part(z, Y, X, j, i). Each goal that loses a state adds a level. Levels
-// that led to all outside z lead to all outside what is left.
+// The states of z in AND_j mu Y . OR_i nu X . part(z, Y, X, j, i) within z. Each goal that loses a state adds a level.
+// Levels that led to all outside z lead to all outside what is left.
 pub(crate) fn play_round<P: Pre>(
     alloc: Global,
     pre: &mut P,
@@ -26,7 +27,8 @@ pub(crate) fn play_round<P: Pre>(
     levels: &mut Vec<LevelSet>,
 ) -> Result<Remaining, AllocError>
     requires z_known { (P.ids pre.old).knows z }
-    ensures remaining { IfOk result (λ r. IsRemaining (P.game pre.old) (P.ids pre.new) ((P.ids pre.old).means z) r) }
+    ensures remaining { let Z = (P.ids pre.old).means z in IfOk result (λ r.
+        IsRemaining (narrowed (P.game pre.old) Z) (P.ids pre.new) Z r) }
     ensures leveled { IfOk result (λ r. IsLeveled (P.game pre.old) (P.ids pre.old) z levels.old.items
         → IsLeveled (P.game pre.old) (P.ids pre.new) r.region levels.new.items) }
     ensures follows { Follows (P.game pre.old) (P.ids pre.old) (P.game pre.new) (P.ids pre.new) }

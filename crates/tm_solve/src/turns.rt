@@ -2,6 +2,7 @@
 ghost use Rattle.std.specs.Prelude.{◌<◌, ◌||◌, IfOk};
 ghost use Rattle.tm_solve.specs.Ids.{Follows, Is};
 ghost use Rattle.tm_solve.specs.Inner.Turns.{AddsRank, IsRanked, IsTurned};
+ghost use Rattle.tm_solve.specs.Narrowed.{narrowed};
 
 use crate::conditions::wait;
 use crate::ids::same;
@@ -17,7 +18,7 @@ pub(crate) struct Turned {
     pub(crate) chains: Vec<Chain>,
 }
 
-// y and OR_i nu X . part(z, y, X, goal, i). Each condition that adds a state adds a ranked set.
+// y and OR_i nu X . part(z, y, X, goal, i) within z. Each condition that adds a state adds a ranked set.
 pub(crate) fn take_turn<P: Pre>(
     alloc: Global,
     pre: &mut P,
@@ -29,11 +30,12 @@ pub(crate) fn take_turn<P: Pre>(
     requires z_known { (P.ids pre.old).knows z }
     requires y_known { (P.ids pre.old).knows y }
     requires goal { goal < (P.game pre.old).goals }
-    requires ranked { IsRanked (P.game pre.old) (P.ids pre.old) ((P.ids pre.old).means z) goal y ranks.old.items }
-    ensures turned { IfOk result (λ t. IsTurned (P.game pre.old) (P.ids pre.new) ((P.ids pre.old).means z)
-        ((P.ids pre.old).means y) goal t) }
-    ensures ranked { IfOk result (λ t. IsRanked (P.game pre.old) (P.ids pre.new) ((P.ids pre.old).means z) goal t.set
-        ranks.new.items) }
+    requires ranked { let Z = (P.ids pre.old).means z in
+        IsRanked (narrowed (P.game pre.old) Z) (P.ids pre.old) Z goal y ranks.old.items }
+    ensures turned { let Z = (P.ids pre.old).means z in IfOk result (λ t.
+        IsTurned (narrowed (P.game pre.old) Z) (P.ids pre.new) Z ((P.ids pre.old).means y) goal t) }
+    ensures ranked { let Z = (P.ids pre.old).means z in IfOk result (λ t.
+        IsRanked (narrowed (P.game pre.old) Z) (P.ids pre.new) Z goal t.set ranks.new.items) }
     ensures follows { Follows (P.game pre.old) (P.ids pre.old) (P.game pre.new) (P.ids pre.new) }
 {
     let fairs = pre.fairs();

@@ -5,7 +5,7 @@ use Rattle.tm_sem.specs.State.{StateData}
 use Rattle.tm_sem.specs.Certificates.{nowhere}
 use Rattle.tm_solve.specs.declared.goals.Reached.{Reached}
 use Rattle.tm_solve.specs.declared.iterates.Chain.{Chain}
-use Rattle.tm_solve.specs.Sets.{StateSet, IsAmong, IsSame, outside}
+use Rattle.tm_solve.specs.Sets.{StateSet, IsAmong, IsSame, outside, common}
 use Rattle.tm_solve.specs.Game.{Game}
 use Rattle.tm_solve.specs.Ids.{Ids}
 use Rattle.tm_solve.specs.Fixpoints.{InReach, Holds}
@@ -13,10 +13,10 @@ use Rattle.tm_solve.specs.Levels.{AreLinks, last_link}
 use Rattle.tm_solve.specs.Iterates.{Each, KnowsChain, chain_sets}
 use Rattle.tm_solve.specs.Inner.Turns.{IsRanked}
 
--- a chain leads from no state to all outside Y
+-- a chain leads from no state to all that is in Z and outside Y
 pub record LeadsOut (g : Game) (z y : StateSet) (j i : ℕ) (sets : List StateSet) : Type 0 where
   pub links : AreLinks g z y j i nowhere sets
-  pub ends : IsSame g.states (outside (last_link nowhere sets)) y
+  pub ends : IsSame g.states (common (outside (last_link nowhere sets)) z) y
 
 -- one for each condition
 pub record LeadOut (g : Game) (ids : Ids) (z y : StateSet) (j : ℕ) (chains : List Chain) : Type 0 where

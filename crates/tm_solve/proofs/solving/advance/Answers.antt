@@ -5,8 +5,8 @@ use Rattle.tm_solve.proofs.solving.advance.Goals as goal
 pub returns-clause-begun : goal.returns-clause-begun
 returns-clause-begun g c =
     begun_on (g.P.Pre.game c.args.pre.now) (g.P.Pre.ids c.args.pre.now) c.args.begun c.requires.begun
-    (g.met.P.Pre.monotone c.args.pre.now) (g.P.Pre.ids c.play_round.new.pre) c.in_ok-remaining.remaining
-    c.in_ok-remaining.ensures.remaining
+    (g.P.Pre.ids c.play_round.new.pre) c.in_ok-remaining.remaining c.in_ok-remaining.ensures.remaining
+    (g.met.P.Pre.monotone c.args.pre.now) (g.met.P.Pre.absorbing c.args.pre.now)
     (record {
       region = c.in_ok-remaining.remaining.region;
       ranks = c.in_ok-remaining.remaining.ranks;
@@ -18,13 +18,11 @@ returns-clause-begun g c =
 pub returns-clause-ends : goal.returns-clause-ends
 returns-clause-ends g c = λ same.
     begun_ends (g.P.Pre.game c.args.pre.now) (g.P.Pre.ids c.args.pre.now) c.args.begun c.requires.begun
-    (g.met.P.Pre.monotone c.args.pre.now) (g.P.Pre.ids c.play_round.new.pre) c.in_ok-remaining.remaining
-    c.in_ok-remaining.ensures.remaining (g.met.P.Pre.absorbing c.args.pre.now)
+    (g.P.Pre.ids c.play_round.new.pre) c.in_ok-remaining.remaining c.in_ok-remaining.ensures.remaining
     c.play_round.ensures.follows.extends same
 
 pub returns-clause-falls : goal.returns-clause-falls
 returns-clause-falls g c = λ differ.
     begun_falls (g.P.Pre.game c.args.pre.now) (g.P.Pre.ids c.args.pre.now) c.args.begun c.requires.begun
-    (g.met.P.Pre.monotone c.args.pre.now) (g.P.Pre.ids c.play_round.new.pre) c.in_ok-remaining.remaining
-    c.in_ok-remaining.ensures.remaining c.play_round.ensures.follows.extends c.play_round.ensures.follows.exact
-    differ
+    (g.P.Pre.ids c.play_round.new.pre) c.in_ok-remaining.remaining c.in_ok-remaining.ensures.remaining
+    c.play_round.ensures.follows.extends c.play_round.ensures.follows.exact differ

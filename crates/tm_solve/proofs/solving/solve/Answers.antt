@@ -8,7 +8,7 @@ returns-then-same-clause-ranks g c =
     let inv = c.rounds.invariant in
     let r = remaining_at (g.P.Pre.game c.args.pre.now) (g.P.Pre.game c.rounds.pre) (g.P.Pre.ids c.play_round.new.pre) _
     c.in_ok-remaining.remaining inv.follows.game c.in_ok-remaining.ensures.remaining in
-    ranks_fit (g.P.Pre.game c.args.pre.now) (g.met.P.Pre.monotone c.args.pre.now) (g.met.P.Pre.absorbing c.args.pre.now)
+    ranks_fit (g.P.Pre.game c.args.pre.now)
     c.rounds.z c.in_ok-remaining.remaining inv.region r c.play_round.ensures.follows.extends
     (told_same c.if-same.ensures)
     (record { region = c.rounds.z; ranks = c.in_ok-remaining.remaining.ranks; levels = c.play_round.new.levels }) refl
@@ -19,7 +19,7 @@ returns-then-same-clause-last g c =
     let inv = c.rounds.invariant in
     let r = remaining_at (g.P.Pre.game c.args.pre.now) (g.P.Pre.game c.rounds.pre) (g.P.Pre.ids c.play_round.new.pre) _
     c.in_ok-remaining.remaining inv.follows.game c.in_ok-remaining.ensures.remaining in
-    last_ends (g.P.Pre.game c.args.pre.now) (g.met.P.Pre.monotone c.args.pre.now) (g.met.P.Pre.absorbing c.args.pre.now)
+    last_ends (g.P.Pre.game c.args.pre.now)
     c.rounds.z c.in_ok-remaining.remaining inv.region r c.play_round.ensures.follows.extends
     (told_same c.if-same.ensures)
     (record { region = c.rounds.z; ranks = c.in_ok-remaining.remaining.ranks; levels = c.play_round.new.levels }) refl
@@ -31,8 +31,7 @@ returns-then-same-clause-region g c =
     let inv = c.rounds.invariant in
     let r = remaining_at (g.P.Pre.game c.args.pre.now) (g.P.Pre.game c.rounds.pre) (g.P.Pre.ids c.play_round.new.pre) _
     c.in_ok-remaining.remaining inv.follows.game c.in_ok-remaining.ensures.remaining in
-    region_ends (g.P.Pre.game c.args.pre.now) (g.met.P.Pre.monotone c.args.pre.now)
-    (g.met.P.Pre.absorbing c.args.pre.now)
+    region_ends (g.P.Pre.game c.args.pre.now)
     c.rounds.z c.in_ok-remaining.remaining inv.region r c.play_round.ensures.follows.extends
     (told_same c.if-same.ensures)
 
@@ -66,7 +65,7 @@ rounds-smaller g c =
     let inv = c.rounds.invariant in
     let r = remaining_at (g.P.Pre.game c.args.pre.now) (g.P.Pre.game c.rounds.pre) (g.P.Pre.ids c.play_round.new.pre) _
     c.in_ok-remaining.remaining inv.follows.game c.in_ok-remaining.ensures.remaining in
-    region_shrinks (g.P.Pre.game c.args.pre.now) (g.met.P.Pre.monotone c.args.pre.now) c.rounds.z
+    region_shrinks (g.P.Pre.game c.args.pre.now) c.rounds.z
     c.in_ok-remaining.remaining inv.region r c.play_round.ensures.follows.extends
     (follows_then inv.follows c.play_round.ensures.follows).exact (told_other c.if-same.ensures)
 
@@ -77,7 +76,8 @@ rounds-preserved g c =
     c.in_ok-remaining.remaining inv.follows.game c.in_ok-remaining.ensures.remaining in
     record {
       follows = follows_then inv.follows c.play_round.ensures.follows;
-      region = region_goes_on (g.P.Pre.game c.args.pre.now) (g.met.P.Pre.monotone c.args.pre.now) c.rounds.z
+      region = region_goes_on (g.P.Pre.game c.args.pre.now) (g.met.P.Pre.monotone c.args.pre.now)
+          (g.met.P.Pre.absorbing c.args.pre.now) c.rounds.z
           c.in_ok-remaining.remaining inv.region r;
       leveled = leveled_at (g.P.Pre.game c.args.pre.now) (g.P.Pre.game c.rounds.pre) (g.P.Pre.ids c.play_round.new.pre)
           c.in_ok-remaining.remaining.region c.play_round.new.levels.items inv.follows.game

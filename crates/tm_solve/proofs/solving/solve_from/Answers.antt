@@ -8,7 +8,7 @@ returns-then-same-clause-ranks g c =
     let inv = c.rounds.invariant in
     let r = remaining_at (g.P.Pre.game c.args.pre.now) (g.P.Pre.game c.rounds.pre) (g.P.Pre.ids c.play_round.new.pre) _
     c.in_ok-played.played inv.follows.game c.in_ok-played.ensures.remaining in
-    ranks_fit (g.P.Pre.game c.args.pre.now) (g.met.P.Pre.monotone c.args.pre.now) (g.met.P.Pre.absorbing c.args.pre.now)
+    ranks_fit (g.P.Pre.game c.args.pre.now)
     c.rounds.z c.in_ok-played.played inv.region r c.play_round.ensures.follows.extends
     (told_same c.if-same.ensures)
     (record { region = c.rounds.z; ranks = c.in_ok-played.played.ranks; levels = c.new.result }) refl
@@ -19,7 +19,7 @@ returns-then-same-clause-last g c =
     let inv = c.rounds.invariant in
     let r = remaining_at (g.P.Pre.game c.args.pre.now) (g.P.Pre.game c.rounds.pre) (g.P.Pre.ids c.play_round.new.pre) _
     c.in_ok-played.played inv.follows.game c.in_ok-played.ensures.remaining in
-    last_ends (g.P.Pre.game c.args.pre.now) (g.met.P.Pre.monotone c.args.pre.now) (g.met.P.Pre.absorbing c.args.pre.now)
+    last_ends (g.P.Pre.game c.args.pre.now)
     c.rounds.z c.in_ok-played.played inv.region r c.play_round.ensures.follows.extends
     (told_same c.if-same.ensures)
     (record { region = c.rounds.z; ranks = c.in_ok-played.played.ranks; levels = c.new.result }) refl
@@ -31,8 +31,7 @@ returns-then-same-clause-region g c =
     let inv = c.rounds.invariant in
     let r = remaining_at (g.P.Pre.game c.args.pre.now) (g.P.Pre.game c.rounds.pre) (g.P.Pre.ids c.play_round.new.pre) _
     c.in_ok-played.played inv.follows.game c.in_ok-played.ensures.remaining in
-    region_ends (g.P.Pre.game c.args.pre.now) (g.met.P.Pre.monotone c.args.pre.now)
-    (g.met.P.Pre.absorbing c.args.pre.now)
+    region_ends (g.P.Pre.game c.args.pre.now)
     c.rounds.z c.in_ok-played.played inv.region r c.play_round.ensures.follows.extends
     (told_same c.if-same.ensures)
 
@@ -41,7 +40,7 @@ rounds-smaller g c =
     let inv = c.rounds.invariant in
     let r = remaining_at (g.P.Pre.game c.args.pre.now) (g.P.Pre.game c.rounds.pre) (g.P.Pre.ids c.play_round.new.pre) _
     c.in_ok-played.played inv.follows.game c.in_ok-played.ensures.remaining in
-    region_shrinks (g.P.Pre.game c.args.pre.now) (g.met.P.Pre.monotone c.args.pre.now) c.rounds.z
+    region_shrinks (g.P.Pre.game c.args.pre.now) c.rounds.z
     c.in_ok-played.played inv.region r c.play_round.ensures.follows.extends
     (follows_then inv.follows c.play_round.ensures.follows).exact (told_other c.if-same.ensures)
 
@@ -52,6 +51,7 @@ rounds-preserved g c =
     c.in_ok-played.played inv.follows.game c.in_ok-played.ensures.remaining in
     record {
       follows = follows_then inv.follows c.play_round.ensures.follows;
-      region = region_goes_on (g.P.Pre.game c.args.pre.now) (g.met.P.Pre.monotone c.args.pre.now) c.rounds.z
+      region = region_goes_on (g.P.Pre.game c.args.pre.now) (g.met.P.Pre.monotone c.args.pre.now)
+          (g.met.P.Pre.absorbing c.args.pre.now) c.rounds.z
           c.in_ok-played.played inv.region r;
     }
