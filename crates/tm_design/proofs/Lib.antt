@@ -1,3 +1,4 @@
+pub mod Apart
 pub mod ConstantValues
 pub mod Contexts
 pub mod CountedBodies
@@ -28,5 +29,6 @@ pub mod SettledDesigns
 pub mod SettledValues
 pub mod Sites
 pub mod SizedCalls
+pub mod StepCells
 pub mod TypedCells
 pub mod WrittenTypes

@@ -4,5 +4,6 @@ pub mod ProcessTexts
 pub mod Runnable
 pub mod Settled
 pub mod Sorts
+pub mod StepCells
 pub mod Typed
 pub mod Values

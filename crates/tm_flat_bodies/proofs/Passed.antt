@@ -37,7 +37,8 @@ use Rattle.tm_design.proofs.OperandCells.{TaskPlace, task_place}
 use Rattle.tm_flat.specs.Steps.{IsTerm}
 use Rattle.tm_flat.specs.Writes.{is_variable}
 use Rattle.tm_flat_exprs.specs.Kept.{KeptTerms, Keeps, type_at}
-use Rattle.tm_flat_exprs.specs.Merged.{AreApart, IsMemory}
+use Rattle.tm_design.specs.StepCells.{AreApart}
+use Rattle.tm_flat_exprs.specs.Merged.{IsMemory}
 use Rattle.tm_flat_exprs.proofs.Later.{Extends-refl}
 use Rattle.tm_flat_stmts.specs.Flows.{AreEnds, FlowTerms, HasTerm, IsFlow, PutsAt}
 use Rattle.tm_flat_stmts.specs.Statements.{Asks, HasValue}

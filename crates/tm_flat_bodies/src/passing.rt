@@ -11,7 +11,7 @@ ghost use Rattle.tm_scope.specs.Cells.{HasCells};
 ghost use Rattle.tm_syntax.specs.declared.tree.Ident.{Ident};
 ghost use Rattle.tm_flat_bodies.specs.Calls.{IsCallee};
 ghost use Rattle.tm_design.specs.Typed.{HasTypeAt};
-ghost use Rattle.tm_flat_exprs.specs.Merged.{AreApart};
+ghost use Rattle.tm_design.specs.StepCells.{AreApart};
 ghost use Rattle.tm_flat_stmts.specs.Flows.{AreEnds, IsFlow};
 ghost use Rattle.tm_flat_stmts.specs.Statements.{AreSettledCells};
 ghost use Rattle.tm_flat_stmts.specs.Targets.{HasTargetAt};

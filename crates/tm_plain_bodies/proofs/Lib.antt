@@ -1,5 +1,4 @@
 pub mod Answering
-pub mod Apart
 pub mod Arms
 pub mod Assigning
 pub mod Behind

@@ -20,7 +20,8 @@ use Rattle.tm_plain_bodies.specs.declared.course.Course.{Course}
 use Rattle.tm_plain_bodies.specs.Arguments.{AreGiven, AreValued}
 use Rattle.tm_plain_bodies.specs.Frames.{AreArguments}
 use Rattle.tm_plain_bodies.specs.Runs.{HasTypedCells, IsSame, told}
-use Rattle.tm_plain_exprs.specs.Kept.{AreApart, Keeps, put_all}
+use Rattle.tm_design.specs.StepCells.{AreApart}
+use Rattle.tm_plain_exprs.specs.Kept.{Keeps, put_all}
 use Rattle.tm_plain_bodies.proofs.Giving.{given_is, none_overruns}
 
 map_length : {A B : Type 0} (f : A → B) (xs : List A) → length (map f xs) ≡ length xs

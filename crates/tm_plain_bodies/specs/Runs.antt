@@ -25,7 +25,8 @@ use Rattle.tm_plain_bodies.specs.declared.course.Course.{Course}
 use Rattle.tm_plain_bodies.specs.declared.halt.Halt.{Halt}
 use Rattle.tm_plain_bodies.specs.declared.halt.Halt.TheVariants as halt
 use Rattle.tm_plain_bodies.specs.Going.{GoesOn, EndsWithin}
-use Rattle.tm_plain_exprs.specs.Kept.{Kept, AreApart, Keeps}
+use Rattle.tm_design.specs.StepCells.{AreApart}
+use Rattle.tm_plain_exprs.specs.Kept.{Kept, Keeps}
 use Rattle.tm_states.specs.Promised.{StmtIsPromised, RowIsPromised, BlocksArePromised}
 use Rattle.tm_design.specs.Typed.{context_at}
 use Rattle.tm_plain_exprs.specs.Valued.{IsValued, Overruns, Told}

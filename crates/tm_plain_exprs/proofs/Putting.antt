@@ -7,7 +7,8 @@ use Rattle.tm_scope.specs.Cells.{CellTables, ScopedCells, cell_at}
 use Rattle.tm_scope.specs.declared.cells.site_body.SiteBody.{SiteBody}
 use Rattle.tm_scope.specs.declared.cells.site_body.CellNumber.{CellNumber}
 use Rattle.tm_sem.specs.Value.{Memory, put}
-use Rattle.tm_plain_exprs.specs.Kept.{AreApart, Kept, Keeps, put_all}
+use Rattle.tm_design.specs.StepCells.{AreApart}
+use Rattle.tm_plain_exprs.specs.Kept.{Kept, Keeps, put_all}
 
 -- what stands at an index of two lists
 zip_get : {A B : Type 0} (xs : List A) (ys : List B) (k : ℕ) (x : A) (y : B) → slice_get xs k ≡ Some x →

@@ -28,7 +28,8 @@ use Rattle.tm_flat.specs.Inputs.{room}
 use Rattle.tm_flat.specs.Steps.{IsTerm}
 use Rattle.tm_flat.specs.Writes.{is_variable}
 use Rattle.tm_flat_exprs.specs.Kept.{KeptTerms, Keeps, type_at}
-use Rattle.tm_flat_exprs.specs.Merged.{AreApart, IsMemory}
+use Rattle.tm_design.specs.StepCells.{AreApart}
+use Rattle.tm_flat_exprs.specs.Merged.{IsMemory}
 use Rattle.tm_flat_stmts.specs.Flows.{FlowTerms, HasTerm, LeadsOn, MakesJoinIfThere, Narrows}
 use Rattle.tm_flat_stmts.specs.Statements.{Asks, HasValue}
 use Rattle.tm_flat_stmts.specs.declared.places.TargetPlace.{TargetPlace}
