@@ -1,3 +1,4 @@
+pub mod Callees
 pub mod Inner
 pub mod Parameters
 pub mod ProcessTexts

@@ -2,6 +2,7 @@
 //! runs ask for.
 #![tactic(auto)]
 
+mod callees;
 mod location_counts;
 mod parameters;
 mod runnable_laws;
@@ -11,6 +12,7 @@ mod sorts;
 mod step_cells;
 mod types;
 
+pub use callees::{Callee, callee};
 pub use location_counts::processes_have_the_locations_of_their_text;
 pub use parameters::parameter_cells;
 pub use runnable_laws::sound_designs_of_texts_are_fit;

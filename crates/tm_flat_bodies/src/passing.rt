@@ -9,7 +9,7 @@ ghost use Rattle.tm_design.specs.Values.{HasParameters};
 ghost use Rattle.tm_syntax.specs.Design.{DesignTree};
 ghost use Rattle.tm_scope.specs.Cells.{HasCells};
 ghost use Rattle.tm_syntax.specs.declared.tree.Ident.{Ident};
-ghost use Rattle.tm_flat_bodies.specs.Calls.{IsCallee};
+ghost use Rattle.tm_design.specs.Callees.{IsCallee};
 ghost use Rattle.tm_design.specs.Typed.{HasTypeAt};
 ghost use Rattle.tm_design.specs.StepCells.{AreApart};
 ghost use Rattle.tm_flat_stmts.specs.Flows.{AreEnds, IsFlow};

@@ -40,11 +40,13 @@ use Rattle.tm_design.proofs.Contexts.{context_here, of_site}
 use Rattle.tm_design.proofs.Indices.{in_enumerated}
 use Rattle.tm_design.proofs.OperandCells.{TaskPlace, task_place}
 use Rattle.tm_plain_bodies.specs.declared.frame.Frame.{Frame}
-use Rattle.tm_plain_bodies.specs.Calls.{IsCallee, NestsWithin, RunsTask}
+use Rattle.tm_design.specs.Callees.{IsCallee, RunsTask}
+use Rattle.tm_plain_bodies.specs.Calls.{NestsWithin}
 use Rattle.tm_plain_bodies.specs.Frames.{BodyFits, CallFits, IsCalled}
 use Rattle.tm_plain_bodies.specs.Tables.{IsReady, body_of, tables_of}
 use Rattle.tm_states.specs.Promised.{IsPromised}
-use Rattle.tm_plain_bodies.proofs.Found.{and_then_is, map_is, own_cells}
+use Rattle.tm_design.proofs.Found.{and_then_is, map_is}
+use Rattle.tm_plain_bodies.proofs.Found.{own_cells}
 use Rattle.tm_plain_bodies.proofs.Nesting.{nests_call, stands_somewhere}
 use Rattle.tm_states.proofs.Promised.{answer_promised, body_promised}
 

@@ -24,6 +24,5 @@ pub mod Returning
 pub mod Shapes
 pub mod Stacks
 pub mod Stepping
-pub mod TableCalls
 pub mod Targets
 pub mod Weights

@@ -38,7 +38,7 @@ use Rattle.tm_flat_bodies.specs.declared.arguments.Arguments.{Arguments}
 use Rattle.tm_flat_bodies.specs.declared.called.CalledTask.{CalledTask}
 use Rattle.tm_flat_bodies.specs.declared.course.Course.{Course}
 use Rattle.tm_flat_bodies.specs.declared.stand.Stand.{Stand}
-use Rattle.tm_flat_bodies.specs.Calls.{IsCallee}
+use Rattle.tm_design.specs.Callees.{IsCallee}
 use Rattle.tm_flat_bodies.specs.Walks.{InEach, IsStand, IsTrailOf, WalkTables}
 
 -- a path that may be called: it leads to a task, and calls nest deep enough
