@@ -9,14 +9,14 @@
 //! the bytes 127, 128, 254 and 255, and a `\` before any other sign for that sign.
 #![tactic(auto)]
 
+mod answers;
 mod escapes;
 mod table;
 mod tables;
 mod tally;
 mod words;
 
+pub use answers::{Answers, check_tables};
 pub use escapes::{escaped, unescaped};
-pub use table::{Case, Row, read_cases, read_table};
-pub use tables::{Table, cut_tables};
-pub use tally::Tally;
+pub use table::{Case, read_cases, read_table};
 pub use words::{number, numbers, split_word};

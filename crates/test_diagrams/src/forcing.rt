@@ -49,27 +49,19 @@ fn moves(bench: &mut Workbench, game: &GameDiagrams, set: NodeId) -> Result<Node
     game.legal_move(&mut bench.dd, step, set)
 }
 
-/// Where the driver stays in a set.
-fn stays(
-    bench: &mut Workbench,
-    game: &GameDiagrams,
-    recent: &mut Recent,
-    set: NodeId,
-) -> Result<NodeId, AllocError>
-    requires { AreAnswers bench.old.dd.table (game_of bench.old.dd.table game.now) recent.old }
-    ensures { AreAnswers bench.new.dd.table (game_of bench.new.dd.table game.now) recent.new }
-{
-    if !knows_game(&bench.dd, game) || !knows(&bench.dd, set) {
-        return Ok(bench.unknown());
-    }
-    game.cpre(&mut bench.dd, recent, set)
+/// Who leads to a set.
+#[derive(Clone, Copy)]
+enum Player {
+    Driver,
+    Environment,
 }
 
-/// From where the environment forces a set.
-fn forced(
+/// Where the driver stays in a set, or from where the environment forces it.
+fn predecessor(
     bench: &mut Workbench,
     game: &GameDiagrams,
     recent: &mut Recent,
+    player: Player,
     set: NodeId,
 ) -> Result<NodeId, AllocError>
     requires { AreAnswers bench.old.dd.table (game_of bench.old.dd.table game.now) recent.old }
@@ -78,7 +70,10 @@ fn forced(
     if !knows_game(&bench.dd, game) || !knows(&bench.dd, set) {
         return Ok(bench.unknown());
     }
-    game.epre(&mut bench.dd, recent, set)
+    match player {
+        Player::Driver => game.cpre(&mut bench.dd, recent, set),
+        Player::Environment => game.epre(&mut bench.dd, recent, set),
+    }
 }
 
 /// Both predecessors of a set, and the first one again, by what was answered before.
@@ -90,9 +85,9 @@ fn predecessors(
 ) -> Result<[NodeId; 3], AllocError>
     requires { AreAnswers bench.old.dd.table (game_of bench.old.dd.table game.now) recent.old }
 {
-    let first = stays(bench, game, recent, set)?;
-    let second = forced(bench, game, recent, set)?;
-    let again = stays(bench, game, recent, set)?;
+    let first = predecessor(bench, game, recent, Player::Driver, set)?;
+    let second = predecessor(bench, game, recent, Player::Environment, set)?;
+    let again = predecessor(bench, game, recent, Player::Driver, set)?;
     Ok([first, second, again])
 }
 

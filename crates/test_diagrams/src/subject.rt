@@ -4,7 +4,7 @@ use crate::bits::{self, Bench, bench_of_text};
 use crate::diagrams::Diagrams;
 use crate::forcing::Forcing;
 use crate::solving;
-use case_rows::number;
+use case_rows::{Answers, number};
 use std::alloc::{AllocError, Global};
 
 /// What the rows of a case ask of.
@@ -43,24 +43,31 @@ fn forcing_of(alloc: Global) -> Result<Subject, AllocError> {
     }
 }
 
-/// What the rows below a text ask of, in the table of this name.
-pub fn subject_of(alloc: Global, name: &str, text: &str) -> Result<Subject, AllocError> {
-    match name {
-        "bits" => bits_of(alloc, text),
-        "diagrams" => diagrams_of(alloc, number(text)),
-        "forcing" => forcing_of(alloc),
-        "solving" => Ok(Subject::Solving),
-        _ => Ok(Subject::Nothing),
+impl Answers for Subject {
+    fn new(alloc: Global, table: &str, text: &str) -> Result<Subject, AllocError> {
+        let text = text.trim_end();
+        match table {
+            "bits" => bits_of(alloc, text),
+            "diagrams" => diagrams_of(alloc, number(text)),
+            "forcing" => forcing_of(alloc),
+            "solving" => Ok(Subject::Solving),
+            _ => Ok(Subject::Nothing),
+        }
     }
-}
 
-/// The answer to the question of a row.
-pub fn answer(alloc: Global, subject: &mut Subject, question: &str) -> Result<String, AllocError> {
-    match subject {
-        Subject::Bits(bench) => bits::answer(alloc, bench, question),
-        Subject::Diagrams(diagrams) => diagrams.answer(alloc, question),
-        Subject::Forcing(forcing) => forcing.answer(alloc, question),
-        Subject::Solving => solving::answer(alloc, question),
-        Subject::Nothing => String::from_str(alloc, "nothing is asked"),
+    fn answer(
+        &mut self,
+        alloc: Global,
+        _table: &str,
+        _text: &str,
+        question: &str,
+    ) -> Result<String, AllocError> {
+        match self {
+            Subject::Bits(bench) => bits::answer(alloc, bench, question),
+            Subject::Diagrams(diagrams) => diagrams.answer(alloc, question),
+            Subject::Forcing(forcing) => forcing.answer(alloc, question),
+            Subject::Solving => solving::answer(alloc, question),
+            Subject::Nothing => String::from_str(alloc, "nothing is asked"),
+        }
     }
 }

@@ -18,7 +18,7 @@ mod states;
 mod steps;
 mod updates;
 
-use case_rows::{Case, Row, Table, Tally, cut_tables, read_cases, read_table};
+use case_rows::{Answers, check_tables};
 use reading::design_of;
 use std::alloc::{AllocError, Global};
 use std::io;
@@ -28,16 +28,16 @@ use tm_plain::{Machine, Tables};
 use tm_syntax::design::Design;
 
 /// The answer to a question about a game, in a table of this name.
-fn answer_to(
+fn answer_by_game(
     alloc: Global,
-    name: &str,
+    table: &str,
     machine: &Machine,
     game: &mut Game,
     question: &str,
 ) -> Result<String, AllocError>
     requires pooled { (d : DesignTree) × IsPooled d game.old }
 {
-    match name {
+    match table {
         "updates" => updates::answer_to(alloc, machine, game, question),
         "games" => games::answer_to(alloc, machine, game, question),
         "cells" => cells::answer_to(alloc, machine, game, question),
@@ -45,99 +45,91 @@ fn answer_to(
     }
 }
 
-/// Answers a row, with a game of its own.
-fn check_row<R: Print + AllocGlobal>(
-    rt: &R,
-    name: &str,
+/// The same, by a machine of the design.
+fn answer_by_machine(
+    alloc: Global,
+    table: &str,
     design: &Design,
     machine: &Machine,
-    row: &Row,
-    tally: &mut Tally,
-) -> io::Result<()>
+    question: &str,
+) -> Result<String, AllocError>
     requires sound { IsSound (design_tree design.now) }
     requires read { IsOfText (spec_tree design.now.spec) }
 {
-    let mut game = game_of(rt.alloc(), design)?;
-    let found = answer_to(rt.alloc(), name, machine, &mut game, row.question)?;
-    tally.note(rt, row, found.as_str())
-}
-
-/// Answers rows one behind the other, in a table of this name.
-fn check_rows<R: Print + AllocGlobal>(
-    rt: &R,
-    name: &str,
-    design: &Design,
-    machine: &Machine,
-    rows: &[Row],
-    tally: &mut Tally,
-) -> io::Result<()>
-    requires sound { IsSound (design_tree design.now) }
-    requires read { IsOfText (spec_tree design.now.spec) }
-{
-    for row in rows {
-        check_row(rt, name, design, machine, row, tally)?;
+    match game_of(alloc, design) {
+        Ok(mut game) => {
+            let found = answer_by_game(alloc, table, machine, &mut game, question);
+            drop(game);
+            found
+        }
+        Err(error) => Err(error),
     }
-    Ok(())
 }
 
 /// The same, by the tables of the design.
-fn check_tables<R: Print + AllocGlobal>(
-    rt: &R,
-    name: &str,
+fn answer_by_tables(
+    alloc: Global,
+    table: &str,
     design: &Design,
     tables: &Tables,
-    rows: &[Row],
-    tally: &mut Tally,
-) -> io::Result<()>
+    question: &str,
+) -> Result<String, AllocError>
     requires sound { IsSound (design_tree design.now) }
     requires read { IsOfText (spec_tree design.now.spec) }
 {
-    let machine = Machine::new(rt.alloc(), tables)?;
-    check_rows(rt, name, design, &machine, rows, tally)
+    match Machine::new(alloc, tables) {
+        Ok(machine) => {
+            let found = answer_by_machine(alloc, table, design, &machine, question);
+            drop(machine);
+            found
+        }
+        Err(error) => Err(error),
+    }
 }
 
 /// The same, by the design alone.
-fn check_design<R: Print + AllocGlobal>(
-    rt: &R,
-    name: &str,
+fn answer_by_design(
+    alloc: Global,
+    table: &str,
     design: &Design,
-    rows: &[Row],
-    tally: &mut Tally,
-) -> io::Result<()>
+    question: &str,
+) -> Result<String, AllocError>
     requires sound { IsSound (design_tree design.now) }
     requires read { IsOfText (spec_tree design.now.spec) }
 {
-    let tables = Tables::new(rt.alloc(), design)?;
-    check_tables(rt, name, design, &tables, rows, tally)
-}
-
-/// Answers a case about a design, in a table of this name.
-fn check_text<R: Print + AllocGlobal>(
-    rt: &R,
-    name: &str,
-    case: &Case,
-    tally: &mut Tally,
-) -> io::Result<()> {
-    match design_of(rt.alloc(), case.text.as_bytes()) {
-        Some(design) => check_design(rt, name, &design, &case.rows, tally),
-        None => println!(rt; "this has a fault: {}", case.text),
+    match Tables::new(alloc, design) {
+        Ok(tables) => {
+            let found = answer_by_tables(alloc, table, design, &tables, question);
+            drop(tables);
+            found
+        }
+        Err(error) => Err(error),
     }
 }
 
-/// Answers a table, and prints its name and how many of its rows have passed.
-fn check_table<R: Print + AllocGlobal>(rt: &R, table: &Table) -> io::Result<()> {
-    println!(rt; "== {}", table.name)?;
-    let mut tally = Tally::new();
-    for case in &read_cases(rt.alloc(), table.text.as_str())? {
-        check_text(rt, table.name, case, &mut tally)?;
+/// What answers rows: each with a game of its own.
+#[derive(Drop)]
+struct Rows;
+
+impl Answers for Rows {
+    fn new(_alloc: Global, _table: &str, _text: &str) -> Result<Rows, AllocError> {
+        Ok(Rows)
     }
-    tally.tell(rt)
+
+    fn answer(
+        &mut self,
+        alloc: Global,
+        table: &str,
+        text: &str,
+        question: &str,
+    ) -> Result<String, AllocError> {
+        match design_of(alloc, text.as_bytes()) {
+            Some(design) => answer_by_design(alloc, table, &design, question),
+            None => String::from_str(alloc, "faulty"),
+        }
+    }
 }
 
 fn main(rt: HostRuntime) -> io::Result<()> {
-    let input = read_table(&rt)?;
-    for table in &cut_tables(rt.alloc(), input.as_str())? {
-        check_table(&rt, table)?;
-    }
-    Ok(())
+    check_tables::<Rows, HostRuntime>(&rt)
 }

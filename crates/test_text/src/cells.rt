@@ -13,61 +13,34 @@ mod answers;
 mod parameters;
 
 use crate::pausing::pausing;
-use answers::answer_to;
-use case_rows::{Row, Tally};
-use std::io;
+use answers::answer_by_cells;
+use std::alloc::{AllocError, Global};
 use tm_scope::{Cells, Scopes, TaskSet};
-use tm_syntax::design::{Design, Instance};
-use tm_syntax::tree::Spec;
+use tm_syntax::design::Design;
 
-/// Answers rows by the tables of cells.
-fn check_rows<R: Print + AllocGlobal>(
-    rt: &R,
-    cells: &Cells,
-    spec: &Spec,
-    instances: &[Instance],
-    rows: &[Row],
-    tally: &mut Tally,
-) -> io::Result<()>
-    requires { cells.now
-        ≡ record { spec = spec.now; instances = instances.now; vars = cells.now.vars } }
-{
-    for row in rows {
-        let found = answer_to(rt.alloc(), cells, spec, instances, row.question)?;
-        tally.note(rt, row, found.as_str())?;
-    }
-    Ok(())
-}
-
-/// Answers rows by the tables of names, and the tasks that may pause.
-fn check_tables<R: Print + AllocGlobal>(
-    rt: &R,
+/// The answer to a question by the tables of names, and the tasks that may pause.
+fn answer_by_scopes(
+    alloc: Global,
     design: &Design,
     scopes: &Scopes,
     pausing: &TaskSet,
-    rows: &[Row],
-    tally: &mut Tally,
-) -> io::Result<()>
+    question: &str,
+) -> Result<String, AllocError>
     requires text { scopes.now ≡ design.now.spec }
     requires pausing { ArePausing (spec_tree design.now.spec) pausing.now }
 {
     let spec = &design.spec;
     let instances = design.instances.as_slice();
     let vars = design.vars.as_slice();
-    let cells = Cells::new(rt.alloc(), spec, scopes, instances, vars, pausing)?;
-    check_rows(rt, &cells, spec, instances, rows, tally)
+    let cells = Cells::new(alloc, spec, scopes, instances, vars, pausing)?;
+    answer_by_cells(alloc, &cells, spec, instances, question)
 }
 
-/// Answers rows about the cells of a design.
-pub fn check_design<R: Print + AllocGlobal>(
-    rt: &R,
-    design: &Design,
-    rows: &[Row],
-    tally: &mut Tally,
-) -> io::Result<()> {
-    let scopes = Scopes::new(rt.alloc(), &design.spec)?;
-    match pausing(rt.alloc(), &scopes)? {
-        Some(pausing) => check_tables(rt, design, &scopes, &pausing, rows, tally),
-        None => println!(rt; "calls go in a circle"),
+/// The answer to a question about the cells of a design.
+pub fn answer_to(alloc: Global, design: &Design, question: &str) -> Result<String, AllocError> {
+    let scopes = Scopes::new(alloc, &design.spec)?;
+    match pausing(alloc, &scopes)? {
+        Some(pausing) => answer_by_scopes(alloc, design, &scopes, &pausing, question),
+        None => String::from_str(alloc, "calls go in a circle"),
     }
 }

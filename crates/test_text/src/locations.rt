@@ -12,35 +12,14 @@
 mod answers;
 mod lines;
 
-use answers::answer_to;
-use case_rows::{Row, Tally};
-use std::io;
-use tm_locations::Locations;
+use answers::answer_by_table;
+use std::alloc::{AllocError, Global};
 use tm_plain::{Tables, locate};
 
-/// Answers rows about the locations of a process.
-fn check_rows<R: Print + AllocGlobal>(
-    rt: &R,
-    table: &Locations,
-    rows: &[Row],
-    tally: &mut Tally,
-) -> io::Result<()> {
-    for row in rows {
-        let found = answer_to(rt.alloc(), table, row.question)?;
-        tally.note(rt, row, found.as_str())?;
-    }
-    Ok(())
-}
-
-/// Answers rows about the first process of a design, by the tables of the design.
-pub fn check_process<R: Print + AllocGlobal>(
-    rt: &R,
-    tables: &Tables,
-    rows: &[Row],
-    tally: &mut Tally,
-) -> io::Result<()> {
-    match locate(rt.alloc(), tables)?.first() {
-        Some(table) => check_rows(rt, table, rows, tally),
-        None => println!(rt; "there is no process"),
+/// The answer to a question about the first process of a design, by the tables of the design.
+pub fn answer_to(alloc: Global, tables: &Tables, question: &str) -> Result<String, AllocError> {
+    match locate(alloc, tables)?.first() {
+        Some(table) => answer_by_table(alloc, table, question),
+        None => String::from_str(alloc, "there is no process"),
     }
 }

@@ -20,66 +20,47 @@ mod plain;
 mod play;
 mod validity;
 
-use case_rows::{Row, Tally};
 use plain::plain_answer;
 use play::play_answer;
 use std::alloc::{AllocError, Global};
-use std::io;
 use tm_plain::{Machine, Tables};
 use tm_sem::state::State;
 use tm_syntax::design::Design;
 
-/// The answer to the question of a row, at the last state.
-fn answer_to(
+/// The answer to the question of a row by a machine of the design, at the last state.
+fn answer_by_machine(
     alloc: Global,
     design: &Design,
     machine: &Machine,
-    state: &mut State,
+    last: &mut State,
     question: &str,
 ) -> Result<String, AllocError>
     requires sound { IsSound (design_tree design.now) }
     requires read { IsOfText (spec_tree design.now.spec) }
 {
     match question.strip_prefix("plain ") {
-        Some(rest) => plain_answer(alloc, design, state, rest),
-        None => play_answer(alloc, machine, state, question),
+        Some(rest) => plain_answer(alloc, design, last, rest),
+        None => play_answer(alloc, machine, last, question),
     }
 }
 
-/// Answers rows one behind the other.
-fn check_rows<R: Print + AllocGlobal>(
-    rt: &R,
-    design: &Design,
-    machine: &Machine,
-    rows: &[Row],
-    tally: &mut Tally,
-) -> io::Result<()>
-    requires sound { IsSound (design_tree design.now) }
-    requires read { IsOfText (spec_tree design.now.spec) }
-{
-    let mut state = State {
-        values: Vec::new(rt.alloc()),
-        places: Vec::new(rt.alloc()),
-        last: 0,
-    };
-    for row in rows {
-        let found = answer_to(rt.alloc(), design, machine, &mut state, row.question)?;
-        tally.note(rt, row, found.as_str())?;
-    }
-    Ok(())
-}
-
-/// Answers the rows of a design, by its tables.
-pub fn check_tables<R: Print + AllocGlobal>(
-    rt: &R,
+/// The same, by the tables of the design.
+pub fn answer_to(
+    alloc: Global,
     design: &Design,
     tables: &Tables,
-    rows: &[Row],
-    tally: &mut Tally,
-) -> io::Result<()>
+    last: &mut State,
+    question: &str,
+) -> Result<String, AllocError>
     requires sound { IsSound (design_tree design.now) }
     requires read { IsOfText (spec_tree design.now.spec) }
 {
-    let machine = Machine::new(rt.alloc(), tables)?;
-    check_rows(rt, design, &machine, rows, tally)
+    match Machine::new(alloc, tables) {
+        Ok(machine) => {
+            let found = answer_by_machine(alloc, design, &machine, last, question);
+            drop(machine);
+            found
+        }
+        Err(error) => Err(error),
+    }
 }

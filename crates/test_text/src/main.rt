@@ -28,126 +28,126 @@ mod structured;
 mod texts;
 mod types;
 
-use case_rows::{Case, Row, Table, Tally, cut_tables, read_cases, read_table};
+use case_rows::{Answers, check_tables};
 use reading::design_of;
 use std::alloc::{AllocError, Global};
 use std::io;
 use tm_plain::Tables;
+use tm_sem::state::State;
 use tm_syntax::design::Design;
 
-/// The answer to a question about a text, in a table of this name.
-fn answer_to(alloc: Global, name: &str, text: &str, question: &str) -> Result<String, AllocError> {
-    match name {
-        "atoms" => atoms::answer_to(alloc, text.as_bytes(), question),
-        "designs" => designs::answer_to(alloc, text.as_bytes(), question),
-        "limits" => limits::answer_to(alloc, text.as_bytes(), question),
-        "operands" => operands::answer_to(alloc, question),
-        "scopes" => scopes::answer_to(alloc, text.as_bytes(), question),
-        "states" => states::answer_to(alloc, text.as_bytes(), question),
-        "texts" => texts::answer_to(alloc, question),
-        "types" => types::answer_to(alloc, text.as_bytes(), question),
+/// The answer to a question about a design by its tables, in a table of this name, behind a last state.
+fn answer_by_tables(
+    alloc: Global,
+    table: &str,
+    design: &Design,
+    tables: &Tables,
+    last: &mut State,
+    question: &str,
+) -> Result<String, AllocError>
+    requires sound { IsSound (design_tree design.now) }
+    requires read { IsOfText (spec_tree design.now.spec) }
+{
+    match table {
+        "locations" => locations::answer_to(alloc, tables, question),
+        "machines" => machines::answer_to(alloc, design, tables, last, question),
         _ => String::from_str(alloc, "no such table"),
     }
 }
 
-/// Answers the rows of a case one by one, in a table of this name.
-fn check_rows<R: Print + AllocGlobal>(
-    rt: &R,
-    name: &str,
-    case: &Case,
-    tally: &mut Tally,
-) -> io::Result<()> {
-    for row in &case.rows {
-        let found = answer_to(rt.alloc(), name, case.text.as_str(), row.question)?;
-        tally.note(rt, row, found.as_str())?;
-    }
-    Ok(())
-}
-
-/// Answers rows by the tables of a design, in a table of this name.
-fn check_tables<R: Print + AllocGlobal>(
-    rt: &R,
-    name: &str,
+/// The same, by tables that are made of the design.
+fn answer_with_tables(
+    alloc: Global,
+    table: &str,
     design: &Design,
-    tables: &Tables,
-    rows: &[Row],
-    tally: &mut Tally,
-) -> io::Result<()>
+    last: &mut State,
+    question: &str,
+) -> Result<String, AllocError>
     requires sound { IsSound (design_tree design.now) }
     requires read { IsOfText (spec_tree design.now.spec) }
 {
-    match name {
-        "locations" => locations::check_process(rt, tables, rows, tally),
-        _ => machines::check_tables(rt, design, tables, rows, tally),
-    }
-}
-
-/// The same, by the design alone.
-fn check_design<R: Print + AllocGlobal>(
-    rt: &R,
-    name: &str,
-    design: &Design,
-    rows: &[Row],
-    tally: &mut Tally,
-) -> io::Result<()>
-    requires sound { IsSound (design_tree design.now) }
-    requires read { IsOfText (spec_tree design.now.spec) }
-{
-    if name == "cells" {
-        return cells::check_design(rt, design, rows, tally);
-    }
-    if name == "drivers" {
-        return drivers::check_design(rt, design, rows, tally);
-    }
-    if name == "structured" {
-        return structured::check_design(rt, design, rows, tally);
-    }
-    let tables = Tables::new(rt.alloc(), design)?;
-    check_tables(rt, name, design, &tables, rows, tally)
-}
-
-/// Answers a case about a design, in a table of this name.
-fn check_text<R: Print + AllocGlobal>(
-    rt: &R,
-    name: &str,
-    case: &Case,
-    tally: &mut Tally,
-) -> io::Result<()> {
-    match design_of(rt.alloc(), case.text.as_bytes()) {
-        Some(design) => check_design(rt, name, &design, &case.rows, tally),
-        None => println!(rt; "this has a fault: {}", case.text),
-    }
-}
-
-/// Answers a case, in a table of this name.
-fn check_case<R: Print + AllocGlobal>(
-    rt: &R,
-    name: &str,
-    case: &Case,
-    tally: &mut Tally,
-) -> io::Result<()> {
-    match name {
-        "cells" | "drivers" | "locations" | "machines" | "structured" => {
-            check_text(rt, name, case, tally)
+    match Tables::new(alloc, design) {
+        Ok(tables) => {
+            let found = answer_by_tables(alloc, table, design, &tables, last, question);
+            drop(tables);
+            found
         }
-        _ => check_rows(rt, name, case, tally),
+        Err(error) => Err(error),
     }
 }
 
-/// Answers a table, and prints its name and how many of its rows have passed.
-fn check_table<R: Print + AllocGlobal>(rt: &R, table: &Table) -> io::Result<()> {
-    println!(rt; "== {}", table.name)?;
-    let mut tally = Tally::new();
-    for case in &read_cases(rt.alloc(), table.text.as_str())? {
-        check_case(rt, table.name, case, &mut tally)?;
+/// The same, by the design alone where that is enough.
+fn answer_by_design(
+    alloc: Global,
+    table: &str,
+    design: &Design,
+    last: &mut State,
+    question: &str,
+) -> Result<String, AllocError>
+    requires sound { IsSound (design_tree design.now) }
+    requires read { IsOfText (spec_tree design.now.spec) }
+{
+    match table {
+        "cells" => cells::answer_to(alloc, design, question),
+        "drivers" => drivers::answer_to(alloc, design, question),
+        "states" => states::answer_to(alloc, design, question),
+        "structured" => structured::answer_to(alloc, design, question),
+        _ => answer_with_tables(alloc, table, design, last, question),
     }
-    tally.tell(rt)
+}
+
+/// The same, by the text of the design.
+fn answer_by_text(
+    alloc: Global,
+    table: &str,
+    text: &[u8],
+    last: &mut State,
+    question: &str,
+) -> Result<String, AllocError> {
+    match design_of(alloc, text) {
+        Some(design) => answer_by_design(alloc, table, &design, last, question),
+        None => String::from_str(alloc, "faulty"),
+    }
+}
+
+/// What answers rows: the last state of a play.
+#[derive(Drop)]
+struct Rows {
+    last: State,
+}
+
+impl Answers for Rows {
+    fn new(alloc: Global, _table: &str, _text: &str) -> Result<Rows, AllocError> {
+        Ok(Rows {
+            last: State {
+                values: Vec::new(alloc),
+                places: Vec::new(alloc),
+                last: 0,
+            },
+        })
+    }
+
+    fn answer(
+        &mut self,
+        alloc: Global,
+        table: &str,
+        text: &str,
+        question: &str,
+    ) -> Result<String, AllocError> {
+        let text = text.as_bytes();
+        match table {
+            "atoms" => atoms::answer_to(alloc, text, question),
+            "designs" => designs::answer_to(alloc, text, question),
+            "limits" => limits::answer_to(alloc, text, question),
+            "operands" => operands::answer_to(alloc, question),
+            "scopes" => scopes::answer_to(alloc, text, question),
+            "texts" => texts::answer_to(alloc, question),
+            "types" => types::answer_to(alloc, text, question),
+            _ => answer_by_text(alloc, table, text, &mut self.last, question),
+        }
+    }
 }
 
 fn main(rt: HostRuntime) -> io::Result<()> {
-    let input = read_table(&rt)?;
-    for table in &cut_tables(rt.alloc(), input.as_str())? {
-        check_table(&rt, table)?;
-    }
-    Ok(())
+    check_tables::<Rows, HostRuntime>(&rt)
 }

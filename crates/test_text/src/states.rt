@@ -5,7 +5,6 @@
 ghost use Rattle.tm_syntax.specs.Design.View.{design_tree};
 ghost use Rattle.tm_syntax.specs.Faults.{IsSound};
 
-use crate::reading::design_of;
 use case_rows::{numbers, split_word};
 use std::alloc::{AllocError, Global};
 use tm_scope::Scopes;
@@ -29,18 +28,12 @@ fn begun(alloc: Global, design: &Design, choices: &[u64]) -> Result<String, Allo
     }
 }
 
-/// What a text and choices give.
-fn answer(alloc: Global, text: &[u8], choices: &[u64]) -> Result<String, AllocError> {
-    match design_of(alloc, text) {
-        Some(design) => begun(alloc, &design, choices),
-        None => String::from_str(alloc, "faulty"),
-    }
-}
-
-/// The answer to the question of a row.
-pub fn answer_to(alloc: Global, text: &[u8], question: &str) -> Result<String, AllocError> {
+/// The answer to the question of a row about a design.
+pub fn answer_to(alloc: Global, design: &Design, question: &str) -> Result<String, AllocError>
+    requires { IsSound (design_tree design.now) }
+{
     match split_word(question) {
-        ("start", choices) => answer(alloc, text, &numbers(alloc, choices)?),
+        ("start", choices) => begun(alloc, design, &numbers(alloc, choices)?),
         _ => String::from_str(alloc, "no question"),
     }
 }

@@ -18,21 +18,4 @@ mod answers;
 mod source;
 mod text;
 
-use answers::answer_to;
-use case_rows::{Row, Tally};
-use std::io;
-use tm_syntax::design::Design;
-
-/// Answers the rows that ask of a design.
-pub fn check_design<R: Print + AllocGlobal>(
-    rt: &R,
-    design: &Design,
-    rows: &[Row],
-    tally: &mut Tally,
-) -> io::Result<()> {
-    for row in rows {
-        let found = answer_to(rt.alloc(), design, row.question)?;
-        tally.note(rt, row, found.as_str())?;
-    }
-    Ok(())
-}
+pub use answers::answer_to;

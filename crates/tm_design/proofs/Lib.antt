@@ -1,3 +1,5 @@
+pub mod Apart
+pub mod CalledParameters
 pub mod ConstantValues
 pub mod Contexts
 pub mod CountedBodies
@@ -10,6 +12,7 @@ pub mod EnumCounts
 pub mod FewPlaces
 pub mod FilledEnums
 pub mod FitDesigns
+pub mod Found
 pub mod FoundCells
 pub mod Frames
 pub mod Holders
@@ -28,5 +31,8 @@ pub mod SettledDesigns
 pub mod SettledValues
 pub mod Sites
 pub mod SizedCalls
+pub mod StepCells
+pub mod TableCalls
 pub mod TypedCells
 pub mod WrittenTypes
+pub mod Zipped

@@ -1,8 +1,10 @@
+pub mod Callees
 pub mod Inner
 pub mod Parameters
 pub mod ProcessTexts
 pub mod Runnable
 pub mod Settled
 pub mod Sorts
+pub mod StepCells
 pub mod Typed
 pub mod Values

@@ -2,14 +2,17 @@
 //! runs ask for.
 #![tactic(auto)]
 
+mod callees;
 mod location_counts;
 mod parameters;
 mod runnable_laws;
 mod settled_laws;
 mod sizes;
 mod sorts;
+mod step_cells;
 mod types;
 
+pub use callees::{Callee, callee};
 pub use location_counts::processes_have_the_locations_of_their_text;
 pub use parameters::parameter_cells;
 pub use runnable_laws::sound_designs_of_texts_are_fit;
@@ -19,4 +22,5 @@ pub use settled_laws::{
 };
 pub use sizes::{bits_of_number, type_bits, type_size};
 pub use sorts::{OperatorSort, sort_of};
+pub use step_cells::{StepCell, slots_of_texts_are_apart};
 pub use types::{index_type, joint_type, operand_type, valued_type};

@@ -22,7 +22,7 @@ use Rattle.tm_flat_bodies.specs.declared.waiting.Spot.{Spot}
 use Rattle.tm_flat_bodies.specs.declared.waiting.Spot.TheVariants as spots
 use Rattle.tm_flat_bodies.specs.declared.waiting.Todo.{Todo}
 use Rattle.tm_flat_bodies.specs.declared.waiting.Todo.TheVariants as todo
-use Rattle.tm_flat_bodies.specs.Calls.{IsCallee}
+use Rattle.tm_design.specs.Callees.{IsCallee}
 use Rattle.tm_flat_bodies.specs.Inner.Aimed.{Aims}
 use Rattle.tm_flat_bodies.specs.Inner.Passing.{Answers, Enters, IsCalled}
 use Rattle.tm_flat_bodies.specs.Inner.Places.{IsAt, IsHome, stand_at, stand_of}

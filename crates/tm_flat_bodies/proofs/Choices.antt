@@ -25,7 +25,8 @@ use Rattle.tm_flat_bodies.specs.Inner.Weights.{row_weight, stmt_most, todo_weigh
 use Rattle.tm_flat_bodies.specs.Walks.{RowLeads, RowWalks, StmtWalks, WalkTables}
 use Rattle.tm_flat_bodies.proofs.Alternating.{alternative_sound, alternative_walks, alternatives_there, blocks_begin, blocks_more, choice_leads, next_alternative}
 use Rattle.tm_flat_bodies.proofs.Bodies.{rows_long}
-use Rattle.tm_flat_bodies.proofs.Passed.{one_more_taken, take_length}
+use Rattle.tm_design.proofs.Zipped.{one_more_taken}
+use Rattle.tm_flat_bodies.proofs.Passed.{take_length}
 use Rattle.tm_flat_bodies.proofs.Stepping.{at_once}
 use Rattle.tm_flat_bodies.proofs.Weights.{first_block_weighs}
 

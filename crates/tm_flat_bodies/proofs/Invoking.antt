@@ -31,7 +31,7 @@ use Rattle.tm_flat_bodies.specs.declared.called.CalledTask.{CalledTask}
 use Rattle.tm_flat_bodies.specs.declared.course.Course.{Course}
 use Rattle.tm_flat_bodies.specs.declared.stand.Stand.{Stand}
 use Rattle.tm_flat_bodies.specs.Asked.{RowIsTyped}
-use Rattle.tm_flat_bodies.specs.Calls.{IsCallee, RunsTask}
+use Rattle.tm_design.specs.Callees.{IsCallee, RunsTask}
 use Rattle.tm_flat_bodies.specs.Inner.Passing.{CallWalks, Enters, IsCalled}
 use Rattle.tm_flat_bodies.specs.Walks.{AreWalkable, BodyLeads, BodyWalks, InEach, IsStand, IsStanding, StmtLeads, StmtWalks, WalkTables, readers_at}
 use Rattle.tm_flat_bodies.proofs.Standing.{stands_on}

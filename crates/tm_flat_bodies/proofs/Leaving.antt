@@ -27,7 +27,7 @@ use Rattle.tm_flat_stmts.proofs.Pieces.{stops_there}
 use Rattle.tm_flat_bodies.specs.declared.called.CalledTask.{CalledTask}
 use Rattle.tm_flat_bodies.specs.declared.course.Course.{Course}
 use Rattle.tm_flat_bodies.specs.declared.stand.Stand.{Stand}
-use Rattle.tm_flat_bodies.specs.Calls.{IsCallee}
+use Rattle.tm_design.specs.Callees.{IsCallee}
 use Rattle.tm_flat_bodies.specs.Inner.Passing.{CallWalks, IsCalled}
 use Rattle.tm_flat_bodies.specs.Walks.{AreWalkable, IsStand, IsStanding, IsTrailOf, LeadsAt, WalkTables}
 use Rattle.tm_flat_bodies.proofs.TrailNumbers.{number_within}

@@ -7,7 +7,6 @@ pub mod Branching
 pub mod CallSteps
 pub mod Choices
 pub mod Cutting
-pub mod Found
 pub mod Invoking
 pub mod Leaving
 pub mod Parting
@@ -16,6 +15,5 @@ pub mod Returning
 pub mod Rows
 pub mod Standing
 pub mod Stepping
-pub mod TableCalls
 pub mod TrailNumbers
 pub mod Weights

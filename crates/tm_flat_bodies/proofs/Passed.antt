@@ -3,7 +3,7 @@ use Rattle.std.proofs.Common.{◌≡◌, ℕ, Bool, false, zero, suc, ◌+◌, �
 use Rattle.std.specs.Prelude.{unwrap_or}
 use Rattle.std.specs.List.{AllZip, fold, list_any, zip}
 use Rattle.std.specs.Option.{option_and_then, option_map}
-use Rattle.std.proofs.lemmas.List.{take_all, take_more}
+use Rattle.std.proofs.lemmas.List.{length-map, take_all}
 use Rattle.std.proofs.lemmas.Option.{slice_get-get_or, slice_get-map}
 use Rattle.std.proofs.lemmas.Slice.Zip.{all_zipped_more}
 use Rattle.tm_syntax.specs.declared.design.Ty.{Ty}
@@ -13,18 +13,16 @@ use Rattle.tm_syntax.specs.declared.tree.Expr.{Expr}
 use Rattle.tm_syntax.specs.declared.tree.Param.{Param}
 use Rattle.tm_syntax.specs.declared.tree.TaskDef.{TaskDef}
 use Rattle.tm_syntax.specs.Tree.{ExprTree}
-use Rattle.tm_syntax.specs.Tree.View.{expr_tree, expr_trees, spec_tree, task_tree, template_tree}
+use Rattle.tm_syntax.specs.Tree.View.{expr_tree, expr_trees, spec_tree}
 use Rattle.tm_syntax.specs.Scopes.Context.{Slot}
 use Rattle.tm_syntax.specs.Scopes.Names.{type_of}
-use Rattle.tm_syntax.specs.Design.{DesignTree, instance_node}
-use Rattle.tm_syntax.specs.Design.Cells.{Called, Cell, cell_type, in_step, task_called}
-use Rattle.tm_syntax.specs.Design.Scope.{Site, site}
+use Rattle.tm_syntax.specs.Design.{DesignTree}
+use Rattle.tm_syntax.specs.Design.Cells.{Called, Cell, cell_type, in_step}
 use Rattle.tm_syntax.specs.Design.Sizes.{type_bits}
 use Rattle.tm_scope.specs.Cells.{CellTables, HasCells, ScopedCells, cell_at, scope_of, slot_in}
 use Rattle.tm_scope.specs.declared.cells.site_body.CellNumber.{CellNumber}
 use Rattle.tm_scope.specs.declared.cells.site_body.CellNumber.TheVariants.{State, Step}
 use Rattle.tm_scope.specs.declared.cells.site_body.SiteBody.{SiteBody}
-use Rattle.tm_scope.proofs.CellSites.{site-here}
 use Rattle.tm_term.specs.declared.term.TermId.{TermId}
 use Rattle.tm_term.specs.Table.{Table, IsSound}
 use Rattle.tm_term.specs.Value.{AreInputs, Extends, value_of}
@@ -33,11 +31,13 @@ use Rattle.tm_sem.specs.Run.{asked_by, finished, with_arguments}
 use Rattle.tm_design.specs.Values.{HasParameters}
 use Rattle.tm_design.specs.Parameters.{AreCalledCells, called_by, task_at}
 use Rattle.tm_design.specs.Typed.{HasTypeAt}
-use Rattle.tm_design.proofs.OperandCells.{TaskPlace, task_place}
+use Rattle.tm_design.proofs.CalledParameters.{as_many_cells, params_typed}
+use Rattle.tm_design.proofs.Zipped.{one_more_taken, zip_get, zip_length}
 use Rattle.tm_flat.specs.Steps.{IsTerm}
 use Rattle.tm_flat.specs.Writes.{is_variable}
 use Rattle.tm_flat_exprs.specs.Kept.{KeptTerms, Keeps, type_at}
-use Rattle.tm_flat_exprs.specs.Merged.{AreApart, IsMemory}
+use Rattle.tm_design.specs.StepCells.{AreApart}
+use Rattle.tm_flat_exprs.specs.Merged.{IsMemory}
 use Rattle.tm_flat_exprs.proofs.Later.{Extends-refl}
 use Rattle.tm_flat_stmts.specs.Flows.{AreEnds, FlowTerms, HasTerm, IsFlow, PutsAt}
 use Rattle.tm_flat_stmts.specs.Statements.{Asks, HasValue}
@@ -49,37 +49,6 @@ use Rattle.tm_flat_bodies.specs.declared.arguments.Arguments.{Arguments}
 use Rattle.tm_flat_bodies.specs.declared.course.Course.{Course}
 use Rattle.tm_flat_bodies.specs.Asked.{AreArguments}
 use Rattle.tm_flat_bodies.specs.Inner.Passing.{AsksAll, AsksMore, Enters, FitsCell, HasArgument, HaveArguments, PutsAll, put_all}
-
--- ---- items of lists
-zip_get : {A B : Type 0} (xs : List A) (ys : List B) (k : ℕ) (x : A) (y : B) → slice_get xs k ≡ Some x →
-    slice_get ys k ≡ Some y → slice_get (zip xs ys) k ≡ Some (x, y)
-zip_get [] ys k x y here there = absurd (cc)
-zip_get (a ∷ xs) [] k x y here there = absurd (cc)
-zip_get (a ∷ xs) (b ∷ ys) zero x y here there =
-    let one : a ≡ x = cc in
-    let two : b ≡ y = cc in
-    (λ i. Some (one i, two i))
-zip_get (a ∷ xs) (b ∷ ys) (suc k) x y here there = zip_get xs ys k x y here there
-
-get_at : {A : Type 0} (xs : List A) (k : ℕ) (x : A) → slice_get xs k ≡ Some x → (k < length xs) × (get_or xs k x ≡ x)
-get_at [] k x is = absurd (cc)
-get_at (a ∷ xs) zero x is = let same : a ≡ x = cc in (omega arith, same)
-get_at (a ∷ xs) (suc k) x is = let rest = get_at xs k x is in (omega (arith, rest.0), rest.1)
-
-zip_length : {A B : Type 0} (xs : List A) (ys : List B) → length (zip xs ys) ≤ length ys
-zip_length [] ys = omega arith
-zip_length (x ∷ xs) [] = omega arith
-zip_length (x ∷ xs) (y ∷ ys) = let rest = zip_length xs ys in omega (arith, rest)
-
--- one more of a list is taken
-pub one_more_taken : {A : Type 0} (xs : List A) (i : ℕ) (x : A) → slice_get xs i ≡ Some x →
-    take (i + 1) xs ≡ take i xs ++ x ∷ []
-one_more_taken xs i x is =
-    let here = get_at xs i x is in take_more xs i x here.0 ∙ ap (λ y. take i xs ++ y ∷ []) here.1
-
-map_length : {A B : Type 0} (f : A → B) (xs : List A) → length (map f xs) ≡ length xs
-map_length f [] = refl
-map_length f (x ∷ xs) = ap suc (map_length f xs)
 
 -- lists of arguments and parameters of one length
 pub as_many : (s : ScopedCells) (params : List Param) (args : List ExprTree) → AreArguments s params args →
@@ -294,10 +263,10 @@ module _ (at : SiteBody) (numbers : List CellNumber) (ids : List TermId) (f : Fl
       keeps = λ x apart u v m cells keeps are.
           let values : List ℕ = map (value_of u v) ids in
           let as_long : length cells ≡ length numbers =
-          sym (map_length Some cells) ∙ sym (ap length are) ∙ map_length (cell_at x at) numbers in
+          sym (length-map cells Some) ∙ sym (ap length are) ∙ length-map numbers (cell_at x at) in
           let cells_end : length cells ≤ i = omega (arith, as_long, end) in
           let values_end : length values ≤ i =
-          let long = map_length (value_of u v) ids in omega (arith, long, many, end) in
+          let long = length-map ids (value_of u v) in omega (arith, long, many, end) in
           subst (Keeps x u v g.memory)
           (λ j. put_all m (take_all i cells cells_end j) (take_all i values values_end j))
           (far.keeps x apart u v m cells keeps are);
@@ -319,34 +288,6 @@ cell_typed x d has at (Step slot) c ty here typed =
         option_map (λ (s : Slot). s.ty) o ≡ Some ty
     by None is = absurd (cc)
     by (Some s) is = is
-
--- the parameters of a called task have cells of their types
-module _ (s : ScopedCells) (task : TaskDef) (there : task_at s ≡ Some task) (d : DesignTree) (has : HasCells s.tables d)
-    (typed : HasParameters d) (c : Called) (is : called_by d s.at.instance s.at.body ≡ Some c) where
-  place : TaskPlace s task
-  place = task_place s task there
-
-  abbrev home : Site
-  home =
-      record { number = s.at.instance; node = instance_node place.instance; template = template_tree place.template }
-
-  home_is : site d s.at.instance ≡ Some home
-  home_is = site-here s.tables d has s.at.instance place.instance place.here place.template place.at
-
-  called_is : task_called d home place.index ≡ Some c
-  called_is =
-      sym (ap (option_and_then (λ (u : Site). task_called d u place.index)) home_is)
-      ∙ sym (ap (called_by d s.at.instance) place.body) ∙ is
-
-  pub params_typed : map (cell_type d) c.params ≡ map (λ (p : Param). Some (type_of p.ty)) task.params.items
-  params_typed =
-      typed.parameters s.at.instance home place.index (task_tree task) c home_is
-      (slice_get-map task_tree place.template.tasks.items place.index ∙ ap (option_map task_tree) place.is) called_is
-
-  pub as_many_cells : length c.params ≡ length task.params.items
-  as_many_cells =
-      sym (map_length (cell_type d) c.params) ∙ ap length params_typed
-      ∙ map_length (λ (p : Param). Some (type_of p.ty)) task.params.items
 
 -- terms of arguments fit the cells of the parameters
 fit_cells : (s : ScopedCells) (k : KeptTerms) (x : CellTables) (d : DesignTree) → HasCells x d → s.tables ≡ x →
@@ -469,7 +410,7 @@ as_many_terms s inner task args k n ids numbers same there fit have cells d has 
     let long = as_many_cells inner task there d inner_has typed c is in
     let are = cells.cells d inner_has c is long in
     let first : length numbers ≡ length c.params =
-    sym (map_length (cell_at inner.tables inner.at) numbers) ∙ ap length are ∙ map_length Some c.params in
+    sym (length-map numbers (cell_at inner.tables inner.at)) ∙ ap length are ∙ length-map c.params Some in
     first ∙ long ∙ counted task.params.items args ids fit have
   where
     counted : (params : List Param) (args : List ExprTree) (ids : List TermId) → AreArguments s params args →

@@ -16,7 +16,7 @@ use Rattle.tm_design.specs.Values.{HasParameters}
 use Rattle.tm_flat.specs.Inputs.{room}
 use Rattle.tm_flat.specs.Positions.{stmt_after, target_bits}
 use Rattle.tm_flat.specs.Writes.{stmt_writes}
-use Rattle.tm_flat_exprs.specs.Merged.{AreApart}
+use Rattle.tm_design.specs.StepCells.{AreApart}
 use Rattle.tm_flat_exprs.specs.Valued.{bits_in}
 use Rattle.tm_flat_stmts.specs.Flows.{AreEnds, Continues, EndTerms, FlowTerms, IsFlow, Leads, LeadsOn}
 use Rattle.tm_flat_stmts.specs.Statements.{AreSettledCells, LeadsThrough, Readers, stmt_piece}

@@ -16,7 +16,7 @@ use Rattle.tm_scope.specs.declared.cells.site_body.SiteBody.{SiteBody}
 use Rattle.tm_design.specs.Typed.{HasTypeAt}
 use Rattle.tm_flat_stmts.specs.Targets.{HasTargetAt}
 use Rattle.tm_flat_stmts.specs.Elements.{HasCell, HasElements}
-use Rattle.tm_flat_bodies.specs.Calls.{IsCallee}
+use Rattle.tm_design.specs.Callees.{IsCallee}
 
 -- a target has a type, and a cell: a path, or each element of an array
 abbrev pub TargetIsTyped : ScopedCells → Ty → List Ident → Option ExprTree → Type 0

@@ -1,5 +1,4 @@
 pub mod Asked
-pub mod Calls
 pub mod Inner
 pub mod Tables
 pub mod Trial

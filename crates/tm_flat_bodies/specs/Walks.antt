@@ -21,7 +21,7 @@ use Rattle.tm_flat.specs.Fitting.{BodyFits, RowFits, StmtFits}
 use Rattle.tm_flat.specs.Inputs.{room}
 use Rattle.tm_flat.specs.Positions.{body_after, row_after, blocks_after, stmt_after}
 use Rattle.tm_flat.specs.Writes.{blocks_write, body_writes, row_writes, stmt_writes}
-use Rattle.tm_flat_exprs.specs.Merged.{AreApart}
+use Rattle.tm_design.specs.StepCells.{AreApart}
 use Rattle.tm_flat_stmts.specs.Flows.{AreEnds, FlowTerms, IsFlow, LeadsOn}
 use Rattle.tm_flat_stmts.specs.Statements.{Readers, reads, stmt_piece}
 use Rattle.tm_flat_stmts.specs.Choices.{AreChoiceBits, choice_bit}

@@ -3,18 +3,12 @@ ghost use Rattle.std.specs.Prelude.{◌≡◌, IfNone, IfSome, None};
 ghost use Rattle.tm_syntax.specs.Design.{DesignTree};
 ghost use Rattle.tm_syntax.specs.Design.Cells.{called};
 ghost use Rattle.tm_scope.specs.Cells.{HasCells, scope_of};
-ghost use Rattle.tm_flat_bodies.specs.Calls.{IsCallee};
+ghost use Rattle.tm_design.specs.Callees.{IsCallee};
 
 use crate::walker::Walker;
-use tm_scope::{BodyName, SiteBody};
-use tm_syntax::tree::{Ident, TaskDef};
-
-/// A task or procedure of an instance, with its definition.
-#[derive(Drop)]
-pub(crate) struct Callee<'s> {
-    pub at: SiteBody,
-    pub task: &'s TaskDef,
-}
+use tm_design::{Callee, callee};
+use tm_scope::SiteBody;
+use tm_syntax::tree::Ident;
 
 impl<'s> Walker<'s> {
     /// The task or procedure that a path of a body of an instance calls. Linear in the path.
@@ -23,16 +17,6 @@ impl<'s> Walker<'s> {
         ensures none { IfNone result ((d : DesignTree) → HasCells self.now.cells.now d →
             called d (scope_of at) path.now ≡ None) }
     {
-        let found = self.sites.task_along(at.instance, path)?;
-        let template = self.sites.instance(found.instance)?.template as usize;
-        let spec = self.scopes.spec();
-        let task = spec.templates.get(template)?.tasks.get(found.index)?;
-        Some(Callee {
-            at: SiteBody {
-                instance: found.instance,
-                body: BodyName::Task(found.index),
-            },
-            task,
-        })
+        callee(self.scopes.spec(), &self.sites, at, path)
     }
 }

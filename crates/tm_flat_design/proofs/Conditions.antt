@@ -16,7 +16,8 @@ use Rattle.tm_typing.specs.Promises.{HasAskedType}
 use Rattle.tm_typing.proofs.Listed.{In, in_behind, in_flat, in_front, in_get, in_map, holds_in}
 use Rattle.tm_design.specs.Typed.{HasTypeAt}
 use Rattle.tm_design.proofs.Contexts.{context_here, of_site}
-use Rattle.tm_plain_bodies.proofs.Found.{and_then_is, map_is, own_cells}
+use Rattle.tm_design.proofs.Found.{and_then_is, map_is}
+use Rattle.tm_plain_bodies.proofs.Found.{own_cells}
 use Rattle.tm_states.proofs.Standing.{site_template}
 use Rattle.tm_flat_states.specs.Markable.{HasConditions, outside_of}
 

@@ -40,14 +40,14 @@ use Rattle.tm_design.specs.Typed.{context_at}
 use Rattle.tm_design.proofs.Contexts.{context_here, of_site}
 use Rattle.tm_design.proofs.FoundCells.{is_site}
 use Rattle.tm_states.proofs.Bodies.{IsTask, Leads, called_leads, text_leads}
-use Rattle.tm_states.proofs.Found.{map_is}
+use Rattle.tm_design.proofs.Found.{map_is}
 use Rattle.tm_states.proofs.Promised.{answer_promised}
 use Rattle.tm_plain_bodies.specs.Tables.{body_of, tables_of}
 use Rattle.tm_plain_bodies.proofs.CalledTasks.{called_by_text, task_body_of}
 use Rattle.tm_plain_bodies.proofs.Found.{own_cells}
 use Rattle.tm_plain_bodies.proofs.Invoking.{args_typed}
 use Rattle.tm_flat_bodies.specs.Asked.{AreArguments, CallIsTyped, ResultIsTyped}
-use Rattle.tm_flat_bodies.specs.Calls.{IsCallee}
+use Rattle.tm_design.specs.Callees.{IsCallee}
 use Rattle.tm_flat_design.proofs.Alike.{by_alike, called_alike}
 
 body_is : (b : BodyName) (k : ℕ) → task_body k ≡ body_name b → b ≡ Task k

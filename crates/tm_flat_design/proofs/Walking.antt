@@ -12,7 +12,7 @@ use Rattle.tm_typing.proofs.Sound.{checked}
 use Rattle.tm_design.proofs.ParamCells.{parameters}
 use Rattle.tm_design.proofs.SettledDesigns.{settled}
 use Rattle.tm_locations.specs.Locations.{AreLocations, LocationTable}
-use Rattle.tm_flat_exprs.proofs.Apart.{slots_apart}
+use Rattle.tm_design.proofs.Apart.{slots_apart}
 use Rattle.tm_plain_bodies.specs.Tables.{tables_of}
 use Rattle.tm_plain_bodies.proofs.CalledTasks.{task_body_of}
 use Rattle.tm_plain_bodies.proofs.Found.{own_cells}

@@ -9,11 +9,12 @@ use Rattle.tm_base.specs.Arithmetic.{choice}
 use Rattle.tm_term.specs.declared.term.TermId.{TermId}
 use Rattle.tm_term.specs.Table.{Table}
 use Rattle.tm_term.specs.Value.{value_of}
-use Rattle.tm_flat_exprs.specs.declared.memory.step_terms.StepCell.{StepCell}
+use Rattle.tm_design.specs.declared.step_cells.StepCell.{StepCell}
 use Rattle.tm_flat_exprs.specs.declared.memory.versions.Version.{Version}
 use Rattle.tm_flat_exprs.specs.declared.memory.versions.Version.TheVariants.{Put, Choice}
 use Rattle.tm_flat_exprs.specs.Kept.{HasSlot, IsKeptVersion}
-use Rattle.tm_flat_exprs.specs.Versions.{last_number, next_value, same_cell, step_value, values_behind, version_values}
+use Rattle.tm_design.specs.StepCells.{same_cell}
+use Rattle.tm_flat_exprs.specs.Versions.{last_number, next_value, step_value, values_behind, version_values}
 use Rattle.tm_flat_exprs.specs.Inner.Appending.{appended, moved, moved_from, moved_number}
 use Rattle.tm_flat_exprs.specs.Inner.Merging.{Appends, HasTerms, MergesSteps}
 use Rattle.tm_flat_exprs.specs.Inner.Shared.{HaveSame}

@@ -1,6 +1,5 @@
 pub mod Along
 pub mod Appending
-pub mod Apart
 pub mod Choices
 pub mod Ends
 pub mod Forms
@@ -12,5 +11,4 @@ pub mod Operands
 pub mod Puts
 pub mod Reading
 pub mod Shared
-pub mod StepCells
 pub mod Versions

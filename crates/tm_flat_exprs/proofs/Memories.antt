@@ -19,14 +19,14 @@ use Rattle.tm_term.specs.Table.{Table}
 use Rattle.tm_term.specs.Value.{value_of}
 use Rattle.tm_sem.specs.Value.{Memory, read}
 use Rattle.tm_flat.specs.Steps.{IsTerm}
-use Rattle.tm_flat_exprs.specs.declared.memory.step_terms.StepCell.{StepCell}
+use Rattle.tm_design.specs.declared.step_cells.StepCell.{StepCell}
 use Rattle.tm_flat_exprs.specs.declared.memory.versions.Version.{Version}
 use Rattle.tm_flat_exprs.specs.declared.memory.versions.Version.TheVariants.{Put, Choice}
 use Rattle.tm_flat_exprs.specs.Kept.{KeptTerms, Keeps, AreKept, IsCellKept, IsKeptVersion}
 use Rattle.tm_flat_exprs.specs.Made.{Makes, value_at}
 use Rattle.tm_flat_exprs.specs.Merged.{Reads}
 use Rattle.tm_flat_exprs.specs.Versions.{HasWidth, step_value}
-use Rattle.tm_flat_exprs.proofs.StepCells.{cell_same}
+use Rattle.tm_design.proofs.StepCells.{cell_same}
 
 mapped_index : (f : TermId → ℕ) (ids : List TermId) (i : ℕ) →
     slice_index (map f ids) i ≡ option_map_or f (slice_get ids i) 0

@@ -12,7 +12,7 @@ use Rattle.tm_term.specs.Table.{Table}
 use Rattle.tm_term.specs.Value.{AreInputs, value_of, Extends}
 use Rattle.tm_sem.specs.Value.{Memory}
 use Rattle.tm_flat.specs.Steps.{IsTerm}
-use Rattle.tm_flat_exprs.specs.declared.memory.step_terms.StepCell.{StepCell}
+use Rattle.tm_design.specs.declared.step_cells.StepCell.{StepCell}
 use Rattle.tm_flat_exprs.specs.declared.memory.versions.Version.{Version}
 use Rattle.tm_flat_exprs.specs.Kept.{KeptTerms, Keeps}
 use Rattle.tm_flat_exprs.specs.Merged.{IsMemory, AreAlike, Merges}

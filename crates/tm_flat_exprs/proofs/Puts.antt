@@ -1,8 +1,7 @@
 -- Memories of terms, before and after a term was put into a cell.
-use Rattle.std.proofs.Common.{◌≡◌, ◌⊎◌, inl, inr, ℕ, zero, suc, Bool, true, false, Option, None, Some, List, [], ◌∷◌, ◌++◌, All, length, map, cond, refl, sym, ap, ◌∙◌, subst, rules, length-set}
-use Rattle.std.specs.Prelude.{◌&&◌, nat_eq, find, slice_get, slice_set}
-use Rattle.std.specs.Option.{option_map, option_map_or}
-use Rattle.std.specs.Cmp.Lexicographic.{pointwise}
+use Rattle.std.proofs.Common.{◌≡◌, ◌⊎◌, inl, inr, ℕ, zero, suc, Option, None, Some, List, [], ◌∷◌, ◌++◌, All, length, map, cond, refl, sym, ap, ◌∙◌, subst, length-set}
+use Rattle.std.specs.Prelude.{slice_get, slice_set}
+use Rattle.std.specs.Option.{option_map}
 use Rattle.std.proofs.lemmas.List.{map-set}
 use Rattle.std.proofs.lemmas.List.Elements.{All-push}
 use Rattle.std.proofs.lemmas.Option.{none-some, same_Some}
@@ -10,79 +9,26 @@ use Rattle.tm_syntax.specs.declared.design.Ty.{Ty}
 use Rattle.tm_syntax.specs.declared.design.Var.{Var}
 use Rattle.tm_syntax.specs.Tree.View.{spec_tree}
 use Rattle.tm_syntax.specs.Scopes.Context.{Slot}
-use Rattle.tm_syntax.specs.Design.Scope.{Scope, same_scope}
 use Rattle.tm_syntax.specs.Design.Cells.{Cell, in_state, in_step}
 use Rattle.tm_syntax.specs.Design.Sizes.{type_bits}
 use Rattle.tm_scope.specs.Cells.{CellTables, scope_of, slot_in, cell_at}
 use Rattle.tm_scope.specs.declared.cells.site_body.SiteBody.{SiteBody}
 use Rattle.tm_scope.specs.declared.cells.site_body.CellNumber.TheVariants.{State, Step}
-use Rattle.tm_scope.specs.declared.members.SlotNumber.{SlotNumber}
 use Rattle.tm_term.specs.declared.term.TermId.{TermId}
 use Rattle.tm_term.specs.Table.{Table}
 use Rattle.tm_term.specs.Value.{value_of}
-use Rattle.tm_sem.specs.Value.{Memory, Passing, read, put}
+use Rattle.tm_sem.specs.Value.{Memory, read, put}
 use Rattle.tm_flat.specs.Steps.{IsTerm}
-use Rattle.tm_flat_exprs.specs.declared.memory.step_terms.StepCell.{StepCell}
+use Rattle.tm_design.specs.StepCells.{AreApart, same_cell}
+use Rattle.tm_design.specs.declared.step_cells.StepCell.{StepCell}
 use Rattle.tm_flat_exprs.specs.declared.memory.versions.Version.TheVariants.{Put}
 use Rattle.tm_flat_exprs.specs.Kept.{HasSlot, IsKeptVersion, KeptTerms, Keeps, type_at}
-use Rattle.tm_flat_exprs.specs.Merged.{AreApart, IsMemory}
-use Rattle.tm_flat_exprs.specs.Versions.{same_cell, step_value}
-use Rattle.tm_flat_exprs.proofs.StepCells.{both_true, cell_same, cell_itself, one_test, site_same, site_itself}
+use Rattle.tm_flat_exprs.specs.Merged.{IsMemory}
+use Rattle.tm_flat_exprs.specs.Versions.{step_value}
+use Rattle.tm_design.proofs.StepCells.{cell_of, read_put, tests_agree}
 use Rattle.tm_flat_exprs.proofs.Versions.{value_after}
 
-names_same : (a b : List ℕ) → pointwise nat_eq a b ≡ true → a ≡ b
-names_same a b h = search rules
-
-names_itself : (a : List ℕ) → pointwise nat_eq a a ≡ true
-names_itself a = search rules
-
--- the cell of a parameter or local is that of its name
-cell_of : (x : CellTables) (at : SiteBody) (slot : SlotNumber) (c : Cell) → cell_at x at (Step slot) ≡ Some c →
-    (s : Slot) × (slot_in x at slot ≡ Some s) × (c ≡ in_step (scope_of at) s.name s.ty)
-cell_of x at slot c is = by (slot_in x at slot) refl is
-  where
-    by : (o : Option Slot) → slot_in x at slot ≡ o →
-        option_map (λ (s : Slot). in_step (scope_of at) s.name s.ty) o ≡ Some c →
-        (s : Slot) × (slot_in x at slot ≡ Some s) × (c ≡ in_step (scope_of at) s.name s.ty)
-    by None there h = absurd (none-some c h)
-    by (Some s) there h = (s, there, sym (same_Some (in_step (scope_of at) s.name s.ty) c h))
-
--- a value that was put into a parameter or local is read again there, and nowhere else
-read_put : (m : Memory) (a b : Scope) (n p : List ℕ) (value : ℕ) (t : Bool) (s r : Ty) →
-    (same_scope b a && pointwise nat_eq p n) ≡ t →
-    read (put m (in_step a n s) value) (in_step b p r) ≡ cond t value (read m (in_step b p r))
-read_put m a b n p value true s r is =
-    ap (λ t. option_map_or (λ (q : Passing). q.value) (cond t (Some (record { scope = a; name = n; value = value }))
-    (find (λ (q : Passing). same_scope b q.scope && pointwise nat_eq p q.name) m.passing)) 0) is
-read_put m a b n p value false s r is =
-    ap (λ t. option_map_or (λ (q : Passing). q.value) (cond t (Some (record { scope = a; name = n; value = value }))
-    (find (λ (q : Passing). same_scope b q.scope && pointwise nat_eq p q.name) m.passing)) 0) is
-
 module _ (x : CellTables) (u : Table) (v : List ℕ) (k : KeptTerms) (m : Memory) (keeps : Keeps x u v k m) where
-  -- the test by names is the test by numbers
-  tests_agree : AreApart x → (a b : StepCell) (s t : Slot) → slot_in x a.at a.slot ≡ Some s →
-      slot_in x b.at b.slot ≡ Some t →
-      (same_scope (scope_of b.at) (scope_of a.at) && pointwise nat_eq t.name s.name) ≡ same_cell a b
-  tests_agree apart a b s t here there =
-      one_test (same_scope (scope_of b.at) (scope_of a.at) && pointwise nat_eq t.name s.name) (same_cell a b)
-      (λ h.
-      let parts = both_true (same_scope (scope_of b.at) (scope_of a.at)) (pointwise nat_eq t.name s.name) h in
-      let at : b.at ≡ a.at = site_same b.at a.at parts.0 in
-      let name : t.name ≡ s.name = names_same t.name s.name parts.1 in
-      let moved : slot_in x a.at b.slot ≡ Some t = subst (λ y. slot_in x y b.slot ≡ Some t) at there in
-      let slot : b.slot ≡ a.slot = apart.slots a.at b.slot a.slot t s moved here name in
-      let one : b ≡ a = (λ i. record { at = at i; slot = slot i }) in
-      subst (λ y. same_cell a y ≡ true) (sym one) (cell_itself a))
-      (λ h.
-      let one : a ≡ b = cell_same a b h in
-      let slot : slot_in x a.at a.slot ≡ Some t = subst (λ (y : StepCell). slot_in x y.at y.slot ≡ Some t) (sym one)
-      there in
-      let value : s ≡ t = same_Some s t (sym here ∙ slot) in
-      subst (λ (y : StepCell). (same_scope (scope_of y.at) (scope_of a.at) && pointwise nat_eq t.name s.name) ≡ true)
-      one
-      (subst (λ (y : Slot). (same_scope (scope_of a.at) (scope_of a.at) && pointwise nat_eq y.name s.name) ≡ true) value
-      (ap (λ b. b && pointwise nat_eq s.name s.name) (site_itself a.at) ∙ names_itself s.name)))
-
   -- after a term was put into a parameter or local
   pub step_put : AreApart x → (cell : StepCell) (c : Cell) (id : TermId) (n : KeptTerms) → n.values ≡ k.values →
       cell_at x cell.at (Step cell.slot) ≡ Some c →
@@ -97,7 +43,7 @@ module _ (x : CellTables) (u : Table) (v : List ℕ) (k : KeptTerms) (m : Memory
             ≡ step_value u v n.step other)
             (sym others.2)
             (read_put m (scope_of cell.at) (scope_of other.at) own.0.name others.0.name (value_of u v id)
-            (same_cell cell other) own.0.ty others.0.ty (tests_agree apart cell other own.0 others.0 own.1 others.1)
+            (same_cell cell other) own.0.ty others.0.ty (tests_agree x apart cell other own.0 others.0 own.1 others.1)
             ∙ ap (cond (same_cell cell other) (value_of u v id))
             (subst (λ y. read m y ≡ step_value u v k.step other) others.2 (keeps.step other d there))
             ∙ sym (value_after u v other k.step (Put cell id))

@@ -10,7 +10,7 @@ use Rattle.std.proofs.lemmas.List.Elements.{All-cons, All-head, All-tail}
 use Rattle.std.proofs.lemmas.Option.{none-some, same_Some, slice_get-get_or, slice_get_within}
 use Rattle.tm_flat_exprs.specs.contracts.memory.versions.VersionPartialEq.TheImpl.{eq-value}
 use Rattle.tm_flat_exprs.specs.declared.memory.versions.Version.{Version}
-use Rattle.tm_flat_exprs.proofs.StepCells.{both_true}
+use Rattle.tm_design.proofs.StepCells.{both_true}
 use Rattle.tm_flat_exprs.specs.Inner.Shared.{HaveSame, IsFull, Part, all_versions, versions_in}
 
 equal_version : (v w : Version) → eq-value.it v w ≡ true → v ≡ w

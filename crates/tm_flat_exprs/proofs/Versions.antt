@@ -10,12 +10,13 @@ use Rattle.tm_term.specs.Table.{Table, IsSound}
 use Rattle.tm_term.specs.Value.{AreInputs, value_of, Extends}
 use Rattle.tm_term.proofs.Valued.{Extends-trans}
 use Rattle.tm_flat.specs.Steps.{IsTerm}
-use Rattle.tm_flat_exprs.specs.declared.memory.step_terms.StepCell.{StepCell}
+use Rattle.tm_design.specs.declared.step_cells.StepCell.{StepCell}
 use Rattle.tm_flat_exprs.specs.declared.memory.versions.Version.{Version}
 use Rattle.tm_flat_exprs.specs.declared.memory.versions.Version.TheVariants.{Put, Choice}
 use Rattle.tm_flat_exprs.specs.Made.{Makes}
 use Rattle.tm_flat_exprs.specs.Inner.Merging.{MakesChoice}
-use Rattle.tm_flat_exprs.specs.Versions.{HasWidth, IsLatest, last_number, next_value, same_cell, step_value, values_behind, version_values}
+use Rattle.tm_design.specs.StepCells.{same_cell}
+use Rattle.tm_flat_exprs.specs.Versions.{HasWidth, IsLatest, last_number, next_value, step_value, values_behind, version_values}
 use Rattle.tm_flat_exprs.proofs.Choices.{choice_made}
 use Rattle.tm_flat_exprs.proofs.Later.{Extends-refl, term_along}
 

@@ -16,7 +16,7 @@ use Rattle.tm_term.specs.Table.{Table}
 use Rattle.tm_term.specs.Value.{value_of}
 use Rattle.tm_sem.specs.Value.{Memory, read}
 use Rattle.tm_flat.specs.Steps.{IsTerm}
-use Rattle.tm_flat_exprs.specs.declared.memory.step_terms.StepCell.{StepCell}
+use Rattle.tm_design.specs.declared.step_cells.StepCell.{StepCell}
 use Rattle.tm_flat_exprs.specs.declared.memory.versions.Version.{Version}
 use Rattle.tm_flat_exprs.specs.declared.memory.versions.Version.TheVariants.{Put, Choice}
 use Rattle.tm_flat_exprs.specs.Versions.{step_value}

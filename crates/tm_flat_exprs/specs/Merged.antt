@@ -1,23 +1,16 @@
 -- Two memories of terms as one: each cell has its term of the one where a truth holds, and else that of the other one.
 use Rattle.std.specs.Prelude.{◌≡◌, ℕ, ◌==◌, Some, All, List, length, slice_get, slice_set, if◌then◌else◌}
-use Rattle.tm_syntax.specs.Scopes.Context.{Slot}
 use Rattle.tm_syntax.specs.Design.Cells.{Cell}
-use Rattle.tm_scope.specs.Cells.{CellTables, cell_at, slot_in}
+use Rattle.tm_scope.specs.Cells.{CellTables, cell_at}
 use Rattle.tm_scope.specs.declared.cells.site_body.SiteBody.{SiteBody}
 use Rattle.tm_scope.specs.declared.cells.site_body.CellNumber.{CellNumber}
 use Rattle.tm_scope.specs.declared.cells.site_body.CellNumber.TheVariants.{State, Step}
-use Rattle.tm_scope.specs.declared.members.SlotNumber.{SlotNumber}
 use Rattle.tm_term.specs.declared.term.TermId.{TermId}
 use Rattle.tm_term.specs.Table.{Table, IsSound}
 use Rattle.tm_term.specs.Value.{AreInputs, value_of, Extends}
 use Rattle.tm_sem.specs.Value.{Memory, read}
 use Rattle.tm_flat.specs.Steps.{IsTerm}
 use Rattle.tm_flat_exprs.specs.Kept.{KeptTerms, Keeps, AreKept, HasSlot}
-
--- the parameters and locals of each body have names of their own
-pub record AreApart (x : CellTables) : Type 0 where
-  pub slots : (at : SiteBody) (a b : SlotNumber) (r s : Slot) → slot_in x at a ≡ Some r → slot_in x at b ≡ Some s →
-      r.name ≡ s.name → a ≡ b
 
 -- a memory of terms: one for each state variable, and others for parameters and locals of the text alone
 pub record IsMemory (x : CellTables) (t : Table) (k : KeptTerms) : Type 0 where

@@ -1,27 +1,14 @@
 -- The versions of the terms of parameters and locals, and the values that these have in them.
-use Rattle.std.specs.Prelude.{◌≡◌, ℕ, Bool, true, false, List, [], ◌∷◌, ◌++◌, ◌&&◌, All, nat_eq, slice_index, if◌then◌else◌}
+use Rattle.std.specs.Prelude.{◌≡◌, ℕ, true, List, [], ◌∷◌, ◌++◌, All, slice_index, if◌then◌else◌}
 use Rattle.tm_base.specs.Arithmetic.{choice}
-use Rattle.tm_syntax.specs.Design.Scope.{same_scope}
-use Rattle.tm_scope.specs.Cells.{scope_of}
-use Rattle.tm_scope.specs.declared.members.SlotNumber.{SlotNumber}
-use Rattle.tm_scope.specs.declared.members.SlotNumber.TheVariants.{Param, Local}
 use Rattle.tm_term.specs.declared.term.TermId.{TermId}
 use Rattle.tm_term.specs.Table.{Table}
 use Rattle.tm_term.specs.Value.{value_of}
 use Rattle.tm_flat.specs.Steps.{IsTerm}
-use Rattle.tm_flat_exprs.specs.declared.memory.step_terms.StepCell.{StepCell}
+use Rattle.tm_design.specs.declared.step_cells.StepCell.{StepCell}
+use Rattle.tm_design.specs.StepCells.{same_cell}
 use Rattle.tm_flat_exprs.specs.declared.memory.versions.Version.{Version}
 use Rattle.tm_flat_exprs.specs.declared.memory.versions.Version.TheVariants.{Put, Choice}
-
--- whether two numbers of parameters or locals are one
-abbrev pub same_slot : SlotNumber → SlotNumber → Bool
-same_slot (Param a) (Param b) = nat_eq a b
-same_slot (Local a) (Local b) = nat_eq a b
-same_slot _ _ = false
-
--- whether two parameters or locals that live for one step are one
-abbrev pub same_cell : StepCell → StepCell → Bool
-same_cell a b = same_scope (scope_of a.at) (scope_of b.at) && same_slot a.slot b.slot
 
 -- the last of some numbers, or this one if there are none
 abbrev pub last_number : ℕ → List ℕ → ℕ

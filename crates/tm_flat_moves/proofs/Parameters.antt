@@ -30,7 +30,7 @@ use Rattle.tm_flat.specs.Inputs.{room}
 use Rattle.tm_flat_exprs.proofs.Later.{Extends-refl}
 use Rattle.tm_flat_exprs.specs.Kept.{type_at}
 use Rattle.tm_flat_stmts.specs.Flows.{FlowTerms, IsFlow}
-use Rattle.tm_flat_bodies.proofs.Passed.{as_many_cells, params_typed}
+use Rattle.tm_design.proofs.CalledParameters.{as_many_cells, params_typed}
 use Rattle.tm_flat_moves.specs.Arguments.{ReadsArguments, param_bits, params_of}
 use Rattle.tm_flat_moves.specs.Callable.{AreSized}
 use Rattle.tm_flat_moves.specs.Inner.Reading.{AreParameters, IsParameter, IsReadable}

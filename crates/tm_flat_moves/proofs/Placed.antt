@@ -7,7 +7,7 @@ use Rattle.tm_syntax.specs.Design.Scope.{site}
 use Rattle.tm_syntax.specs.Design.View.{design_tree}
 use Rattle.tm_scope.specs.Cells.{CellTables, HasCells, ScopedCells}
 use Rattle.tm_scope.specs.declared.cells.site_body.SiteBody.{SiteBody}
-use Rattle.tm_flat_bodies.proofs.Found.{body_found, no_source}
+use Rattle.tm_design.proofs.Found.{body_found, no_source}
 use Rattle.tm_flat_moves.specs.declared.mover.Mover.{Mover}
 use Rattle.tm_flat_exprs.specs.Tables.{cells_of}
 

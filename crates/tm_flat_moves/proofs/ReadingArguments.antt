@@ -23,7 +23,7 @@ use Rattle.tm_flat.specs.Steps.{IsTerm}
 use Rattle.tm_flat.specs.Writes.{is_variable}
 use Rattle.tm_flat_exprs.specs.Kept.{KeptTerms, Keeps, type_at}
 use Rattle.tm_flat_exprs.specs.Made.{Makes}
-use Rattle.tm_flat_exprs.specs.Merged.{AreApart}
+use Rattle.tm_design.specs.StepCells.{AreApart}
 use Rattle.tm_flat_exprs.proofs.Later.{Extends-refl, term_along}
 use Rattle.tm_flat_stmts.specs.Flows.{FlowTerms, IsFlow, Narrows, PutsAt, is_on}
 use Rattle.tm_flat_stmts.proofs.Flowing.{memory_along}

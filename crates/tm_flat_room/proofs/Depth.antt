@@ -1,5 +1,5 @@
 -- Where no task reaches itself by calls, calls nest no deeper than there are tasks.
-use Rattle.std.proofs.Common.{◌≡◌, ◌⊎◌, inl, inr, ℕ, zero, suc, ◌+◌, ◌<◌, Option, None, Some, List, [], ◌∷◌, map, length, position, slice_get, refl, sym, subst, arith}
+use Rattle.std.proofs.Common.{◌≡◌, ◌⊎◌, inl, inr, ℕ, zero, suc, ◌<◌, Option, None, Some, List, ◌∷◌, map, length, position, slice_get, refl, sym, subst, arith}
 use Rattle.std.proofs.lemmas.Option.{none-some, same_Some}
 use Rattle.std.specs.List.{flat_map, enumerate_from}
 use Rattle.std.specs.Option.{option_map, option_and_then}
@@ -10,25 +10,8 @@ use Rattle.tm_syntax.specs.Scopes.Names.{is_spelled, last_name}
 use Rattle.tm_syntax.specs.Scopes.Calls.{number_along, task_number, Calls, Reaches, at_once, through}
 use Rattle.tm_scope.proofs.Entries.{at-there}
 use Rattle.tm_scope.proofs.Positions.{position-below}
+use Rattle.tm_design.proofs.Indices.{in_enumerated}
 use Rattle.tm_typing.proofs.Listed.{In, first_of, later_of, is_first_or_later, in_map, in_flat}
-
--- an item of a list, by its number
-in_numbers : {A : Type 0} (n : ℕ) (xs : List A) (k : ℕ) (x : A) → slice_get xs k ≡ Some x →
-    In (n + k, x) (enumerate_from n xs)
-in_numbers n [] k x e = absurd (none-some x e)
-in_numbers n (y ∷ ys) zero x e =
-    let same : y ≡ x = same_Some y x e in
-    let here : n + 0 ≡ n = omega arith in
-    subst (λ (i : ℕ). In (i, x) (enumerate_from n (y ∷ ys))) (sym here)
-    (subst (λ z. In (n, x) ((n, z) ∷ enumerate_from (n + 1) ys)) (sym same) first_of)
-in_numbers n (y ∷ ys) (suc k) x e =
-    let there : (n + 1) + k ≡ n + suc k = omega arith in
-    later_of (subst (λ (i : ℕ). In (i, x) (enumerate_from (n + 1) ys)) there (in_numbers (n + 1) ys k x e))
-
-pub in_list : {A : Type 0} (xs : List A) (k : ℕ) (x : A) → slice_get xs k ≡ Some x → In (k, x) (enumerate_from 0 xs)
-in_list xs k x e =
-    let from : 0 + k ≡ k = omega arith in
-    subst (λ (i : ℕ). In (i, x) (enumerate_from 0 xs)) from (in_numbers 0 xs k x e)
 
 -- what is left of a list without one of its items
 pub record Without {A : Type 0} (x : A) (xs : List A) : Type 0 where
@@ -79,9 +62,9 @@ module _ (spec : SpecTree) where
   pub is_member : (b : Member) (t : TemplateTree) (k : TaskTree) → slice_get spec.templates b.template ≡ Some t →
       slice_get t.tasks b.index ≡ Some k → In b all_members
   is_member b t k there at =
-      in_flat members_of (enumerate_from 0 spec.templates) (in_list spec.templates b.template t there)
+      in_flat members_of (enumerate_from 0 spec.templates) (in_enumerated spec.templates b.template there)
       (in_map (λ (k : ℕ × TaskTree). record { template = b.template; index = k.0 }) (enumerate_from 0 t.tasks)
-      (in_list t.tasks b.index k at))
+      (in_enumerated t.tasks b.index at))
 
   -- what is called is one of them
   found_in : (path : List Ident) (b : Member) (n : ℕ) (t : TemplateTree) → slice_get spec.templates n ≡ Some t →

@@ -26,7 +26,7 @@ use Rattle.tm_syntax.specs.Design.Work.{WorkItem, body_items, perform, performs}
 use Rattle.tm_typing.proofs.Listed.{In, all_hold, found_in, holds_in, in_behind, in_filter, in_flat, in_front, in_get, in_map, no_thing}
 use Rattle.tm_locations.proofs.CalledBodies.{made, site-template}
 use Rattle.tm_design.proofs.CountedProcesses.{IsThread, process-in, process-there, thread-is}
-use Rattle.tm_flat_room.proofs.Depth.{in_list}
+use Rattle.tm_design.proofs.Indices.{in_enumerated}
 use Rattle.tm_flat_room.proofs.TextBodies.{IsBody, task_is}
 use Rattle.tm_design.proofs.FewPlaces.{at_most_greatest, few_places, template_counted}
 use Rattle.tm_design.proofs.TypedCells.{typed_cells}
@@ -189,7 +189,7 @@ module _ (d : DesignTree) (sound : IsSound d) (of : IsOfText d.spec) (small : Ar
         (in_map (task_body_at d.spec x.at.template)
         (filter (λ (k : ℕ × TaskTree). is_controllable k.1.kind) (enumerate_from 0 x.at.template.tasks))
         (in_filter (λ (k : ℕ × TaskTree). is_controllable k.1.kind) (enumerate_from 0 x.at.template.tasks)
-        (in_list x.at.template.tasks x.number x.task x.is) x.controllable)))
+        (in_enumerated x.at.template.tasks x.number x.is) x.controllable)))
 
     task_fits : ItemsFit room d (body_items c.scope [] c.body) 0
     task_fits =

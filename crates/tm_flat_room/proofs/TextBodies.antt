@@ -23,7 +23,7 @@ use Rattle.tm_typing.proofs.Statements.{bodies_resolve}
 use Rattle.tm_locations.specs.Locations.{LeadsByText}
 use Rattle.tm_locations.proofs.CalledBodies.{made, site-number, site-template, along-number}
 use Rattle.tm_locations.proofs.TextLeads.{sound_leads}
-use Rattle.tm_flat_room.proofs.Depth.{in_list}
+use Rattle.tm_design.proofs.Indices.{in_enumerated}
 
 pub contained : {A : Type 0} {x : A} (xs : List A) → In x xs → Contains xs x
 contained _ (first_of {xs = xs}) = (0, omega arith, refl)
@@ -166,7 +166,7 @@ module _ (d : DesignTree) (sound : IsSound d) (of : IsOfText d.spec) where
         (in_behind (map (process_body_at d.spec s.template) (enumerate_from 0 s.template.processes))
         (map (task_body_at d.spec s.template) (enumerate_from 0 s.template.tasks))
         (in_map (task_body_at d.spec s.template) (enumerate_from 0 s.template.tasks)
-        (in_list s.template.tasks k task at)));
+        (in_enumerated s.template.tasks k at)));
   }
 
   pub process_is : (s : Site) (k : ℕ) (p : ProcessTree) → site d s.number ≡ Some s →
@@ -179,7 +179,7 @@ module _ (d : DesignTree) (sound : IsSound d) (of : IsOfText d.spec) where
         (in_front (map (process_body_at d.spec s.template) (enumerate_from 0 s.template.processes))
         (map (task_body_at d.spec s.template) (enumerate_from 0 s.template.tasks))
         (in_map (process_body_at d.spec s.template) (enumerate_from 0 s.template.processes)
-        (in_list s.template.processes k p at)));
+        (in_enumerated s.template.processes k at)));
   }
 
   module _ (scope : Scope) (s : Site) (body : BodyTree) (at : IsBody scope s body) where

@@ -27,7 +27,7 @@ use Rattle.tm_flat.specs.Steps.{IsTerm}
 use Rattle.tm_flat.specs.Writes.{is_variable}
 use Rattle.tm_design.proofs.Contexts.{context_is, some_cells, some_design}
 use Rattle.tm_flat_exprs.specs.Kept.{Keeps, type_at}
-use Rattle.tm_flat_exprs.specs.Merged.{AreApart}
+use Rattle.tm_design.specs.StepCells.{AreApart}
 use Rattle.tm_flat_exprs.specs.Valued.{CellHasType}
 use Rattle.tm_flat_exprs.proofs.Reading.{Tells, number_type}
 use Rattle.tm_flat_stmts.specs.declared.operands.Operand.{Operand}

@@ -30,7 +30,7 @@ use Rattle.tm_flat.specs.Steps.{IsTerm}
 use Rattle.tm_flat.specs.Writes.{is_variable}
 use Rattle.tm_flat_exprs.specs.Kept.{Keeps}
 use Rattle.tm_flat_exprs.specs.Made.{Makes}
-use Rattle.tm_flat_exprs.specs.Merged.{AreApart}
+use Rattle.tm_design.specs.StepCells.{AreApart}
 use Rattle.tm_flat_exprs.specs.Valued.{bits_in}
 use Rattle.tm_flat_exprs.proofs.Later.{Extends-refl, below_later, term_along}
 use Rattle.tm_flat_stmts.specs.Choices.{AreChoiceBits, choice_bit}

@@ -29,7 +29,7 @@ use Rattle.tm_flat.specs.Writes.{target_writes}
 use Rattle.tm_flat_exprs.specs.declared.valued.Valued.{Valued}
 use Rattle.tm_flat_exprs.specs.Kept.{KeptTerms, Keeps}
 use Rattle.tm_flat_exprs.specs.Made.{Makes}
-use Rattle.tm_flat_exprs.specs.Merged.{AreApart}
+use Rattle.tm_design.specs.StepCells.{AreApart}
 use Rattle.tm_flat_exprs.specs.Valued.{CellHasType, Finds, FindsElement, bits_in, element_value}
 use Rattle.tm_flat_exprs.proofs.Later.{Extends-refl, below_later, term_along}
 use Rattle.tm_flat_stmts.specs.declared.operands.Operand.{Operand}

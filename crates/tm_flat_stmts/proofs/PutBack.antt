@@ -13,7 +13,7 @@ use Rattle.tm_term.specs.Table.{Table}
 use Rattle.tm_sem.specs.Run.{put_in}
 use Rattle.tm_sem.specs.Value.{Memory, Passing, put, read}
 use Rattle.tm_flat_exprs.specs.Kept.{KeptTerms, Keeps}
-use Rattle.tm_flat_exprs.proofs.StepCells.{both_true}
+use Rattle.tm_design.proofs.StepCells.{both_true}
 
 set_itself : (xs : List ℕ) (k : ℕ) → slice_set xs k (slice_index xs k) ≡ xs
 set_itself [] k = refl

@@ -21,7 +21,8 @@ use Rattle.tm_flat.specs.Steps.{IsTerm}
 use Rattle.tm_flat.specs.Writes.{is_variable}
 use Rattle.tm_flat_exprs.specs.Kept.{KeptTerms, Keeps, type_at}
 use Rattle.tm_flat_exprs.specs.Made.{IsTruth, truth_at}
-use Rattle.tm_flat_exprs.specs.Merged.{AreApart, IsMemory}
+use Rattle.tm_design.specs.StepCells.{AreApart}
+use Rattle.tm_flat_exprs.specs.Merged.{IsMemory}
 
 -- a flow: whether a run stands there, the terms of its memory, and the position of the choice bits at which it goes on
 pub record FlowTerms : Type 0 where

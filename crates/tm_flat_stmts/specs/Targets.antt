@@ -18,7 +18,8 @@ use Rattle.tm_sem.specs.Value.{Memory}
 use Rattle.tm_flat.specs.Steps.{IsTerm}
 use Rattle.tm_flat.specs.Writes.{is_variable}
 use Rattle.tm_flat_exprs.specs.Kept.{Keeps}
-use Rattle.tm_flat_exprs.specs.Merged.{AreApart, IsMemory}
+use Rattle.tm_design.specs.StepCells.{AreApart}
+use Rattle.tm_flat_exprs.specs.Merged.{IsMemory}
 use Rattle.tm_flat_exprs.specs.Valued.{CellHasType, bits_in}
 use Rattle.tm_flat_stmts.specs.Flows.{FlowTerms, HasTerm}
 

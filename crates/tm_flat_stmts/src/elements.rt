@@ -8,7 +8,7 @@ ghost use Rattle.tm_term.specs.Table.{IsKnown, IsSound, width_of};
 ghost use Rattle.tm_typing.specs.HasType.{IsSized};
 ghost use Rattle.tm_design.specs.Typed.{HasTypeAt};
 ghost use Rattle.tm_flat.specs.Steps.{IsTerm};
-ghost use Rattle.tm_flat_exprs.specs.Merged.{AreApart};
+ghost use Rattle.tm_design.specs.StepCells.{AreApart};
 ghost use Rattle.tm_flat_exprs.specs.Valued.{CellHasType, bits_in};
 ghost use Rattle.tm_flat_stmts.specs.Flows.{AreEnds, IsFlow};
 ghost use Rattle.tm_flat_stmts.specs.Statements.{AreSettledCells, AsksOne, LeadsThrough};

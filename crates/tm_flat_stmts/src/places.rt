@@ -8,7 +8,7 @@ ghost use Rattle.tm_base.specs.Arithmetic.{IsWidth};
 ghost use Rattle.tm_term.specs.Table.{IsSound};
 ghost use Rattle.tm_design.specs.Typed.{HasTypeAt};
 ghost use Rattle.tm_flat.specs.Steps.{IsTerm};
-ghost use Rattle.tm_flat_exprs.specs.Merged.{AreApart};
+ghost use Rattle.tm_design.specs.StepCells.{AreApart};
 ghost use Rattle.tm_flat_exprs.specs.Valued.{bits_in};
 ghost use Rattle.tm_flat_stmts.specs.Flows.{IsFlow};
 ghost use Rattle.tm_flat_stmts.specs.Statements.{AreSettledCells};

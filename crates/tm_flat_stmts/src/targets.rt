@@ -6,7 +6,7 @@ ghost use Rattle.tm_syntax.specs.Tree.View.{expr_tree};
 ghost use Rattle.tm_scope.specs.Types.{ty_of};
 ghost use Rattle.tm_term.specs.Table.{IsSound};
 ghost use Rattle.tm_design.specs.Typed.{HasTypeAt};
-ghost use Rattle.tm_flat_exprs.specs.Merged.{AreApart};
+ghost use Rattle.tm_design.specs.StepCells.{AreApart};
 ghost use Rattle.tm_flat_stmts.specs.Flows.{AreEnds, IsFlow};
 ghost use Rattle.tm_flat_stmts.specs.Statements.{AreSettledCells, LeadsThrough};
 ghost use Rattle.tm_flat_stmts.specs.Targets.{HasTargetAt, Puts};

@@ -30,11 +30,13 @@ use Rattle.tm_plain_bodies.specs.declared.halt.Halt.TheVariants as halt
 use Rattle.tm_plain_bodies.specs.Calls.{NestsWithin}
 use Rattle.tm_plain_bodies.specs.Frames.{BodyFits}
 use Rattle.tm_plain_bodies.specs.Going.{EndsWithin}
-use Rattle.tm_plain_bodies.specs.Runs.{DoesBody, HasTypedCells, Stands, behind}
+use Rattle.tm_design.specs.Runnable.{HasTypedCells}
+use Rattle.tm_plain_bodies.specs.Runs.{DoesBody, Stands, behind}
 use Rattle.tm_plain_bodies.specs.Tables.{body_of, tables_of}
-use Rattle.tm_plain_bodies.proofs.Apart.{slots_apart}
+use Rattle.tm_design.proofs.Apart.{slots_apart}
 use Rattle.tm_plain_bodies.proofs.Found.{own_cells}
-use Rattle.tm_plain_exprs.specs.Kept.{AreApart, Kept, Keeps, put_all}
+use Rattle.tm_design.specs.StepCells.{AreApart}
+use Rattle.tm_plain_exprs.specs.Kept.{Kept, Keeps, put_all}
 use Rattle.tm_plain.specs.Ends.{Leads}
 use Rattle.tm_plain.specs.Tasks.{IsDriverTask}
 use Rattle.tm_plain.proofs.DriverTasks.{home, home_is, listed, place}

@@ -22,7 +22,8 @@ use Rattle.tm_typing.proofs.Sound.{checked}
 use Rattle.tm_plain.specs.Machine.{IsRunnable}
 use Rattle.tm_typing.proofs.Listed.{In, in_front, in_behind, in_map, in_flat, in_get, holds_in}
 use Rattle.tm_plain_bodies.specs.Tables.{body_of}
-use Rattle.tm_plain_bodies.proofs.Found.{and_then_is, map_is, own_cells}
+use Rattle.tm_design.proofs.Found.{and_then_is, map_is}
+use Rattle.tm_plain_bodies.proofs.Found.{own_cells}
 use Rattle.tm_states.proofs.Standing.{site_template}
 use Rattle.tm_design.specs.Typed.{context_at, HasTypeAt}
 use Rattle.tm_design.proofs.Contexts.{context_here, of_site}

@@ -1,21 +1,18 @@
 -- The tasks that the driver calls, by the tables of a design.
-use Rattle.std.proofs.Common.{◌≡◌, ℕ, Option, None, Some, List, length, map, slice_get, refl, sym, ap, ◌∙◌, subst}
+use Rattle.std.proofs.Common.{◌≡◌, ℕ, Option, None, Some, List, length, map, slice_get, refl, ap, ◌∙◌, subst}
 use Rattle.std.specs.Prelude.{IfNone, IfSome}
 use Rattle.std.specs.Option.{option_and_then, option_map}
-use Rattle.std.proofs.lemmas.List.{length-map}
 use Rattle.std.proofs.lemmas.Option.{slice_get-map}
 use Rattle.tm_syntax.specs.declared.design.Design.{Design}
 use Rattle.tm_syntax.specs.declared.design.Instance.{Instance}
 use Rattle.tm_syntax.specs.declared.design.Item.{Item}
-use Rattle.tm_syntax.specs.declared.tree.Param.{Param}
 use Rattle.tm_syntax.specs.declared.tree.TaskDef.{TaskDef}
 use Rattle.tm_syntax.specs.declared.tree.Template.{Template}
 use Rattle.tm_syntax.specs.Tree.{BodyTree}
 use Rattle.tm_syntax.specs.Tree.View.{body_tree, task_tree, template_tree}
 use Rattle.tm_syntax.specs.Scopes.Context.{task_body}
-use Rattle.tm_syntax.specs.Scopes.Names.{type_of}
 use Rattle.tm_syntax.specs.Design.{DesignTree, instance_node}
-use Rattle.tm_syntax.specs.Design.Cells.{Called, cell_type, task_called}
+use Rattle.tm_syntax.specs.Design.Cells.{Called, task_called}
 use Rattle.tm_syntax.specs.Design.Scope.{Scope, Site, site}
 use Rattle.tm_syntax.specs.Design.View.{design_tree}
 use Rattle.tm_scope.specs.Cells.{ScopedCells, cell_at}
@@ -28,14 +25,15 @@ use Rattle.tm_sem.specs.Step.{task_of}
 use Rattle.tm_locations.specs.Inner.Walks.{seen}
 use Rattle.tm_locations.proofs.TableCallees.{with-task, without-instance, without-site, without-task, without-template}
 use Rattle.tm_locations.proofs.WalkCalls.{told}
-use Rattle.tm_design.specs.Parameters.{AreCalledCells, called_by, named_task, task_at}
+use Rattle.tm_design.specs.Parameters.{AreCalledCells, named_task, task_at}
 use Rattle.tm_design.proofs.OperandCells.{TaskPlace, task_place}
 use Rattle.tm_plain_bodies.specs.declared.frame.Frame.{Frame}
 use Rattle.tm_plain_bodies.specs.Frames.{IsFrame}
-use Rattle.tm_plain_bodies.specs.Runs.{HasTypedCells}
 use Rattle.tm_plain_bodies.specs.Tables.{body_of, sites_of, tables_of}
-use Rattle.tm_plain_bodies.proofs.Found.{map_is, own_cells}
-use Rattle.tm_design.specs.Runnable.{HasSizedCalls}
+use Rattle.tm_design.proofs.Found.{map_is}
+use Rattle.tm_plain_bodies.proofs.Found.{own_cells}
+use Rattle.tm_design.proofs.CalledParameters.{as_many_cells, has_parameters}
+use Rattle.tm_design.specs.Runnable.{HasSizedCalls, HasTypedCells}
 use Rattle.tm_plain.specs.declared.machine.tasks.DriverTask.{DriverTask}
 use Rattle.tm_plain.specs.Tasks.{IsDriverTask, IsFoundTask}
 
@@ -119,20 +117,6 @@ module _ (d : Design) (at : SiteBody) (task : TaskDef) (stands : task_at (body_o
   pub listed : slice_get home.template.tasks place.index ≡ Some (task_tree task)
   listed = slice_get-map task_tree place.template.tasks.items place.index ∙ ap (option_map task_tree) place.is
 
-  module _ (typed : HasTypedCells (design_tree d)) (c : Called)
-      (by : called_by (design_tree d) at.instance at.body ≡ Some c) where
-    called_is : task_called (design_tree d) home place.index ≡ Some c
-    called_is =
-        sym (ap (option_and_then (λ (u : Site). task_called (design_tree d) u place.index)) home_is)
-        ∙ sym (ap (called_by (design_tree d) at.instance) place.body) ∙ by
-
-    -- each parameter has a cell
-    pub as_many_cells : length c.params ≡ length task.params.items
-    as_many_cells =
-        sym (length-map c.params (cell_type (design_tree d)))
-        ∙ ap length (typed.parameters at.instance home place.index (task_tree task) c home_is listed called_is)
-        ∙ length-map task.params.items (λ (p : Param). Some (type_of p.ty))
-
 -- what a slice lends where a number leads to nothing, and where it leads to an item
 module _ (d : Design) (number : ℕ) where
   abbrev of_item : Item → Option Called
@@ -191,7 +175,8 @@ module _ (d : Design) (number : ℕ) where
             body = ap (λ (p : Scope × BodyTree). p.1) c.2;
             stands = there;
             frame = frame;
-            as_many = as_many_cells d at task there typed c.0 c.1;
+            as_many =
+                as_many_cells (body_of d at) task there (design_tree d) (own_cells d) (has_parameters typed) c.0 c.1;
             sized = sized number c.0 (task_is ∙ c.1);
           }
 

@@ -32,9 +32,10 @@ use Rattle.tm_plain_bodies.specs.declared.halt.Halt.TheVariants as halt
 use Rattle.tm_plain_bodies.specs.Calls.{NestsWithin}
 use Rattle.tm_plain_bodies.specs.Frames.{IsFrame, RowFits}
 use Rattle.tm_states.specs.Promised.{IsPromised, RowIsPromised}
-use Rattle.tm_plain_bodies.specs.Runs.{DoesRow, HasTypedCells, Stands, behind, items_of}
+use Rattle.tm_design.specs.Runnable.{HasTypedCells}
+use Rattle.tm_plain_bodies.specs.Runs.{DoesRow, Stands, behind, items_of}
 use Rattle.tm_plain_bodies.specs.Tables.{body_of, tables_of}
-use Rattle.tm_plain_bodies.proofs.Apart.{slots_apart}
+use Rattle.tm_design.proofs.Apart.{slots_apart}
 use Rattle.tm_plain_bodies.proofs.Found.{own_cells}
 use Rattle.tm_states.proofs.Promised.{assume_typed}
 use Rattle.tm_plain_exprs.specs.Kept.{Kept, Keeps}

@@ -8,7 +8,8 @@ use Rattle.tm_scope.specs.Cells.{ScopedCells, cell_at}
 use Rattle.tm_scope.specs.declared.cells.site_body.CellNumber.{CellNumber}
 use Rattle.tm_sem.specs.Run.{put_in}
 use Rattle.tm_sem.specs.Value.{Memory}
-use Rattle.tm_plain_exprs.specs.Kept.{AreApart, Keeps}
+use Rattle.tm_design.specs.StepCells.{AreApart}
+use Rattle.tm_plain_exprs.specs.Kept.{Keeps}
 use Rattle.tm_plain_exprs.specs.Valued.{IsValued}
 use Rattle.tm_plain_bodies.specs.declared.course.Course.{Course}
 use Rattle.tm_plain_bodies.specs.Arguments.{IsAnswered}

@@ -14,13 +14,14 @@ use Rattle.tm_syntax.specs.Design.Work.{perform}
 use Rattle.tm_scope.specs.Cells.{HasCells, ScopedCells, cell_at, scope_of}
 use Rattle.tm_scope.specs.declared.cells.site_body.CellNumber.{CellNumber}
 use Rattle.tm_sem.specs.Value.{Memory, index_value, overruns, value}
-use Rattle.tm_sem.specs.Run.{asked_by, blocked, chooses_value, comes_to, failed, goes_on, progress, put_in}
+use Rattle.tm_sem.specs.Run.{asked_by, chooses_value, goes_on, put_in}
 use Rattle.tm_sem.specs.Run as run
 use Rattle.tm_typing.specs.HasType.{IsSized}
 use Rattle.tm_plain_bodies.specs.declared.course.Course.{Course}
 use Rattle.tm_plain_bodies.specs.declared.halt.Halt.{Halt}
 use Rattle.tm_plain_bodies.specs.declared.halt.Halt.TheVariants as halt
-use Rattle.tm_plain_exprs.specs.Kept.{AreApart, Keeps}
+use Rattle.tm_design.specs.StepCells.{AreApart}
+use Rattle.tm_plain_exprs.specs.Kept.{Keeps}
 use Rattle.tm_plain_bodies.specs.Runs.{Stands, GetsThrough, HaltsWithin, HaltsAt, HaltsAtTarget, IsAssigned, IsSame, IsTarget, TargetAt, item_of, told}
 use Rattle.tm_design.proofs.Contexts.{context_is}
 use Rattle.tm_plain_bodies.proofs.Doing.{blocks, halts_at, halts_earlier, passes, stands_on}

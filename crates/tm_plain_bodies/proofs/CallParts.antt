@@ -27,7 +27,7 @@ use Rattle.tm_design.specs.Parameters.{task_at}
 use Rattle.tm_design.specs.Typed.{context_at}
 use Rattle.tm_plain_bodies.specs.declared.frame.CalledTask.{CalledTask}
 use Rattle.tm_plain_bodies.specs.declared.frame.Frame.{Frame}
-use Rattle.tm_plain_bodies.specs.Calls.{IsCallee}
+use Rattle.tm_design.specs.Callees.{IsCallee}
 use Rattle.tm_plain_bodies.specs.Frames.{AreArguments, BodyMayPass, CallFits, IsCalled, StmtFits}
 use Rattle.tm_states.specs.Promised.{StmtIsPromised}
 use Rattle.tm_plain_bodies.specs.Runs.{TargetAt, crossing}

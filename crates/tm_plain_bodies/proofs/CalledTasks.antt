@@ -37,14 +37,16 @@ use Rattle.tm_locations.proofs.TextLeads.{sound_leads}
 use Rattle.tm_design.specs.Parameters.{task_at}
 use Rattle.tm_design.specs.Typed.{HasTypeAt, context_at}
 use Rattle.tm_design.proofs.Contexts.{context_here, of_site}
+use Rattle.tm_design.proofs.Indices.{in_enumerated}
 use Rattle.tm_design.proofs.OperandCells.{TaskPlace, task_place}
 use Rattle.tm_plain_bodies.specs.declared.frame.Frame.{Frame}
-use Rattle.tm_plain_bodies.specs.Calls.{IsCallee, NestsWithin, RunsTask}
+use Rattle.tm_design.specs.Callees.{IsCallee, RunsTask}
+use Rattle.tm_plain_bodies.specs.Calls.{NestsWithin}
 use Rattle.tm_plain_bodies.specs.Frames.{BodyFits, CallFits, IsCalled}
 use Rattle.tm_plain_bodies.specs.Tables.{IsReady, body_of, tables_of}
 use Rattle.tm_states.specs.Promised.{IsPromised}
-use Rattle.tm_plain_bodies.proofs.Apart.{numbered_here}
-use Rattle.tm_plain_bodies.proofs.Found.{and_then_is, map_is, own_cells}
+use Rattle.tm_design.proofs.Found.{and_then_is, map_is}
+use Rattle.tm_plain_bodies.proofs.Found.{own_cells}
 use Rattle.tm_plain_bodies.proofs.Nesting.{nests_call, stands_somewhere}
 use Rattle.tm_states.proofs.Promised.{answer_promised, body_promised}
 
@@ -57,7 +59,7 @@ task_in spec t k task there is =
     (in_behind (map (process_body_at spec tree) (enumerate_from 0 tree.processes))
     (map (task_body_at spec tree) (enumerate_from 0 tree.tasks))
     (in_map (task_body_at spec tree) (enumerate_from 0 tree.tasks)
-    (numbered_here tree.tasks k (task_tree task)
+    (in_enumerated tree.tasks k
     (slice_get-map task_tree t.tasks.items k ∙ ap (option_map task_tree) is))))
 
 -- a body of an instance is that of a task of the text

@@ -25,28 +25,8 @@ use Rattle.tm_plain_bodies.specs.Frames.{AreArguments}
 use Rattle.tm_plain_bodies.specs.Runs.{HaltsAt, IsSame}
 use Rattle.tm_plain_exprs.specs.Kept.{Kept, put_all}
 use Rattle.tm_plain_exprs.specs.Valued.{IsValued, Told}
+use Rattle.tm_design.proofs.Zipped.{get_at, zip_get, zip_length}
 use Rattle.tm_plain_bodies.proofs.Doing.{halts_earlier, same_then}
-
--- what stands at an index of two lists
-zip_get : {A B : Type 0} (xs : List A) (ys : List B) (k : ℕ) (x : A) (y : B) → slice_get xs k ≡ Some x →
-    slice_get ys k ≡ Some y → slice_get (zip xs ys) k ≡ Some (x, y)
-zip_get [] ys k x y here there = absurd (cc)
-zip_get (a ∷ xs) [] k x y here there = absurd (cc)
-zip_get (a ∷ xs) (b ∷ ys) zero x y here there =
-    let one : a ≡ x = cc in
-    let two : b ≡ y = cc in
-    (λ i. Some (one i, two i))
-zip_get (a ∷ xs) (b ∷ ys) (suc k) x y here there = zip_get xs ys k x y here there
-
-get_at : {A : Type 0} (xs : List A) (k : ℕ) (x : A) → slice_get xs k ≡ Some x → (k < length xs) × (get_or xs k x ≡ x)
-get_at [] k x is = absurd (cc)
-get_at (a ∷ xs) zero x is = let same : a ≡ x = cc in (omega arith, same)
-get_at (a ∷ xs) (suc k) x is = let rest = get_at xs k x is in (omega (arith, rest.0), rest.1)
-
-zip_length : {A B : Type 0} (xs : List A) (ys : List B) → length (zip xs ys) ≤ length ys
-zip_length [] ys = omega arith
-zip_length (x ∷ xs) [] = omega arith
-zip_length (x ∷ xs) (y ∷ ys) = let rest = zip_length xs ys in omega (arith, rest)
 
 module _ (s : ScopedCells) (k : Kept) where
   abbrev pub Valued : Param × ExprTree → ℕ → Type 0

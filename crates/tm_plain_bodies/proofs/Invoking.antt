@@ -24,7 +24,7 @@ use Rattle.tm_plain_bodies.specs.declared.frame.Frame.{Frame}
 use Rattle.tm_plain_bodies.specs.declared.halt.Halt.{Halt}
 use Rattle.tm_plain_bodies.specs.declared.halt.Halt.TheVariants as halt
 use Rattle.tm_plain_bodies.specs.Arguments.{AreGiven, HaltsAtSome}
-use Rattle.tm_plain_bodies.specs.Calls.{IsCallee}
+use Rattle.tm_design.specs.Callees.{IsCallee}
 use Rattle.tm_plain_bodies.specs.Frames.{AreArguments, CallFits, StmtFits}
 use Rattle.tm_plain_exprs.specs.Kept.{Keeps}
 use Rattle.tm_plain_bodies.specs.Runs.{HaltsWithin, Stands, body_work, item_of, told}

@@ -1,5 +1,4 @@
 pub mod Answering
-pub mod Apart
 pub mod Arms
 pub mod Assigning
 pub mod Behind
@@ -25,6 +24,5 @@ pub mod Returning
 pub mod Shapes
 pub mod Stacks
 pub mod Stepping
-pub mod TableCalls
 pub mod Targets
 pub mod Weights

@@ -14,14 +14,14 @@ use Rattle.tm_syntax.specs.Design.Work.{WorkItem, body_items, call_place, delive
 use Rattle.tm_scope.specs.Cells.{HasCells, ScopedCells, cell_at, scope_of}
 use Rattle.tm_scope.specs.declared.cells.site_body.CellNumber.{CellNumber}
 use Rattle.tm_sem.specs.Value.{Memory, index_value, overruns, value}
-use Rattle.tm_sem.specs.Run.{Ending, acts, asked_by, assigns, blocked, calls, comes_to, delivery, failed, goes_on, progress, put_in, target_element, with_arguments}
+use Rattle.tm_sem.specs.Run.{asked_by, blocked, comes_to, delivery, failed, goes_on, progress, put_in, target_element, with_arguments}
 use Rattle.tm_sem.specs.Run as run
 use Rattle.tm_plain_bodies.specs.declared.course.Course.{Course}
 use Rattle.tm_plain_bodies.specs.declared.frame.CalledTask.{CalledTask}
 use Rattle.tm_plain_bodies.specs.declared.halt.Halt.{Halt}
 use Rattle.tm_plain_bodies.specs.declared.halt.Halt.TheVariants as halt
 use Rattle.tm_plain_bodies.specs.Arguments.{AreGiven, HaltsAtSome, IsAnswered}
-use Rattle.tm_plain_bodies.specs.Calls.{IsCallee}
+use Rattle.tm_design.specs.Callees.{IsCallee}
 use Rattle.tm_plain_bodies.specs.Going.{GoesOn}
 use Rattle.tm_plain_bodies.specs.Runs.{HaltsWithin, IsSame, IsTarget, Stands, TargetAt, at_end, body_work, told}
 use Rattle.tm_plain_exprs.specs.Kept.{Keeps}

@@ -22,7 +22,7 @@ use Rattle.tm_plain_bodies.specs.Inner.Weights.{weight}
 use Rattle.tm_plain_bodies.specs.Tables.{body_of, tables_of}
 use Rattle.tm_plain_bodies.proofs.Found.{own_cells}
 use Rattle.tm_plain_bodies.proofs.GoingOver.{over_halts, over_self, over_then, rows_asked, rows_done, rows_halt, rows_never}
-use Rattle.tm_plain_bodies.proofs.Readers.{no_instance}
+use Rattle.tm_design.proofs.Found.{no_source}
 
 -- the last item of a stack comes next
 pub owed_next : (new old : List Todo) (t : Todo) → new ≡ old ++ t ∷ [] → owed new ≡ seen t ∷ owed old
@@ -33,7 +33,7 @@ pub body_there : (d : Design) (at : SiteBody) (found : Option ScopedCells) →
     found ≡ option_map (λ _. body_of d at) (site (design_tree d) at.instance) → found ≡ None → (c : Context) →
     context_at (body_of d at) ≡ Some c → ⊥
 body_there d at found is none c stands =
-    let nowhere = no_instance (λ (s : Site). body_of d at) (site (design_tree d) at.instance) found is none in
+    let nowhere = no_source (λ (s : Site). body_of d at) (site (design_tree d) at.instance) found is none in
     none-some c
     (sym (ap (option_map (λ (s : Site). record {
       spec = (design_tree d).spec;

@@ -13,7 +13,7 @@ use Rattle.tm_syntax.specs.Design.Cells.{Cell, cell, cell_type}
 use Rattle.tm_sem.specs.Run.{asked_by}
 use Rattle.tm_typing.specs.HasType.{HasType, IsSized, an_element_at, an_element}
 use Rattle.tm_typing.specs.Statements.{TargetResolves}
-use Rattle.tm_plain_bodies.specs.Runs.{HasTypedCells}
+use Rattle.tm_design.specs.Runnable.{HasTypedCells}
 
 -- the type of a target, which has a width that numbers can have
 pub record TargetType (c : Context) (names : List Ident) : Type 0 where

@@ -16,7 +16,8 @@ use Rattle.tm_design.specs.Parameters.{called_by}
 use Rattle.tm_plain_bodies.specs.declared.course.Course.{Course}
 use Rattle.tm_plain_bodies.specs.declared.halt.Halt.{Halt}
 use Rattle.tm_plain_bodies.specs.declared.halt.Halt.TheVariants as halt
-use Rattle.tm_plain_exprs.specs.Kept.{AreApart, Kept, Keeps}
+use Rattle.tm_design.specs.StepCells.{AreApart}
+use Rattle.tm_plain_exprs.specs.Kept.{Kept, Keeps}
 use Rattle.tm_plain_bodies.specs.Runs.{HaltsAt, Stands, at_end}
 use Rattle.tm_plain_exprs.specs.Valued.{IsValued, Told}
 

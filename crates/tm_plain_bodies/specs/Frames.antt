@@ -22,7 +22,8 @@ use Rattle.tm_typing.specs.Statements.{HasCallee}
 use Rattle.tm_design.specs.Typed.{HasTypeAt, context_at}
 use Rattle.tm_plain_bodies.specs.declared.frame.Frame.{Frame}
 use Rattle.tm_plain_bodies.specs.declared.frame.CalledTask.{CalledTask}
-use Rattle.tm_plain_bodies.specs.Calls.{IsCallee, NestsWithin}
+use Rattle.tm_design.specs.Callees.{IsCallee}
+use Rattle.tm_plain_bodies.specs.Calls.{NestsWithin}
 use Rattle.tm_plain_bodies.specs.Tables.{body_of, tables_of}
 use Rattle.tm_states.specs.Promised.{IsPromised}
 use Rattle.tm_plain_bodies.specs.Runs.{BlocksAt, RowAt, StmtAt}

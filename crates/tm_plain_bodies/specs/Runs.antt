@@ -1,19 +1,17 @@
 -- What a machine does within a run of a design: from what it keeps before some work to what it keeps behind it.
-use Rattle.std.specs.Prelude.{◌≡◌, ℕ, ⊤, Bool, false, Option, None, Some, Result, Ok, Err, List, [], ◌∷◌, ◌++◌, map, slice_get}
+use Rattle.std.specs.Prelude.{◌≡◌, ℕ, ⊤, Bool, false, Option, None, Some, Result, Ok, Err, List, [], ◌∷◌, ◌++◌, map}
 use Rattle.std.specs.List.{list_any}
 use Rattle.std.specs.Option.{option_map, option_and_then}
 use Rattle.tm_base.specs.declared.place.Place.{Place}
 use Rattle.tm_syntax.specs.declared.design.Ty.{Ty}
 use Rattle.tm_syntax.specs.declared.tree.Ident.{Ident}
-use Rattle.tm_syntax.specs.declared.tree.Param.{Param}
-use Rattle.tm_syntax.specs.Tree.{BodyTree, ExprTree, StmtTree, StmtRow, TaskTree, path, element, row_of, alternatives_of}
+use Rattle.tm_syntax.specs.Tree.{BodyTree, ExprTree, StmtTree, StmtRow, path, element, row_of, alternatives_of}
 use Rattle.tm_syntax.specs.Scopes.Context.{Context}
-use Rattle.tm_syntax.specs.Scopes.Names.{type_of}
 use Rattle.tm_syntax.specs.Scopes.Crossing.{stmt_crosses, row_crosses, call_crosses}
-use Rattle.tm_syntax.specs.Scopes.Types.{named_type, own_type}
+use Rattle.tm_syntax.specs.Scopes.Types.{named_type}
 use Rattle.tm_syntax.specs.Design.{DesignTree}
-use Rattle.tm_syntax.specs.Design.Scope.{Scope, Site, context, site}
-use Rattle.tm_syntax.specs.Design.Cells.{Called, Cell, cell, cell_type, task_called}
+use Rattle.tm_syntax.specs.Design.Scope.{context}
+use Rattle.tm_syntax.specs.Design.Cells.{cell}
 use Rattle.tm_syntax.specs.Design.Work.{WorkItem, body_items, perform}
 use Rattle.tm_scope.specs.Cells.{CellTables, HasCells, IsCellNumber, ScopedCells, cell_at, scope_of}
 use Rattle.tm_scope.specs.declared.cells.site_body.CellNumber.{CellNumber}
@@ -25,23 +23,12 @@ use Rattle.tm_plain_bodies.specs.declared.course.Course.{Course}
 use Rattle.tm_plain_bodies.specs.declared.halt.Halt.{Halt}
 use Rattle.tm_plain_bodies.specs.declared.halt.Halt.TheVariants as halt
 use Rattle.tm_plain_bodies.specs.Going.{GoesOn, EndsWithin}
-use Rattle.tm_plain_exprs.specs.Kept.{Kept, AreApart, Keeps}
+use Rattle.tm_design.specs.StepCells.{AreApart}
+use Rattle.tm_plain_exprs.specs.Kept.{Kept, Keeps}
 use Rattle.tm_states.specs.Promised.{StmtIsPromised, RowIsPromised, BlocksArePromised}
+use Rattle.tm_design.specs.Runnable.{HasTypedCells}
 use Rattle.tm_design.specs.Typed.{context_at}
 use Rattle.tm_plain_exprs.specs.Valued.{IsValued, Overruns, Told}
-
--- each cell that a path means has the type that the text says
-pub record HasTypedCells (d : DesignTree) : Type 0 where
-  pub variables : (scope : Scope) (c : Context) (names : List Ident) (ty : Ty) (found : Cell) →
-      context d scope ≡ Some c → own_type c (path names) ≡ Some ty → cell d scope names None ≡ Some found →
-      cell_type d found ≡ Some ty
-  pub elements : (scope : Scope) (c : Context) (names : List Ident) (index : ℕ) (ty : Ty) (found : Cell) →
-      context d scope ≡ Some c → named_type c names ≡ Some ty → cell d scope names (Some index) ≡ Some found →
-      cell_type d found ≡ Some ty
-  -- each parameter of a task has a cell
-  pub parameters : (n : ℕ) (s : Site) (k : ℕ) (task : TaskTree) (c : Called) → site d n ≡ Some s →
-      slice_get s.template.tasks k ≡ Some task → task_called d s k ≡ Some c →
-      map (cell_type d) c.params ≡ map (λ (p : Param). Some (type_of p.ty)) task.params
 
 -- a design and a memory, of which a machine has the tables and keeps the values; the parameters and locals of each body
 -- have names of their own, and cells have their types

@@ -1,34 +1,15 @@
 -- What is kept where cells have got values one after the other.
-use Rattle.std.proofs.Common.{◌≡◌, ℕ, zero, suc, ◌+◌, ◌<◌, ◌≤◌, Option, Some, List, [], ◌∷◌, ◌++◌, length, map, min, take, get_or, slice_get, refl, sym, ap, ◌∙◌, subst, arith}
+use Rattle.std.proofs.Common.{◌≡◌, ℕ, zero, suc, ◌+◌, ◌≤◌, Option, Some, List, [], ◌∷◌, ◌++◌, length, map, min, take, slice_get, refl, sym, ap, ◌∙◌, subst, arith}
 use Rattle.std.specs.List.{zip, fold}
-use Rattle.std.proofs.lemmas.List.{take_all, take_more}
+use Rattle.std.proofs.lemmas.List.{length-map, take_all, take_more}
 use Rattle.tm_syntax.specs.Design.Cells.{Cell}
 use Rattle.tm_scope.specs.Cells.{CellTables, ScopedCells, cell_at}
 use Rattle.tm_scope.specs.declared.cells.site_body.SiteBody.{SiteBody}
 use Rattle.tm_scope.specs.declared.cells.site_body.CellNumber.{CellNumber}
 use Rattle.tm_sem.specs.Value.{Memory, put}
-use Rattle.tm_plain_exprs.specs.Kept.{AreApart, Kept, Keeps, put_all}
-
--- what stands at an index of two lists
-zip_get : {A B : Type 0} (xs : List A) (ys : List B) (k : ℕ) (x : A) (y : B) → slice_get xs k ≡ Some x →
-    slice_get ys k ≡ Some y → slice_get (zip xs ys) k ≡ Some (x, y)
-zip_get [] ys k x y here there = absurd (cc)
-zip_get (a ∷ xs) [] k x y here there = absurd (cc)
-zip_get (a ∷ xs) (b ∷ ys) zero x y here there =
-    let one : a ≡ x = cc in
-    let two : b ≡ y = cc in
-    (λ i. Some (one i, two i))
-zip_get (a ∷ xs) (b ∷ ys) (suc k) x y here there = zip_get xs ys k x y here there
-
-get_at : {A : Type 0} (xs : List A) (k : ℕ) (x : A) → slice_get xs k ≡ Some x → (k < length xs) × (get_or xs k x ≡ x)
-get_at [] k x is = absurd (cc)
-get_at (a ∷ xs) zero x is = let same : a ≡ x = cc in (omega arith, same)
-get_at (a ∷ xs) (suc k) x is = let rest = get_at xs k x is in (omega (arith, rest.0), rest.1)
-
-zip_length : {A B : Type 0} (xs : List A) (ys : List B) → length (zip xs ys) ≤ length ys
-zip_length [] ys = omega arith
-zip_length (x ∷ xs) [] = omega arith
-zip_length (x ∷ xs) (y ∷ ys) = let rest = zip_length xs ys in omega (arith, rest)
+use Rattle.tm_design.specs.StepCells.{AreApart}
+use Rattle.tm_design.proofs.Zipped.{get_at, zip_get, zip_length}
+use Rattle.tm_plain_exprs.specs.Kept.{Kept, Keeps, put_all}
 
 -- values are put into cells one after the other
 abbrev pub kept_put : Memory → Cell × ℕ → Memory
@@ -75,10 +56,6 @@ module _ (s : ScopedCells) (cells : List CellNumber) (values : List ℕ) where
       (puts s.tables (fold kept_put m (take i (zip cs values))) c.0 apart (before m cs apart keeps are)
       (ap (λ a. cell_at s.tables a n) own ∙ c.2)))
 
-  map_length : {A B : Type 0} (f : A → B) (xs : List A) → length (map f xs) ≡ length xs
-  map_length f [] = refl
-  map_length f (x ∷ xs) = let rest = map_length f xs in omega (arith, rest)
-
   zip_short : {A B : Type 0} (xs : List A) (ys : List B) → length (zip xs ys) ≤ length xs
   zip_short [] ys = omega arith
   zip_short (x ∷ xs) [] = omega arith
@@ -89,7 +66,7 @@ module _ (s : ScopedCells) (cells : List CellNumber) (values : List ℕ) where
       map (cell_at s.tables s.at) cells ≡ map Some cs → Keeps s.tables now (put_all m cs values)
   put_whole i from now end before m cs apart keeps are =
       let long : length cs ≡ length cells =
-      sym (map_length Some cs) ∙ ap length (sym are) ∙ map_length (cell_at s.tables s.at) cells in
+      sym (length-map cs Some) ∙ ap length (sym are) ∙ length-map cells (cell_at s.tables s.at) in
       let one = zip_short cs values in
       let two = zip_length cs values in
       subst (λ qs. Keeps s.tables now (fold kept_put m qs))

@@ -20,7 +20,8 @@ use Rattle.tm_scope.specs.declared.cells.site_body.SiteBody.{SiteBody}
 use Rattle.tm_scope.specs.declared.cells.site_body.CellNumber.{CellNumber}
 use Rattle.tm_sem.specs.Run.{asked_by, put_in}
 use Rattle.tm_sem.specs.Value.{Memory, read, put}
-use Rattle.tm_plain_exprs.specs.Kept.{Kept, AreApart, Keeps}
+use Rattle.tm_design.specs.StepCells.{AreApart}
+use Rattle.tm_plain_exprs.specs.Kept.{Kept, Keeps}
 use Rattle.tm_design.specs.Typed.{HasTypeAt, context_at}
 use Rattle.tm_plain_exprs.specs.Valued.{IsOperandType, Told}
 use Rattle.tm_design.proofs.Contexts.{some_design, some_cells, context_is}

@@ -8,4 +8,4 @@ mod store;
 
 pub use reader::Reader;
 pub use stop::Stop;
-pub use store::{StepCell, StepValues, Store};
+pub use store::{StepValues, Store};

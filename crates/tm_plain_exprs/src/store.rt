@@ -3,13 +3,15 @@ ghost use Rattle.std.specs.Prelude.{◌≡◌, [], Some, OnOk, slice_set};
 ghost use Rattle.tm_syntax.specs.Design.Cells.{Cell};
 ghost use Rattle.tm_scope.specs.Cells.{CellTables, cell_at};
 ghost use Rattle.tm_sem.specs.Value as run;
-ghost use Rattle.tm_plain_exprs.specs.Kept.{AreApart, Keeps};
+ghost use Rattle.tm_design.specs.StepCells.{AreApart};
+ghost use Rattle.tm_plain_exprs.specs.Kept.{Keeps};
 
 mod step_values;
 
 use std::alloc::{AllocError, Global};
 use std::marker::Model;
-pub use step_values::{StepCell, StepValues};
+pub use step_values::StepValues;
+use tm_design::StepCell;
 use tm_scope::{CellNumber, SiteBody};
 
 /// The memory of a run: the values of the state variables by their numbers, and those of the parameters and locals

@@ -147,23 +147,12 @@ module _ (g h : GameData) (ks js : List ℕ) (n : ℕ) (long : n ≡ length g.fl
   pub in_pool : AreInPool g ks
   in_pool = subst (λ (m : ℕ). All (λ k. k < m) ks) long (within_below n ks js is)
 
-  pub upper_side : (upper : Bool) → upper ≡ true → (a : StateSet) (id : NodeId) →
-      Is (exact_game g).states (pool_ids h) id (upper_part (exact_game g).states (tests_of g ks) a) →
+  pub side_told : (upper : Bool) (a : StateSet) (id : NodeId) →
+      Is (exact_game g).states (pool_ids h) id (side_part upper (exact_game g).states (tests_of g ks) a) →
       Is (exact_game g).states (pool_ids h) id (side_part upper (exact_game g).states (tests_of g js) a)
-  upper_side upper e a id made =
-      subst (λ (b : Bool). Is (exact_game g).states (pool_ids h) id
-      (side_part b (exact_game g).states (tests_of g js) a)) (sym e)
-      (subst (λ (ps : List StateSet). Is (exact_game g).states (pool_ids h) id
-      (upper_part (exact_game g).states ps a)) tests_same made)
-
-  pub lower_side : (upper : Bool) → upper ≡ false → (a : StateSet) (id : NodeId) →
-      Is (exact_game g).states (pool_ids h) id (lower_part (exact_game g).states (tests_of g ks) a) →
-      Is (exact_game g).states (pool_ids h) id (side_part upper (exact_game g).states (tests_of g js) a)
-  lower_side upper e a id made =
-      subst (λ (b : Bool). Is (exact_game g).states (pool_ids h) id
-      (side_part b (exact_game g).states (tests_of g js) a)) (sym e)
-      (subst (λ (ps : List StateSet). Is (exact_game g).states (pool_ids h) id
-      (lower_part (exact_game g).states ps a)) tests_same made)
+  side_told upper a id =
+      subst (λ (ps : List StateSet). Is (exact_game g).states (pool_ids h) id
+      (side_part upper (exact_game g).states ps a)) tests_same
 
 -- ---- what is found of cells
 module _ (d : DesignTree) (g : GameData) (can : CanDecide d g) (ks js : List ℕ) (n : ℕ)

@@ -6,7 +6,6 @@ ghost use Rattle.tm_abs.specs.Tracked.{AreInPool};
 ghost use Rattle.tm_flat_pool.specs.Predicates.{pool};
 ghost use Rattle.tm_game.specs.Game.{Grows};
 ghost use Rattle.tm_game_pool.specs.Separating.{predicates_at};
-ghost use Rattle.tm_refine.specs.Parts as parts_of;
 ghost use Rattle.tm_refine.specs.Pooled.{CanBeDecided, CanDecide, Keeps, pool_ids, tests_of};
 ghost use Rattle.tm_refine.specs.Sided.{side_part};
 ghost use Rattle.tm_refine.specs.Solved.{IsOut};
@@ -59,47 +58,30 @@ pub(crate) fn side(
 {
     tell(game);
     let cells = cells_of(alloc, tracked, game.flat().pool.len())?;
+    part_over(alloc, game, &cells, upper, set)
+}
+
+// The cells that meet a set, or those that lie in it.
+fn part_over(
+    alloc: Global,
+    game: &mut Game,
+    cells: &Cells,
+    upper: bool,
+    set: NodeId,
+) -> Result<NodeId, AllocError>
+    requires can { CanBeDecided game.old }
+    requires tracked { AreInPool game.old cells.now.tracked.items }
+    requires set { IsStateSet game.old set }
+    ensures value { IfOk result (λ id. Is (exact_game game.old).states (pool_ids game.new) id
+        (side_part upper (exact_game game.old).states (tests_of game.old cells.now.tracked.items)
+        (set_of game.old set))) }
+    ensures kept { Keeps game.old game.new }
+{
     if upper {
-        return upper_part(alloc, game, &cells, set);
+        let part = cells.upper(alloc, game, set);
+        tell(game);
+        return part;
     }
-    lower_part(alloc, game, &cells, set)
-}
-
-// The cells that meet a set.
-fn upper_part(
-    alloc: Global,
-    game: &mut Game,
-    cells: &Cells,
-    set: NodeId,
-) -> Result<NodeId, AllocError>
-    requires can { CanBeDecided game.old }
-    requires tracked { AreInPool game.old cells.now.tracked.items }
-    requires set { IsStateSet game.old set }
-    ensures value { IfOk result (λ id. Is (exact_game game.old).states (pool_ids game.new) id
-        (parts_of.upper_part (exact_game game.old).states (tests_of game.old cells.now.tracked.items)
-        (set_of game.old set))) }
-    ensures kept { Keeps game.old game.new }
-{
-    let part = cells.upper(alloc, game, set);
-    tell(game);
-    part
-}
-
-// The cells that lie in a set.
-fn lower_part(
-    alloc: Global,
-    game: &mut Game,
-    cells: &Cells,
-    set: NodeId,
-) -> Result<NodeId, AllocError>
-    requires can { CanBeDecided game.old }
-    requires tracked { AreInPool game.old cells.now.tracked.items }
-    requires set { IsStateSet game.old set }
-    ensures value { IfOk result (λ id. Is (exact_game game.old).states (pool_ids game.new) id
-        (parts_of.lower_part (exact_game game.old).states (tests_of game.old cells.now.tracked.items)
-        (set_of game.old set))) }
-    ensures kept { Keeps game.old game.new }
-{
     let part = cells.lower(alloc, game, set);
     tell(game);
     part

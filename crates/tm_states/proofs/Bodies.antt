@@ -15,7 +15,7 @@ use Rattle.tm_syntax.specs.Design.Scope.{Scope, Site, site, site_along}
 use Rattle.tm_sem.specs.Step.{task_of}
 use Rattle.tm_locations.specs.Locations.{LeadsByText}
 use Rattle.tm_locations.proofs.CalledBodies.{along-number, made, reached-by_text, site-number}
-use Rattle.tm_states.proofs.Found.{and_then_is, map_is}
+use Rattle.tm_design.proofs.Found.{and_then_is, map_is}
 
 module _ (d : DesignTree) where
   -- what a call runs is a task of an instance

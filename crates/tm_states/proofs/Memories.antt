@@ -20,7 +20,7 @@ use Rattle.tm_sem.specs.Value.{Memory, Passing, put, read}
 use Rattle.tm_typing.proofs.Fitting.{both_true}
 use Rattle.tm_typing.proofs.Listed.{holds_in, no_thing, of_find, one_thing}
 use Rattle.tm_states.specs.States.{HoldsValues}
-use Rattle.tm_states.proofs.Found.{and_then_is, map_is}
+use Rattle.tm_design.proofs.Found.{and_then_is, map_is}
 
 -- texts that agree byte by byte are one
 pub same_bytes : (m n : List ℕ) → pointwise nat_eq m n ≡ true → m ≡ n

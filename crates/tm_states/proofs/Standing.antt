@@ -19,7 +19,7 @@ use Rattle.tm_typing.proofs.Listed.{In, all_join, in_behind, in_flat, in_front, 
 use Rattle.tm_states.specs.Promised.{BlocksArePromised, IsPromised, RowIsPromised, StmtIsPromised}
 use Rattle.tm_design.proofs.Indices.{in_enumerated}
 use Rattle.tm_states.proofs.Bodies.{IsProcess, IsTask, called_task, thread_is}
-use Rattle.tm_states.proofs.Found.{and_then_is, map_is}
+use Rattle.tm_design.proofs.Found.{and_then_is, map_is}
 use Rattle.tm_states.proofs.Promised.{body_promised}
 use Rattle.tm_states.specs.Standing.{ItemStands, ItemsStand, StandsIn}
 

@@ -26,7 +26,8 @@ use Rattle.tm_typing.proofs.Sound.{checked}
 use Rattle.tm_locations.proofs.TextLeads.{sound_leads}
 use Rattle.tm_states.proofs.Bodies.{driver_task}
 use Rattle.tm_states.proofs.Callees.{task_own}
-use Rattle.tm_states.proofs.Found.{and_then_is, below_tested, then_some_is}
+use Rattle.tm_design.proofs.Found.{and_then_is}
+use Rattle.tm_states.proofs.Found.{below_tested, then_some_is}
 use Rattle.tm_states.proofs.Memories.{HoldsTyped, IsOwn, put_typed}
 use Rattle.tm_states.proofs.Running.{EndsTyped, ItemsFit, run_typed, standing_fits}
 use Rattle.tm_states.proofs.Standing.{called_stands, list_stands, rest_stands}

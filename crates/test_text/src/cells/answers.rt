@@ -91,7 +91,7 @@ fn found(
 }
 
 /// The answer to the question of a row.
-pub fn answer_to(
+pub fn answer_by_cells(
     alloc: Global,
     cells: &Cells,
     spec: &Spec,

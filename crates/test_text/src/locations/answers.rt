@@ -37,7 +37,11 @@ fn trail_text(alloc: Global, table: &Locations, at: Place) -> Result<String, All
 }
 
 /// The answer to a question about the locations of a process.
-pub fn answer_to(alloc: Global, table: &Locations, question: &str) -> Result<String, AllocError> {
+pub fn answer_by_table(
+    alloc: Global,
+    table: &Locations,
+    question: &str,
+) -> Result<String, AllocError> {
     let (verb, rest) = split_word(question);
     match verb {
         "start" => {

@@ -28,7 +28,8 @@ use Rattle.tm_flat.specs.Inputs.{room}
 use Rattle.tm_flat.specs.Steps.{IsTerm}
 use Rattle.tm_flat.specs.Writes.{is_variable}
 use Rattle.tm_flat_exprs.specs.Kept.{KeptTerms, Keeps, type_at}
-use Rattle.tm_flat_exprs.specs.Merged.{AreApart, IsMemory}
+use Rattle.tm_design.specs.StepCells.{AreApart}
+use Rattle.tm_flat_exprs.specs.Merged.{IsMemory}
 use Rattle.tm_flat_stmts.specs.Flows.{FlowTerms, HasTerm, LeadsOn, MakesJoinIfThere, Narrows}
 use Rattle.tm_flat_stmts.specs.Statements.{Asks, HasValue}
 use Rattle.tm_flat_stmts.specs.declared.places.TargetPlace.{TargetPlace}
@@ -37,7 +38,7 @@ use Rattle.tm_flat_bodies.specs.declared.arguments.Arguments.{Arguments}
 use Rattle.tm_flat_bodies.specs.declared.called.CalledTask.{CalledTask}
 use Rattle.tm_flat_bodies.specs.declared.course.Course.{Course}
 use Rattle.tm_flat_bodies.specs.declared.stand.Stand.{Stand}
-use Rattle.tm_flat_bodies.specs.Calls.{IsCallee}
+use Rattle.tm_design.specs.Callees.{IsCallee}
 use Rattle.tm_flat_bodies.specs.Walks.{InEach, IsStand, IsTrailOf, WalkTables}
 
 -- a path that may be called: it leads to a task, and calls nest deep enough

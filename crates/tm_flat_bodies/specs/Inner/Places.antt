@@ -14,7 +14,7 @@ use Rattle.tm_flat_bodies.specs.declared.waiting.Spot.{Spot}
 use Rattle.tm_flat_bodies.specs.declared.waiting.Spot.TheVariants as spots
 use Rattle.tm_flat_bodies.specs.declared.waiting.Todo.{Todo}
 use Rattle.tm_flat_bodies.specs.declared.waiting.Waiting.{Waiting}
-use Rattle.tm_flat_bodies.specs.Calls.{IsCallee}
+use Rattle.tm_design.specs.Callees.{IsCallee}
 use Rattle.tm_flat_bodies.specs.Inner.Passing.{local_stmts}
 use Rattle.tm_flat_bodies.specs.Walks.{WalkTables}
 

@@ -6,7 +6,7 @@ use Rattle.tm_term.specs.declared.term.TermId.{TermId}
 use Rattle.tm_term.specs.Table.{Table, IsSound}
 use Rattle.tm_term.specs.Value.{AreInputs, value_of, Extends}
 use Rattle.tm_flat.specs.Steps.{IsTerm}
-use Rattle.tm_flat_exprs.specs.declared.memory.step_terms.StepCell.{StepCell}
+use Rattle.tm_design.specs.declared.step_cells.StepCell.{StepCell}
 use Rattle.tm_flat_exprs.specs.declared.memory.versions.Version.{Version}
 use Rattle.tm_flat_exprs.specs.Kept.{HasSlot, IsKeptVersion}
 use Rattle.tm_flat_exprs.specs.Versions.{step_value, version_values}

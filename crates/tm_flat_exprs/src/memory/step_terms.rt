@@ -17,15 +17,8 @@ use crate::memory::choices::chosen;
 use crate::memory::versions::{Version, Versions};
 use std::alloc::{AllocError, Global};
 use std::marker::Model;
-use tm_scope::{SiteBody, SlotNumber};
+use tm_design::StepCell;
 use tm_term::{Term, TermId, Terms};
-
-/// A parameter or local that lives for one step: the body of an instance that has it, and its number there.
-#[derive(Clone, Copy, PartialEq, Eq, Hash, Debug)]
-pub struct StepCell {
-    pub at: SiteBody,
-    pub slot: SlotNumber,
-}
 
 /// The terms of parameters and locals that live for one step, by the versions that they had: where memories become one,
 /// no term is made before one is read.

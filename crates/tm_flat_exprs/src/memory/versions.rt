@@ -2,10 +2,10 @@
 ghost use Rattle.std.specs.Prelude.{◌≡◌, ◌++◌, ◌∷◌, ◌+◌, ◌*◌, [], IfOk, IsTrue, OnOk, length, slice_get};
 ghost use Rattle.tm_flat_exprs.specs.Inner.Shared.{HaveSame};
 
-use crate::memory::step_terms::StepCell;
 use std::alloc::{AllocError, Global};
 use std::marker::Model;
 use std::rc::Rc;
+use tm_design::StepCell;
 use tm_term::TermId;
 
 // How many versions the parts have that copies share.
@@ -13,7 +13,7 @@ const PART: usize = 64;
 
 /// How a version of the terms of parameters and locals was made. Versions have numbers: in version 0 none has a term,
 /// and each later one is the next of a list.
-#[derive(Clone, Copy, PartialEq, Eq, Debug)]
+#[derive(Clone, Copy, PartialEq, Eq)]
 pub enum Version {
     /// The version before, after a parameter or local got a term.
     Put(StepCell, TermId),

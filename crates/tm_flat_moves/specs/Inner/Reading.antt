@@ -15,7 +15,7 @@ use Rattle.tm_design.specs.Parameters.{called_by, task_at}
 use Rattle.tm_design.specs.Values.{HasParameters}
 use Rattle.tm_flat.specs.Fitting.{ArgumentsFit}
 use Rattle.tm_flat.specs.Inputs.{room}
-use Rattle.tm_flat_exprs.specs.Merged.{AreApart}
+use Rattle.tm_design.specs.StepCells.{AreApart}
 use Rattle.tm_flat_moves.specs.Arguments.{params_of}
 use Rattle.tm_flat_moves.specs.Callable.{AreSized}
 

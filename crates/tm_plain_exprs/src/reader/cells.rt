@@ -11,7 +11,8 @@ ghost use Rattle.tm_scope.specs.Types.{ty_of};
 ghost use Rattle.tm_sem.specs.Run.{asked_by, put_in};
 ghost use Rattle.tm_sem.specs.Value as run;
 ghost use Rattle.tm_typing.specs.HasType.{IsSized};
-ghost use Rattle.tm_plain_exprs.specs.Kept.{AreApart, Keeps};
+ghost use Rattle.tm_design.specs.StepCells.{AreApart};
+ghost use Rattle.tm_plain_exprs.specs.Kept.{Keeps};
 ghost use Rattle.tm_design.specs.Typed.{context_at};
 
 use crate::reader::Reader;

@@ -4,7 +4,8 @@ ghost use Rattle.tm_syntax.specs.Design.Cells.{Cell};
 ghost use Rattle.tm_scope.specs.Cells.{cell_at};
 ghost use Rattle.tm_sem.specs.Value as run;
 ghost use Rattle.tm_design.specs.Parameters.{AreCalledCells, task_at};
-ghost use Rattle.tm_plain_exprs.specs.Kept.{AreApart, Keeps, put_all};
+ghost use Rattle.tm_design.specs.StepCells.{AreApart};
+ghost use Rattle.tm_plain_exprs.specs.Kept.{Keeps, put_all};
 
 use crate::reader::Reader;
 use crate::store::Store;

@@ -1,18 +1,12 @@
 //! The values of parameters and locals that live for one step.
 ghost use Rattle.std.specs.Prelude.{◌≡◌, OnOk, [], if◌then◌else◌};
-ghost use Rattle.tm_plain_exprs.specs.Kept.{kept_value, same_cell};
+ghost use Rattle.tm_design.specs.StepCells.{same_cell};
+ghost use Rattle.tm_plain_exprs.specs.Kept.{kept_value};
 
 use indexmap::IndexMap;
 use std::alloc::{AllocError, Global};
 use std::marker::Model;
-use tm_scope::{SiteBody, SlotNumber};
-
-/// A parameter or local that lives for one step: the body of an instance that has it, and its number there.
-#[derive(Clone, Copy, PartialEq, Eq, Hash, Debug)]
-pub struct StepCell {
-    pub at: SiteBody,
-    pub slot: SlotNumber,
-}
+use tm_design::StepCell;
 
 /// The values of parameters and locals that live for one step, each found in constant time.
 ///
@@ -24,7 +18,7 @@ pub struct StepValues {
 
 impl Model for StepValues {
     ghost use Rattle.std.specs.Prelude.{ℕ, List};
-    ghost use Rattle.tm_plain_exprs.specs.declared.store.step_values.StepCell.{StepCell};
+    ghost use Rattle.tm_design.specs.declared.step_cells.StepCell.{StepCell};
 
     ghost Value = { List (StepCell × ℕ) };
 

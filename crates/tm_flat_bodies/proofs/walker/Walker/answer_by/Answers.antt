@@ -1,7 +1,7 @@
 use Rattle.std.proofs.Common.{refl, sym, ap, ◌∙◌, subst}
 use Rattle.std.specs.Prelude.{unwrap_or}
 use Rattle.tm_design.specs.Typed.{HasTypeAt}
-use Rattle.tm_flat_exprs.specs.Merged.{AreApart}
+use Rattle.tm_design.specs.StepCells.{AreApart}
 use Rattle.tm_flat_stmts.specs.Flows.{AreEnds, IsFlow}
 use Rattle.tm_flat_stmts.specs.Statements.{AreSettledCells}
 use Rattle.tm_flat_stmts.specs.Targets.{HasTargetAt}

@@ -4,9 +4,9 @@ use Rattle.tm_syntax.specs.Design.Scope.{site}
 use Rattle.tm_scope.specs.Cells.{ScopedCells, scope_of}
 use Rattle.tm_scope.specs.declared.cells.site_body.SiteBody.{SiteBody}
 use Rattle.tm_design.proofs.Contexts.{some_cells, some_design}
-use Rattle.tm_flat_bodies.specs.Calls.{IsCallee}
+use Rattle.tm_design.specs.Callees.{IsCallee}
 use Rattle.tm_flat_bodies.specs.Tables.{known_by}
-use Rattle.tm_flat_bodies.proofs.Found.{body_found, no_source}
+use Rattle.tm_design.proofs.Found.{body_found, no_source}
 use Rattle.tm_flat_bodies.proofs.Leaving.{calls_something, has_home, is_called, is_deeper}
 use Rattle.tm_flat_bodies.proofs.Standing.{cells_here}
 use Rattle.tm_flat_bodies.proofs.walker.Walker.called.Goals as goal

@@ -2,7 +2,7 @@ use Rattle.std.proofs.Common.{Some, sym, ap, ◌∙◌}
 use Rattle.tm_syntax.specs.Design.Scope.{site}
 use Rattle.tm_scope.specs.Cells.{ScopedCells}
 use Rattle.tm_design.proofs.Contexts.{some_cells, some_design}
-use Rattle.tm_flat_bodies.proofs.Found.{body_found, no_source}
+use Rattle.tm_design.proofs.Found.{body_found, no_source}
 use Rattle.tm_flat_bodies.proofs.Leaving.{has_home}
 use Rattle.tm_flat_bodies.proofs.walker.Walker.called_stand.Goals as goal
 

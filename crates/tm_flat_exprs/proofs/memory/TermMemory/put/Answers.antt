@@ -2,7 +2,7 @@ use Rattle.std.proofs.Common.{◌≡◌, Some, refl, sym, subst}
 use Rattle.std.proofs.lemmas.Option.{same_Some}
 use Rattle.tm_syntax.specs.Design.Cells.{in_state}
 use Rattle.tm_scope.specs.Cells.{cell_at}
-use Rattle.tm_flat_exprs.specs.declared.memory.step_terms.StepCell.{StepCell}
+use Rattle.tm_design.specs.declared.step_cells.StepCell.{StepCell}
 use Rattle.tm_flat_exprs.specs.Kept.{KeptTerms, Keeps, type_at}
 use Rattle.tm_flat_exprs.specs.Merged.{IsMemory}
 use Rattle.tm_flat_exprs.proofs.Puts.{state_memory, state_put, step_memory, step_put}

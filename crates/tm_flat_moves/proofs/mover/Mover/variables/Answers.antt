@@ -1,6 +1,6 @@
 use Rattle.std.proofs.Common.{◌≡◌, ◌++◌, ◌∷◌, [], length, sym, ap, ◌∙◌, arith}
 use Rattle.std.proofs.lemmas.List.{take_all}
-use Rattle.tm_flat_bodies.proofs.Passed.{one_more_taken}
+use Rattle.tm_design.proofs.Zipped.{one_more_taken}
 use Rattle.tm_flat_moves.proofs.mover.Mover.variables.Goals as goal
 
 pub variable-id-requires : goal.variable-id-requires

@@ -3,12 +3,12 @@ use Rattle.tm_syntax.specs.Design.Cells.{called}
 use Rattle.tm_syntax.specs.Design.Scope.{site}
 use Rattle.tm_syntax.specs.Design.View.{design_tree}
 use Rattle.tm_scope.specs.Cells.{scope_of}
-use Rattle.tm_plain_bodies.specs.Calls.{IsCallee}
+use Rattle.tm_design.specs.Callees.{IsCallee}
 use Rattle.tm_plain_bodies.specs.Tables.{IsReady, body_of, tables_of}
 use Rattle.tm_plain_bodies.proofs.CallParts.{calls_something}
 use Rattle.tm_plain_bodies.proofs.CalledTasks.{is_called, is_deeper}
 use Rattle.tm_plain_bodies.proofs.Found.{own_cells}
-use Rattle.tm_plain_bodies.proofs.Readers.{body_found}
+use Rattle.tm_design.proofs.Found.{body_found}
 use Rattle.tm_plain_bodies.proofs.runner.Runner.called.Goals as goal
 
 pub unreachable-requires : goal.unreachable-requires

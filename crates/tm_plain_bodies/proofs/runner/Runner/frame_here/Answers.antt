@@ -1,7 +1,7 @@
 use Rattle.tm_syntax.specs.Design.View.{design_tree}
 use Rattle.tm_syntax.specs.Design.Scope.{site}
 use Rattle.tm_plain_bodies.specs.Tables.{body_of}
-use Rattle.tm_plain_bodies.proofs.Readers.{body_found}
+use Rattle.tm_design.proofs.Found.{body_found}
 use Rattle.tm_plain_bodies.proofs.Stacks.{body_there}
 use Rattle.tm_plain_bodies.proofs.runner.Runner.frame_here.Goals as goal
 

@@ -3,7 +3,7 @@ use Rattle.tm_syntax.specs.Design.Cells.{in_state}
 use Rattle.tm_scope.specs.Cells.{cell_at}
 use Rattle.tm_scope.specs.declared.cells.site_body.CellNumber.TheVariants.{State}
 use Rattle.tm_sem.specs.Value as run
-use Rattle.tm_plain_exprs.specs.declared.store.step_values.StepCell.{StepCell}
+use Rattle.tm_design.specs.declared.step_cells.StepCell.{StepCell}
 use Rattle.tm_plain_exprs.specs.Kept.{Kept, Keeps}
 use Rattle.tm_plain_exprs.proofs.Keeping.{state_put, step_put}
 use Rattle.tm_plain_exprs.proofs.store.Store.put.Goals as goal

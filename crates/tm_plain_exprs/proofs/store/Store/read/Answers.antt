@@ -1,6 +1,6 @@
 use Rattle.std.proofs.Common.{◌≡◌, Some, sym, ap, ◌∙◌, subst}
 use Rattle.tm_scope.specs.Cells.{cell_at}
-use Rattle.tm_plain_exprs.specs.declared.store.step_values.StepCell.{StepCell}
+use Rattle.tm_design.specs.declared.step_cells.StepCell.{StepCell}
 use Rattle.tm_plain_exprs.specs.Kept.{Kept, kept_value}
 use Rattle.tm_plain_exprs.proofs.store.Store.read.Goals as goal
 

@@ -1,7 +1,7 @@
 use Rattle.std.proofs.Common.{ℕ, ◌-◌, ◌+◌, Some, List, sym, ap, ◌∙◌, arith}
 use Rattle.std.specs.Prelude.{slice_get}
 use Rattle.tm_flat_exprs.specs.declared.memory.versions.Version.{Version}
-use Rattle.tm_flat_exprs.proofs.StepCells.{derived_test}
+use Rattle.tm_design.proofs.StepCells.{derived_test}
 use Rattle.tm_flat_exprs.proofs.Versions.{is_latest, one_passed}
 use Rattle.tm_flat_exprs.proofs.memory.step_terms.StepTerms.latest.Goals as goal
 

@@ -1,6 +1,7 @@
 use Rattle.std.proofs.Common.{ap, ◌∙◌}
 use Rattle.std.specs.Prelude.{if◌then◌else◌}
-use Rattle.tm_plain_exprs.specs.Kept.{same_cell, kept_value}
+use Rattle.tm_design.specs.StepCells.{same_cell}
+use Rattle.tm_plain_exprs.specs.Kept.{kept_value}
 use Rattle.tm_plain_exprs.proofs.StepCells.{kept_after}
 use Rattle.tm_plain_exprs.proofs.store.step_values.StepValues.set.Goals as goal
 

@@ -31,7 +31,7 @@ use Rattle.tm_scope.specs.declared.members.SlotNumber.TheVariants.{Param as of_p
 use Rattle.tm_design.proofs.Frames.{each_body_once}
 use Rattle.tm_design.proofs.Once.{apart, behind_once}
 use Rattle.tm_design.proofs.Parts.{spelled_alike}
-use Rattle.tm_flat_exprs.specs.Merged.{AreApart}
+use Rattle.tm_design.specs.StepCells.{AreApart}
 
 -- where no name is declared twice, a name tells at which index it is declared
 one_index : (ds : List Declared) (i j : ℕ) (d e : Declared) → repeats ds ≡ [] → slice_get ds i ≡ Some d →

@@ -2,7 +2,7 @@ use Rattle.std.proofs.Common.{subst, sym}
 use Rattle.tm_ddops.specs.Manager.{Diagrams}
 use Rattle.tm_game_bits.specs.Diagrams.{game_of}
 use Rattle.tm_game_bits.specs.Recent.{AreAnswers}
-use Rattle.test_diagrams.proofs.forcing.stays.Goals as goal
+use Rattle.test_diagrams.proofs.forcing.predecessor.Goals as goal
 
 pub returns-then-not-knows_game : goal.returns-then-not-knows_game
 returns-then-not-knows_game c =

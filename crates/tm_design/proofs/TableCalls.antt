@@ -13,19 +13,16 @@ use Rattle.tm_syntax.specs.Design.Cells.{Called, called}
 use Rattle.tm_syntax.specs.Design.Scope.{Scope}
 use Rattle.tm_scope.specs.Cells.{CellTables, HasCells, scope_of}
 use Rattle.tm_scope.specs.Context.{body_name}
-use Rattle.tm_scope.specs.Instances.{InstanceTables, IsOver, task_called_at}
+use Rattle.tm_scope.specs.Instances.{IsOver, task_called_at}
 use Rattle.tm_scope.specs.declared.cells.site_body.SiteBody.{SiteBody}
 use Rattle.tm_scope.specs.declared.context.BodyName.TheVariants.{Task}
 use Rattle.tm_locations.proofs.TableCallees.{with-task}
 use Rattle.tm_locations.proofs.WalkCalls.{told}
 use Rattle.tm_design.specs.Parameters.{named_task}
-use Rattle.tm_flat_bodies.specs.Calls.{IsCallee}
-use Rattle.tm_flat_bodies.proofs.Found.{map_is}
+use Rattle.tm_design.specs.Callees.{IsCallee, instances_of}
+use Rattle.tm_design.proofs.Found.{map_is}
 
--- the instances of some tables
-abbrev pub instances_of : CellTables → InstanceTables
-instances_of x = record { spec = x.spec; instances = x.instances }
-
+-- the tables of a design are over it
 pub over : (x : CellTables) (d : DesignTree) → HasCells x d → IsOver (instances_of x) d
 over x d has = record { text = has.text; instances = has.instances }
 

@@ -7,8 +7,13 @@ use Rattle.tm_syntax.specs.Design.{DesignTree}
 use Rattle.tm_syntax.specs.Design.Cells.{Called, called as called_from}
 use Rattle.tm_syntax.specs.Design.Scope.{Scope}
 use Rattle.tm_scope.specs.Cells.{CellTables, HasCells, scope_of}
+use Rattle.tm_scope.specs.Instances.{InstanceTables}
 use Rattle.tm_scope.specs.declared.cells.site_body.SiteBody.{SiteBody}
 use Rattle.tm_design.specs.Parameters.{called_by, task_at}
+
+-- the text and the instances of some tables
+abbrev pub instances_of : CellTables → InstanceTables
+instances_of x = record { spec = x.spec; instances = x.instances }
 
 -- in a design a path of a body calls this task of an instance
 pub record RunsTask (d : DesignTree) (from : Scope) (names : List Ident) (at : SiteBody) (task : TaskDef) : Type 0
