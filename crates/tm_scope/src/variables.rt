@@ -11,12 +11,11 @@ ghost use Rattle.tm_scope.specs.VariablePaths.{whole};
 mod path;
 
 use indexmap::IndexMap;
+use path::PathKey;
+pub use path::VariablePath;
 use std::alloc::{AllocError, Global};
 use std::marker::Model;
 use tm_syntax::design::Var;
-
-use path::PathKey;
-pub use path::VariablePath;
 
 /// State variables, found by their paths. Contracts see the list of them.
 #[derive(Drop)]
@@ -64,10 +63,7 @@ impl<'d> Variables<'d> {
 }
 
 // The number of the first variable of each path.
-fn numbers<'d>(
-    alloc: Global,
-    vars: &'d [Var],
-) -> Result<IndexMap<PathKey<'d>, usize>, AllocError>
+fn numbers<'d>(alloc: Global, vars: &'d [Var]) -> Result<IndexMap<PathKey<'d>, usize>, AllocError>
     ensures { IfOk result (λ numbers. AreNumbered vars.now numbers.entries) }
 {
     let mut numbers = IndexMap::new(alloc);

@@ -78,12 +78,7 @@ impl<'s> CellScope<'s> {
     }
 
     // The variable of a name of the instance of a path, or the element of an index of the array.
-    fn member<'p>(
-        &self,
-        base: &'p [u8],
-        name: &'p [u8],
-        index: Option<u64>,
-    ) -> Option<CellNumber>
+    fn member<'p>(&self, base: &'p [u8], name: &'p [u8], index: Option<u64>) -> Option<CellNumber>
         ensures is_there { IsCellNumber self.now.tables self.now.at result }
         ensures cell { (d : DesignTree) → HasCells self.now.tables d → (node : InstanceNode) → node.path ≡ base.now →
             option_and_then (cell_at self.now.tables self.now.at) result
