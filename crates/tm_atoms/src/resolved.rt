@@ -24,11 +24,7 @@ pub(crate) struct Numbered {
 impl<'t> NodeTable<'t> {
     /// The number of an expression of a scope, resolved: a new one where it has none. Linear in the expression, and as
     /// deep as it nests. `AllocError` is want of memory.
-    pub(crate) fn expr(
-        &mut self,
-        scope: &CellScope,
-        e: &'t Expr,
-    ) -> Result<Numbered, AllocError>
+    pub(crate) fn expr(&mut self, scope: &CellScope, e: &'t Expr) -> Result<Numbered, AllocError>
         ensures { IfOk result (λ n. (d : DesignTree) → HasCells scope.now.tables d →
             HasNumber self.old self.new n (resolved d (scope_of scope.now.at) (expr_tree e.now))) }
     {

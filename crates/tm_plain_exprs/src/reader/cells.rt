@@ -23,11 +23,7 @@ use tm_syntax::tree::Ident;
 
 impl<'a> Reader<'a> {
     /// The cell that a path means, with the index of an element where there is one. Linear in the path.
-    pub fn cell(
-        &self,
-        path: &[Ident],
-        index: Option<u64>,
-    ) -> Option<CellNumber>
+    pub fn cell(&self, path: &[Ident], index: Option<u64>) -> Option<CellNumber>
         ensures is_there { IsCellNumber self.now.tables self.now.at result }
         ensures cell { (d : DesignTree) → HasCells self.now.tables d →
             option_and_then (cell_at self.now.tables self.now.at) result

@@ -9,8 +9,8 @@ ghost use Rattle.tm_plain_exprs.specs.Kept.{Keeps};
 ghost use Rattle.tm_design.specs.Typed.{HasTypeAt};
 ghost use Rattle.tm_plain_exprs.specs.Valued.{Holds, Overruns, Told};
 
-use crate::reader::Reader;
 use crate::overrun::Overrun;
+use crate::reader::Reader;
 use crate::store::Store;
 use tm_scope::ExprType;
 use tm_syntax::tree::Expr;
@@ -28,11 +28,7 @@ impl<'a> Reader<'a> {
     }
 
     /// Whether a condition holds that stands outside of all bodies: no index overruns there.
-    pub fn holds_outside(
-        &self,
-        store: &Store,
-        e: &Expr,
-    ) -> bool
+    pub fn holds_outside(&self, store: &Store, e: &Expr) -> bool
         requires typed { HasTypeAt self.now resolved.Bool (expr_tree e.now) }
         requires outside { self.now.at.body ≡ Outside }
         requires kept { (m : run.Memory) × Keeps self.now.tables store.now m }

@@ -16,11 +16,7 @@ use tm_syntax::tree::TaskDef;
 impl<'a> Reader<'a> {
     /// The cells into which the arguments of a call of the body go, which is that of this task. Linear in the
     /// parameters and their paths. `AllocError` is want of memory.
-    pub fn parameters(
-        &self,
-        alloc: Global,
-        task: &TaskDef,
-    ) -> Result<Vec<CellNumber>, AllocError>
+    pub fn parameters(&self, alloc: Global, task: &TaskDef) -> Result<Vec<CellNumber>, AllocError>
         requires { task_at self.now ≡ Some task.now }
         ensures { IfOk result
             (λ numbers. AreCalledCells self.now (length task.now.params.items) numbers.items) }

@@ -14,8 +14,8 @@ ghost use Rattle.tm_design.specs.Typed.{HasTypeAt};
 ghost use Rattle.tm_plain_exprs.specs.Valued.{IsIndex, IsOperandType, IsValued, Overruns};
 
 use crate::operators::{binary_value, unary_value};
-use crate::reader::Reader;
 use crate::overrun::Overrun;
+use crate::reader::Reader;
 use crate::store::Store;
 use tm_base::{ShiftOperator, bit, resize, shift};
 use tm_scope::ExprType;
@@ -76,12 +76,7 @@ impl<'a> Reader<'a> {
     /// deep as it nests: the text's limit on nesting bounds the recursion. `Overrun` comes exactly where an index that
     /// is valued is not below the length of its array.
     #[cycle(value)]
-    pub fn value(
-        &self,
-        store: &Store,
-        e: &Expr,
-        asked: ExprType<'a>,
-    ) -> Result<u64, Overrun>
+    pub fn value(&self, store: &Store, e: &Expr, asked: ExprType<'a>) -> Result<u64, Overrun>
         requires { HasTypeAt self.now (ty_of asked) (expr_tree e.now) }
         ensures value { IfOk result (IsValued self.now store.now (ty_of asked.entry) (expr_tree e.now)) }
         ensures overrun { OnErr result (Overruns self.now store.now (expr_tree e.now)) }
@@ -116,11 +111,7 @@ impl<'a> Reader<'a> {
 
 impl<'a> Reader<'a> {
     // The value of what a path means: of its cell, or of the enum constant.
-    fn path_value(
-        &self,
-        store: &Store,
-        path: &[Ident],
-    ) -> u64
+    fn path_value(&self, store: &Store, path: &[Ident]) -> u64
         ensures { (asked : Ty) → IsValued self.now store.now asked (trees.path path.now) result }
     {
         match self.cell_value(store, path, None) {
@@ -198,13 +189,7 @@ impl<'a> Reader<'a> {
 
     // The value of a cast.
     #[cycle(value)]
-    fn cast(
-        &self,
-        store: &Store,
-        to: &Num,
-        e: &Expr,
-        asked: ExprType<'a>,
-    ) -> Result<u64, Overrun>
+    fn cast(&self, store: &Store, to: &Num, e: &Expr, asked: ExprType<'a>) -> Result<u64, Overrun>
         requires { (at : Place) × HasTypeAt self.now (ty_of asked) (trees.cast at to.now (expr_tree e.now)) }
         ensures value { IfOk result (λ n. (at : Place) →
             IsValued self.now store.now (ty_of asked.entry) (trees.cast at to.now (expr_tree e.now)) n) }
@@ -237,12 +222,7 @@ impl<'a> Reader<'a> {
     /// The value of the index of an element. `Overrun` comes exactly where the element overruns: an index that is
     /// valued is not below the length of its array.
     #[cycle(value)]
-    pub fn index(
-        &self,
-        store: &Store,
-        path: &[Ident],
-        index: &Expr,
-    ) -> Result<u64, Overrun>
+    pub fn index(&self, store: &Store, path: &[Ident], index: &Expr) -> Result<u64, Overrun>
         requires { (asked : Ty) × HasTypeAt self.now asked (trees.element path.now (expr_tree index.now)) }
         ensures value { IfOk result (IsIndex self.now store.now path.now (expr_tree index.now)) }
         ensures overrun { OnErr result (Overruns self.now store.now (trees.element path.now (expr_tree index.now))) }
