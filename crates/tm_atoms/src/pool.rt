@@ -25,7 +25,6 @@ use tm_syntax::tree::{BinaryOperator, Expr};
 pub(crate) struct Pool<'t> {
     pub table: NodeTable<'t>,
     pub atoms: IndexMap<usize, AtomAt<'t>>,
-    pub text: Vec<u8>,
 }
 
 impl<'t> Pool<'t> {
@@ -36,7 +35,6 @@ impl<'t> Pool<'t> {
         Pool {
             table: NodeTable::new(alloc),
             atoms: IndexMap::new(alloc),
-            text: Vec::new(alloc),
         }
     }
 
@@ -84,7 +82,7 @@ impl<'t> Pool<'t> {
             Adds d (pool_of self.old) (pool_of self.new)
             (record { scope = scope_of at; expr = expr_tree e.now } ∷ [])) }
     {
-        let numbered = self.table.expr(scope, e, &mut self.text)?;
+        let numbered = self.table.expr(scope, e)?;
         self.keep(numbered, AtomAt { scope: at, expr: e })
     }
 

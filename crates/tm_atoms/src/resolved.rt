@@ -23,52 +23,47 @@ pub(crate) struct Numbered {
 
 impl<'t> NodeTable<'t> {
     /// The number of an expression of a scope, resolved: a new one where it has none. Linear in the expression, and as
-    /// deep as it nests. `text` is a buffer. `AllocError` is want of memory.
-    pub(crate) fn expr(
-        &mut self,
-        scope: &CellScope,
-        e: &'t Expr,
-        text: &mut Vec<u8>,
-    ) -> Result<Numbered, AllocError>
+    /// deep as it nests. `AllocError` is want of memory.
+    pub(crate) fn expr(&mut self, scope: &CellScope, e: &'t Expr) -> Result<Numbered, AllocError>
         ensures { IfOk result (λ n. (d : DesignTree) → HasCells scope.now.tables d →
             HasNumber self.old self.new n (resolved d (scope_of scope.now.at) (expr_tree e.now))) }
     {
         match e {
             Expr::Truth(_, truth) => self.noted(Node::Truth(*truth), true),
             Expr::Number(number) => self.noted(Node::Number(number.value.unwrap_or(0)), true),
-            Expr::Path(path) => self.cell(scope, path.names.as_slice(), None, text),
-            Expr::Group(_, e) => self.expr(scope, e, text),
+            Expr::Path(path) => self.cell(scope, path.names.as_slice(), None),
+            Expr::Group(_, e) => self.expr(scope, e),
             Expr::Unary(_, op, e) => {
-                let e = self.expr(scope, e, text)?;
+                let e = self.expr(scope, e)?;
                 self.noted(Node::Unary(unary_operator(*op), e.number), e.lasting)
             }
             Expr::Binary(_, op, a, b) => {
-                let a = self.expr(scope, a, text)?;
-                let b = self.expr(scope, b, text)?;
+                let a = self.expr(scope, a)?;
+                let b = self.expr(scope, b)?;
                 let node = Node::Binary(binary_operator(*op), a.number, b.number);
                 self.noted(node, both(a.lasting, b.lasting))
             }
             Expr::Shift(_, op, e, by) => {
-                let e = self.expr(scope, e, text)?;
+                let e = self.expr(scope, e)?;
                 let node = Node::Shift(shift_operator(*op), e.number, by.value.unwrap_or(0));
                 self.noted(node, e.lasting)
             }
             Expr::Conditional(_, e, a, b) => {
-                let e = self.expr(scope, e, text)?;
-                let a = self.expr(scope, a, text)?;
-                let b = self.expr(scope, b, text)?;
+                let e = self.expr(scope, e)?;
+                let a = self.expr(scope, a)?;
+                let b = self.expr(scope, b)?;
                 let node = Node::Conditional(e.number, a.number, b.number);
                 self.noted(node, both(both(e.lasting, a.lasting), b.lasting))
             }
             Expr::Cast(_, to, e) => {
-                let e = self.expr(scope, e, text)?;
+                let e = self.expr(scope, e)?;
                 self.noted(Node::Cast(to.value.unwrap_or(0), e.number), e.lasting)
             }
             Expr::Element(path, index) => match literal(index) {
-                Some(k) => self.cell(scope, path.names.as_slice(), Some(k), text),
+                Some(k) => self.cell(scope, path.names.as_slice(), Some(k)),
                 None => {
-                    let index = self.expr(scope, index, text)?;
-                    let first = first_element(scope, path.names.as_slice(), text)?;
+                    let index = self.expr(scope, index)?;
+                    let first = first_element(scope, path.names.as_slice());
                     self.noted(Node::Element(first, index.number), index.lasting)
                 }
             },
@@ -90,12 +85,11 @@ impl<'t> NodeTable<'t> {
         scope: &CellScope,
         path: &'t [Ident],
         index: Option<u64>,
-        text: &mut Vec<u8>,
     ) -> Result<Numbered, AllocError>
         ensures { IfOk result (λ n. (d : DesignTree) → HasCells scope.now.tables d → HasNumber self.old self.new n
             (resolved_cell (cell d (scope_of scope.now.at) path.now index) (last_name path.now))) }
     {
-        match scope.cell(path, index, text)? {
+        match scope.cell(path, index) {
             None => self.constant(last_name(path)),
             Some(CellNumber::State(number)) => self.noted(Node::Variable(number), true),
             Some(CellNumber::Step(_)) => self.noted(Node::Step, false),
@@ -119,14 +113,14 @@ fn both(a: bool, b: bool) -> bool
 }
 
 // The number of the first element of an array.
-fn first_element(scope: &CellScope, path: &[Ident], text: &mut Vec<u8>) -> Result<usize, AllocError>
-    ensures { IfOk result (λ k. (d : DesignTree) → HasCells scope.now.tables d →
-        k ≡ first_element (cell d (scope_of scope.now.at) path.now (Some 0))) }
+fn first_element(scope: &CellScope, path: &[Ident]) -> usize
+    ensures { (d : DesignTree) → HasCells scope.now.tables d →
+        result ≡ first_element (cell d (scope_of scope.now.at) path.now (Some 0)) }
 {
-    match scope.cell(path, Some(0), text)? {
-        None => Ok(0),
-        Some(CellNumber::State(number)) => Ok(number),
-        Some(CellNumber::Step(_)) => Ok(0),
+    match scope.cell(path, Some(0)) {
+        None => 0,
+        Some(CellNumber::State(number)) => number,
+        Some(CellNumber::Step(_)) => 0,
     }
 }
 

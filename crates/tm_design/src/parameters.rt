@@ -10,41 +10,34 @@ use tm_syntax::tree::TaskDef;
 
 /// The cells of the parameters of a called task, in order, as its body sees them: `scope` is the body, and `task` the
 /// task. Where a design that keeps them has no variable for one, the number is any. Linear in the parameters and their
-/// paths. `text` is a buffer. `AllocError` is want of memory.
+/// paths. `AllocError` is want of memory.
 pub fn parameter_cells(
     alloc: Global,
     scope: &CellScope,
     task: &TaskDef,
-    text: &mut Vec<u8>,
 ) -> Result<Vec<CellNumber>, AllocError>
     requires { task_at scope.now ≡ Some task.now }
     ensures { IfOk result (λ numbers. AreCalledCells scope.now (length task.now.params.items) numbers.items) }
 {
     let mut cells = Vec::new(alloc);
     for index in 0..task.params.len() {
-        let cell = parameter_cell(scope, task, index, text)?;
-        cells.push(cell)?;
+        cells.push(parameter_cell(scope, task, index))?;
     }
     Ok(cells)
 }
 
 // The cell of the parameter of an index.
-fn parameter_cell(
-    scope: &CellScope,
-    task: &TaskDef,
-    index: usize,
-    text: &mut Vec<u8>,
-) -> Result<CellNumber, AllocError>
+fn parameter_cell(scope: &CellScope, task: &TaskDef, index: usize) -> CellNumber
     requires task { task_at scope.now ≡ Some task.now }
     requires within { index < length task.now.params.items }
-    ensures { IfOk result (λ number. (p : declared.Param) → slice_get task.now.params.items index ≡ Some p →
-        IsParamCell scope.now p number) }
+    ensures { (p : declared.Param) → slice_get task.now.params.items index ≡ Some p →
+        IsParamCell scope.now p result }
 {
     let own = CellNumber::Step(SlotNumber::Param(index));
     if scope.is_kept() {
         let name = std::slice::from_ref(&task.params[index].name);
-        Ok(scope.cell(name, None, text)?.unwrap_or(own))
+        scope.cell(name, None).unwrap_or(own)
     } else {
-        Ok(own)
+        own
     }
 }

@@ -39,14 +39,7 @@ fn aimed_element(
     requires ends { AreEnds reader.now.tables course.old.terms course.old.ends }
     ensures { IfOk result (Aims reader.now path.now (Some (expr_tree index.now)) course.old course.new flow) }
 {
-    let place = element_place(
-        reader,
-        &mut course.terms,
-        &flow,
-        path,
-        index,
-        &mut course.text,
-    )?;
+    let place = element_place(reader, &mut course.terms, &flow, path, index)?;
     let asked = target_type(reader, path);
     let within = element(
         reader,
@@ -56,7 +49,6 @@ fn aimed_element(
         path,
         index,
         asked,
-        &mut course.text,
     )?;
     Ok(Aim {
         flow: within.flow,

@@ -47,7 +47,6 @@ fn one_more<'s>(
         so_far.flow,
         e,
         asked,
-        &mut course.text,
     )?;
     let mut values = so_far.values;
     values.push(valued.value)?;

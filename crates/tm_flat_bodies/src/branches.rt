@@ -42,7 +42,6 @@ pub(crate) fn part(
         &mut course.ends,
         flow,
         e,
-        &mut course.text,
     )?;
     Ok(parts)
 }

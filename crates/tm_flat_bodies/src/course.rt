@@ -4,11 +4,10 @@ use std::alloc::Global;
 use tm_flat_stmts::Ends;
 use tm_term::Terms;
 
-/// What a walk has made: terms, and how runs have ended. `text` is a buffer.
+/// What a walk has made: terms, and how runs have ended.
 #[derive(Drop)]
 pub struct Course {
     pub alloc: Global,
     pub terms: Terms,
     pub ends: Ends,
-    pub text: Vec<u8>,
 }

@@ -31,14 +31,7 @@ impl<'s> Walker<'s> {
         ensures { (at : placed.Place) → IfOk result
             (StmtLeads (known_by self.now) stand.now (trees.assert at (expr_tree e.now)) course.old course.new flow) }
     {
-        let goes = asserted(
-            &stand.reader,
-            &mut course.terms,
-            &mut course.ends,
-            flow,
-            e,
-            &mut course.text,
-        )?;
+        let goes = asserted(&stand.reader, &mut course.terms, &mut course.ends, flow, e)?;
         Ok(Some(goes))
     }
 
@@ -55,14 +48,7 @@ impl<'s> Walker<'s> {
         ensures { (at : placed.Place) → IfOk result
             (StmtLeads (known_by self.now) stand.now (trees.assume at (expr_tree e.now)) course.old course.new flow) }
     {
-        let goes = assumed(
-            &stand.reader,
-            &mut course.terms,
-            &mut course.ends,
-            flow,
-            e,
-            &mut course.text,
-        )?;
+        let goes = assumed(&stand.reader, &mut course.terms, &mut course.ends, flow, e)?;
         Ok(Some(goes))
     }
 
@@ -91,7 +77,6 @@ impl<'s> Walker<'s> {
                     flow,
                     path,
                     e,
-                    &mut course.text,
                 )?;
                 Ok(Some(goes))
             }
@@ -104,7 +89,6 @@ impl<'s> Walker<'s> {
                     path,
                     index,
                     e,
-                    &mut course.text,
                 )?;
                 Ok(Some(goes))
             }
@@ -127,14 +111,7 @@ impl<'s> Walker<'s> {
     {
         match index {
             None => {
-                let goes = chosen(
-                    &stand.reader,
-                    &mut course.terms,
-                    flow,
-                    path,
-                    self.first,
-                    &mut course.text,
-                )?;
+                let goes = chosen(&stand.reader, &mut course.terms, flow, path, self.first)?;
                 Ok(Some(goes))
             }
             Some(index) => {
@@ -146,7 +123,6 @@ impl<'s> Walker<'s> {
                     path,
                     index,
                     self.first,
-                    &mut course.text,
                 )?;
                 Ok(Some(goes))
             }

@@ -54,7 +54,7 @@ impl<'s> CalledTask<'s> {
     {
         let inner = &self.stand.reader;
         let valued = valued_arguments(outer, course, self.task.params.as_slice(), args, flow)?;
-        let cells = parameter_cells(course.alloc, inner.scope(), self.task, &mut course.text)?;
+        let cells = parameter_cells(course.alloc, inner.scope(), self.task)?;
         let entered = put_all(
             valued.flow,
             inner.at(),
@@ -100,7 +100,6 @@ pub(crate) fn answer<'s>(
                 flow,
                 e,
                 asked,
-                &mut course.text,
             )?;
             let goes = put_at(
                 outer,
@@ -110,7 +109,6 @@ pub(crate) fn answer<'s>(
                 place,
                 valued.value,
                 asked,
-                &mut course.text,
             )?;
             Ok(goes)
         }

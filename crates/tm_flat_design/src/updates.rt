@@ -72,7 +72,6 @@ impl<'s> Updater<'s> {
             alloc,
             terms: Terms::new(alloc, &[])?,
             ends: Ends::new(alloc, 0)?,
-            text: Vec::new(alloc),
         };
         mem::swap(terms, &mut course.terms);
         let flat = self.updates(&mut course);

@@ -101,7 +101,7 @@ impl<'s> Tasks<'s> {
             (design_tree self.now.design.now) (params_of (design_tree self.now.design.now) called.now.at) 0 flow) }
         ensures ends { course.new.ends ≡ course.old.ends }
     {
-        let cells = parameter_cells(course.alloc, scope, called.task, &mut course.text)?;
+        let cells = parameter_cells(course.alloc, scope, called.task)?;
         let params = called.task.params.as_slice();
         let given = self.read_all(&mut course.terms, called.at, cells.as_slice(), params, flow)?;
         Ok(given)

@@ -87,14 +87,7 @@ fn wait_over(
         (StmtLeads (known_by walker.now) stand.now (trees.assume at (expr_tree e.now)) course.old course.new flow) }
 {
     let _walker = walker;
-    let goes = assumed(
-        &stand.reader,
-        &mut course.terms,
-        &mut course.ends,
-        flow,
-        e,
-        &mut course.text,
-    )?;
+    let goes = assumed(&stand.reader, &mut course.terms, &mut course.ends, flow, e)?;
     Ok(Some(goes))
 }
 

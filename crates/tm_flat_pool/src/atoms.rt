@@ -47,7 +47,6 @@ impl<'s> Pooler<'s> {
         memory: &TermMemory,
         atoms: &Atoms<'_>,
         number: usize,
-        text: &mut Vec<u8>,
     ) -> Result<TermId, AllocError>
         requires markable { IsMarkable self.now.design.now }
         requires inputs { HasInputs (cells_of self.now.design.now) terms.old memory.now }
@@ -59,7 +58,7 @@ impl<'s> Pooler<'s> {
     {
         match atoms.get(number) {
             Some(atom) => {
-                let id = self.holds(terms, memory, atom.scope, atom.expr, text)?;
+                let id = self.holds(terms, memory, atom.scope, atom.expr)?;
                 Ok(id)
             }
             None => unreachable!(),
@@ -80,10 +79,9 @@ impl<'s> Pooler<'s> {
         ensures { IfOk result (λ ids. AreHeld (design_tree self.now.design.now) (map atom_of (listed atoms.now))
             terms.old terms.new ids.items) }
     {
-        let mut text = Vec::new(alloc);
         let mut ids = Vec::new(alloc);
         for number in 0..atoms.len() {
-            let id = self.atom_term(terms, memory, atoms, number, &mut text)?;
+            let id = self.atom_term(terms, memory, atoms, number)?;
             ids.push(id)?;
         }
         Ok(ids)

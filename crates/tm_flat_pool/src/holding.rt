@@ -28,7 +28,6 @@ fn holds_by(
     terms: &mut Terms,
     memory: &TermMemory,
     e: &Expr,
-    text: &mut Vec<u8>,
 ) -> Result<TermId, AllocError>
     requires { (d : designs.Design) × (at : bodies.SiteBody) × (reader.now ≡ body_of d at) × IsMarkable d
         × HasInputs (cells_of d) terms.old memory.now × HasTypeAt (body_of d at) resolved.Bool (expr_tree e.now) }
@@ -36,7 +35,7 @@ fn holds_by(
         → HasInputs (cells_of d) terms.old memory.now → Makes terms.old terms.new 1 id
         (λ u v. bit (held (design_tree d) (scope_of at) v (expr_tree e.now)))) }
 {
-    let found = reader.value(terms, memory, e, ExprType::Bool, text)?;
+    let found = reader.value(terms, memory, e, ExprType::Bool)?;
     Ok(found.value)
 }
 
@@ -46,7 +45,6 @@ fn holds_found(
     terms: &mut Terms,
     memory: &TermMemory,
     e: &Expr,
-    text: &mut Vec<u8>,
 ) -> Result<TermId, AllocError>
     requires { (d : designs.Design) × (at : bodies.SiteBody) × (found.now ≡ Some (body_of d at)) × IsMarkable d
         × HasInputs (cells_of d) terms.old memory.now × HasTypeAt (body_of d at) resolved.Bool (expr_tree e.now) }
@@ -56,7 +54,7 @@ fn holds_found(
 {
     match found {
         Some(reader) => {
-            let id = holds_by(reader, terms, memory, e, text)?;
+            let id = holds_by(reader, terms, memory, e)?;
             Ok(id)
         }
         None => unreachable!(),
@@ -83,7 +81,6 @@ impl<'s> Pooler<'s> {
         memory: &TermMemory,
         at: SiteBody,
         e: &Expr,
-        text: &mut Vec<u8>,
     ) -> Result<TermId, AllocError>
         requires markable { IsMarkable self.now.design.now }
         requires inputs { HasInputs (cells_of self.now.design.now) terms.old memory.now }
@@ -92,7 +89,7 @@ impl<'s> Pooler<'s> {
             (λ u v. bit (held (design_tree self.now.design.now) (scope_of at) v (expr_tree e.now)))) }
     {
         let found = self.reader(at);
-        let id = holds_found(&found, terms, memory, e, text)?;
+        let id = holds_found(&found, terms, memory, e)?;
         Ok(id)
     }
 }

@@ -42,50 +42,36 @@ fn no_marks(alloc: Global, count: usize) -> Result<Vec<bool>, AllocError>
 }
 
 // The state variable that an expression is, in the scope that was found.
-fn variable_by(
-    found: &Option<CellScope<'_>>,
-    e: &Expr,
-    text: &mut Vec<u8>,
-) -> Result<Option<usize>, AllocError>
-    ensures { IfOk result (λ v. (d : designs.Design) (at : bodies.SiteBody) → found.now ≡ Some (body_of d at)
-        → v ≡ variable_in (resolved (design_tree d) (scope_of at) (expr_tree e.now))) }
+fn variable_by(found: &Option<CellScope<'_>>, e: &Expr) -> Option<usize>
+    ensures { (d : designs.Design) (at : bodies.SiteBody) → found.now ≡ Some (body_of d at)
+        → result ≡ variable_in (resolved (design_tree d) (scope_of at) (expr_tree e.now)) }
 {
     match found {
-        Some(scope) => variable(scope, e, text),
-        None => Ok(None),
+        Some(scope) => variable(scope, e),
+        None => None,
     }
 }
 
 impl<'s> Pooler<'s> {
     // The state variable that a truth of a body of an instance is, if it is one.
-    fn variable_of(
-        &self,
-        at: SiteBody,
-        e: &Expr,
-        text: &mut Vec<u8>,
-    ) -> Result<Option<usize>, AllocError>
+    fn variable_of(&self, at: SiteBody, e: &Expr) -> Option<usize>
         requires typed { HasTypeAt (body_of self.now.design.now at) types.Bool (expr_tree e.now) }
-        ensures { IfOk result (λ v. v ≡ variable_in (resolved (design_tree self.now.design.now) (scope_of at)
-            (expr_tree e.now))) }
+        ensures { result
+            ≡ variable_in (resolved (design_tree self.now.design.now) (scope_of at) (expr_tree e.now)) }
     {
         let found = self.cells.scope(at);
-        variable_by(&found, e, text)
+        variable_by(&found, e)
     }
 
     // The state variable that the atom of a number is, if it is one.
-    fn atom_variable(
-        &self,
-        atoms: &Atoms<'_>,
-        number: usize,
-        text: &mut Vec<u8>,
-    ) -> Result<Option<usize>, AllocError>
+    fn atom_variable(&self, atoms: &Atoms<'_>, number: usize) -> Option<usize>
         requires truths { AllByRecursion (IsTruth (design_tree self.now.design.now)) (map atom_of (listed atoms.now)) }
         requires number { number < length (listed atoms.now) }
-        ensures { IfOk result (λ v. (a : noted.AtomAt) → slice_get (listed atoms.now) number ≡ Some a
-            → v ≡ variable_in (resolved_atom (design_tree self.now.design.now) (atom_of a))) }
+        ensures { (a : noted.AtomAt) → slice_get (listed atoms.now) number ≡ Some a
+            → result ≡ variable_in (resolved_atom (design_tree self.now.design.now) (atom_of a)) }
     {
         match atoms.get(number) {
-            Some(atom) => self.variable_of(atom.scope, atom.expr, text),
+            Some(atom) => self.variable_of(atom.scope, atom.expr),
             None => unreachable!(),
         }
     }
@@ -96,11 +82,9 @@ impl<'s> Pooler<'s> {
         ensures { IfOk result (λ marks.
             AreMarked (design_tree self.now.design.now) (map atom_of (listed atoms.now)) marks.items) }
     {
-        let mut text = Vec::new(alloc);
         let mut marks = no_marks(alloc, self.design.vars.len())?;
         for number in 0..atoms.len() {
-            let found = self.atom_variable(atoms, number, &mut text)?;
-            mark(&mut marks, found);
+            mark(&mut marks, self.atom_variable(atoms, number));
         }
         Ok(marks)
     }

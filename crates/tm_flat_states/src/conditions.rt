@@ -43,7 +43,6 @@ fn condition_by(
     terms: &mut Terms,
     memory: &TermMemory,
     e: &Expr,
-    text: &mut Vec<u8>,
 ) -> Result<TermId, AllocError>
     requires { (d : designs.Design) × (n : ℕ) × (reader.now ≡ outside_of d n) × IsMarkable d
         × HasInputs (cells_of d) terms.old memory.now × HasTypeAt (outside_of d n) resolved.Bool (expr_tree e.now) }
@@ -51,7 +50,7 @@ fn condition_by(
         → HasInputs (cells_of d) terms.old memory.now → Makes terms.old terms.new 1 id
         (λ u v. bit (stated (design_tree d) n (Some (expr_tree e.now)) v))) }
 {
-    let found = reader.value(terms, memory, e, ExprType::Bool, text)?;
+    let found = reader.value(terms, memory, e, ExprType::Bool)?;
     Ok(found.value)
 }
 
@@ -61,7 +60,6 @@ fn condition_found(
     terms: &mut Terms,
     memory: &TermMemory,
     e: &Expr,
-    text: &mut Vec<u8>,
 ) -> Result<TermId, AllocError>
     requires { (d : designs.Design) × (n : ℕ) × (found.now ≡ Some (outside_of d n)) × IsMarkable d
         × HasInputs (cells_of d) terms.old memory.now × HasTypeAt (outside_of d n) resolved.Bool (expr_tree e.now) }
@@ -71,7 +69,7 @@ fn condition_found(
 {
     match found {
         Some(reader) => {
-            let id = condition_by(reader, terms, memory, e, text)?;
+            let id = condition_by(reader, terms, memory, e)?;
             Ok(id)
         }
         None => unreachable!(),
@@ -112,7 +110,6 @@ impl<'s> Marker<'s> {
         memory: &TermMemory,
         instance: u32,
         e: &Expr,
-        text: &mut Vec<u8>,
     ) -> Result<TermId, AllocError>
         requires markable { IsMarkable self.now.design.now }
         requires inputs { HasInputs (cells_of self.now.design.now) terms.old memory.now }
@@ -121,7 +118,7 @@ impl<'s> Marker<'s> {
             (λ u v. bit (stated (design_tree self.now.design.now) instance (Some (expr_tree e.now)) v))) }
     {
         let found = self.reader(instance);
-        let id = condition_found(&found, terms, memory, e, text)?;
+        let id = condition_found(&found, terms, memory, e)?;
         Ok(id)
     }
 
@@ -133,7 +130,6 @@ impl<'s> Marker<'s> {
         memory: &TermMemory,
         instance: u32,
         e: Option<&Expr>,
-        text: &mut Vec<u8>,
     ) -> Result<TermId, AllocError>
         requires markable { IsMarkable self.now.design.now }
         requires inputs { HasInputs (cells_of self.now.design.now) terms.old memory.now }
@@ -144,7 +140,7 @@ impl<'s> Marker<'s> {
     {
         match e {
             Some(e) => {
-                let id = self.condition(terms, memory, instance, e, text)?;
+                let id = self.condition(terms, memory, instance, e)?;
                 Ok(id)
             }
             None => {

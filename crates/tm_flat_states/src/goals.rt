@@ -50,7 +50,6 @@ impl<'s> Marker<'s> {
         terms: &mut Terms,
         memory: &TermMemory,
         goal: &Item,
-        text: &mut Vec<u8>,
     ) -> Result<TermId, AllocError>
         requires markable { IsMarkable self.now.design.now }
         requires inputs { HasInputs (cells_of self.now.design.now) terms.old memory.now }
@@ -59,7 +58,7 @@ impl<'s> Marker<'s> {
             v))) }
     {
         let e = self.goal_expr(goal);
-        let id = self.stated(terms, memory, goal.instance, e, text)?;
+        let id = self.stated(terms, memory, goal.instance, e)?;
         Ok(id)
     }
 
@@ -69,7 +68,6 @@ impl<'s> Marker<'s> {
         terms: &mut Terms,
         memory: &TermMemory,
         fair: &Item,
-        text: &mut Vec<u8>,
     ) -> Result<TermId, AllocError>
         requires markable { IsMarkable self.now.design.now }
         requires inputs { HasInputs (cells_of self.now.design.now) terms.old memory.now }
@@ -78,7 +76,7 @@ impl<'s> Marker<'s> {
             v))) }
     {
         let e = self.fair_expr(fair);
-        let id = self.stated(terms, memory, fair.instance, e, text)?;
+        let id = self.stated(terms, memory, fair.instance, e)?;
         Ok(id)
     }
 
@@ -94,10 +92,9 @@ impl<'s> Marker<'s> {
         ensures { IfOk result (λ ids. AreStated (design_tree self.now.design.now)
             (goal_of (design_tree self.now.design.now)) self.now.design.now.goals.items terms.old terms.new ids.items) }
     {
-        let mut text = Vec::new(alloc);
         let mut ids = Vec::new(alloc);
         for goal in &self.design.goals {
-            let id = self.goal(terms, memory, goal, &mut text)?;
+            let id = self.goal(terms, memory, goal)?;
             ids.push(id)?;
         }
         Ok(ids)
@@ -115,10 +112,9 @@ impl<'s> Marker<'s> {
         ensures { IfOk result (λ ids. AreStated (design_tree self.now.design.now)
             (fair_of (design_tree self.now.design.now)) self.now.design.now.fairs.items terms.old terms.new ids.items) }
     {
-        let mut text = Vec::new(alloc);
         let mut ids = Vec::new(alloc);
         for fair in &self.design.fairs {
-            let id = self.fair(terms, memory, fair, &mut text)?;
+            let id = self.fair(terms, memory, fair)?;
             ids.push(id)?;
         }
         Ok(ids)

@@ -22,8 +22,7 @@ pub struct Branches {
     pub second: Flow,
 }
 
-/// Parts runs by a condition: those at which it overruns fail. Linear in the cells. `text` is a buffer. `AllocError` is
-/// want of memory.
+/// Parts runs by a condition: those at which it overruns fail. Linear in the cells. `AllocError` is want of memory.
 pub fn parted(
     alloc: Global,
     reader: &TermReader<'_>,
@@ -31,7 +30,6 @@ pub fn parted(
     ends: &mut Ends,
     flow: Flow,
     e: &Expr,
-    text: &mut Vec<u8>,
 ) -> Result<Branches, AllocError>
     requires typed { HasTypeAt reader.now types.Bool (expr_tree e.now) }
     requires settled { AreSettledCells reader.now }
@@ -40,7 +38,7 @@ pub fn parted(
     requires ends { AreEnds reader.now.tables terms.old ends.old }
     ensures { IfOk result (Parts reader.now (expr_tree e.now) terms.old terms.new flow ends.old ends.new) }
 {
-    let tested = value_operand(reader, terms, ends, flow, e, ExprType::Bool, text)?;
+    let tested = value_operand(reader, terms, ends, flow, e, ExprType::Bool)?;
     let other = tested.flow.copied(alloc)?;
     let fails = denial(terms, tested.value)?;
     let first = tested.flow.narrowed(terms, tested.value)?;

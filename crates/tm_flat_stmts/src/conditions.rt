@@ -25,7 +25,6 @@ pub fn assumed(
     ends: &mut Ends,
     flow: Flow,
     e: &Expr,
-    text: &mut Vec<u8>,
 ) -> Result<Flow, AllocError>
     requires typed { HasTypeAt reader.now types.Bool (expr_tree e.now) }
     requires settled { AreSettledCells reader.now }
@@ -35,7 +34,7 @@ pub fn assumed(
     ensures { (at : placed.Place) (first : ℕ) → IfOk result (λ g. LeadsThrough reader.now first
         (trees.assume at (expr_tree e.now)) terms.old terms.new flow ends.old (Some g) ends.new) }
 {
-    let tested = value_operand(reader, terms, ends, flow, e, ExprType::Bool, text)?;
+    let tested = value_operand(reader, terms, ends, flow, e, ExprType::Bool)?;
     let goes = tested.flow.narrowed(terms, tested.value)?;
     Ok(goes)
 }
@@ -47,7 +46,6 @@ pub fn asserted(
     ends: &mut Ends,
     flow: Flow,
     e: &Expr,
-    text: &mut Vec<u8>,
 ) -> Result<Flow, AllocError>
     requires typed { HasTypeAt reader.now types.Bool (expr_tree e.now) }
     requires settled { AreSettledCells reader.now }
@@ -57,7 +55,7 @@ pub fn asserted(
     ensures { (at : placed.Place) (first : ℕ) → IfOk result (λ g. LeadsThrough reader.now first
         (trees.assert at (expr_tree e.now)) terms.old terms.new flow ends.old (Some g) ends.new) }
 {
-    let tested = value_operand(reader, terms, ends, flow, e, ExprType::Bool, text)?;
+    let tested = value_operand(reader, terms, ends, flow, e, ExprType::Bool)?;
     let fails = denial(terms, tested.value)?;
     ends.fail(terms, &tested.flow, Some(fails))?;
     let goes = tested.flow.narrowed(terms, tested.value)?;

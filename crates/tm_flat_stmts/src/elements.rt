@@ -22,8 +22,7 @@ use tm_scope::ExprType;
 use tm_syntax::tree::{Expr, Ident};
 use tm_term::{Term, TermId, Terms};
 
-/// Values an element of an array where runs stand: those at which it overruns fail. `text` is a buffer. `AllocError` is
-/// want of memory.
+/// Values an element of an array where runs stand: those at which it overruns fail. `AllocError` is want of memory.
 pub fn element<'s>(
     reader: &TermReader<'s>,
     terms: &mut Terms,
@@ -32,7 +31,6 @@ pub fn element<'s>(
     path: &[Ident],
     index: &Expr,
     asked: ExprType<'s>,
-    text: &mut Vec<u8>,
 ) -> Result<Operand, AllocError>
     requires typed { HasTypeAt reader.now (ty_of asked) (trees.element path.now (expr_tree index.now)) }
     requires settled { AreSettledCells reader.now }
@@ -42,7 +40,7 @@ pub fn element<'s>(
     ensures { IfOk result (AsksOne reader.now (ty_of asked.entry) (trees.element path.now (expr_tree index.now))
         terms.old terms.new flow ends.old ends.new) }
 {
-    let valued = reader.element(terms, flow.memory(), path, index, asked, text)?;
+    let valued = reader.element(terms, flow.memory(), path, index, asked)?;
     ends.fail(terms, &flow, valued.overrun)?;
     let goes = flow.without(terms, valued.overrun)?;
     Ok(Operand {
@@ -61,7 +59,6 @@ fn put_one<'s>(
     index: TermId,
     id: TermId,
     ty: ExprType<'s>,
-    text: &mut Vec<u8>,
 ) -> Result<Flow, AllocError>
     requires sized { IsSized (ty_of ty) }
     requires typed { CellHasType reader.now path.now (Some number) (ty_of ty) }
@@ -74,17 +71,17 @@ fn put_one<'s>(
     requires term { IsTerm terms.old (bits_in reader.now (ty_of ty)) id }
     ensures { IfOk result (PutsOne reader.now path.now number index id terms.old terms.new flow) }
 {
-    let element = reader.element_at(terms, flow.memory(), path, number, ty, text)?;
+    let element = reader.element_at(terms, flow.memory(), path, number, ty)?;
     let width = terms.width(index);
     let constant = make(terms, Term::Const(width, number))?;
     let here = make(terms, Term::Eq(index, constant))?;
     let value = make(terms, Term::Ite(here, id, element))?;
-    let goes = put(reader, flow, path, Some(number), value, text)?;
+    let goes = put(reader, flow, path, Some(number), value)?;
     Ok(goes)
 }
 
 /// Puts a term into the element that another term numbers, where it is one of so many, each of which the index can
-/// number. Linear in the count. `text` is a buffer. `AllocError` is want of memory.
+/// number. Linear in the count. `AllocError` is want of memory.
 pub(crate) fn put_some<'s>(
     reader: &TermReader<'s>,
     terms: &mut Terms,
@@ -94,7 +91,6 @@ pub(crate) fn put_some<'s>(
     count: u64,
     id: TermId,
     ty: ExprType<'s>,
-    text: &mut Vec<u8>,
 ) -> Result<Flow, AllocError>
     requires sized { IsSized (ty_of ty) }
     requires typed { (k : ℕ) → CellHasType reader.now path.now (Some k) (ty_of ty) }
@@ -109,13 +105,13 @@ pub(crate) fn put_some<'s>(
 {
     let mut goes = flow;
     for number in 0..count {
-        goes = put_one(reader, terms, goes, path, number, index, id, ty, text)?;
+        goes = put_one(reader, terms, goes, path, number, index, id, ty)?;
     }
     Ok(goes)
 }
 
-/// Puts a term into the element that an index numbers, where it does not overrun. Linear in the array's length. `text`
-/// is a buffer. `AllocError` is want of memory.
+/// Puts a term into the element that an index numbers, where it does not overrun. Linear in the array's length.
+/// `AllocError` is want of memory.
 pub(crate) fn put_element<'s>(
     reader: &TermReader<'s>,
     terms: &mut Terms,
@@ -124,7 +120,6 @@ pub(crate) fn put_element<'s>(
     index: &Expr,
     id: TermId,
     ty: ExprType<'s>,
-    text: &mut Vec<u8>,
 ) -> Result<Flow, AllocError>
     requires typed { HasTypeAt reader.now (ty_of ty) (trees.element path.now (expr_tree index.now)) }
     requires settled { AreSettledCells reader.now }
@@ -134,12 +129,12 @@ pub(crate) fn put_element<'s>(
     requires term { IsTerm terms.old (bits_in reader.now (ty_of ty)) id }
     ensures { IfOk result (PutsElement reader.now path.now (expr_tree index.now) id terms.old terms.new flow) }
 {
-    let place = element_place(reader, terms, &flow, path, index, text)?;
-    let goes = put_at(reader, terms, flow, path, &place, id, ty, text)?;
+    let place = element_place(reader, terms, &flow, path, index)?;
+    let goes = put_at(reader, terms, flow, path, &place, id, ty)?;
     Ok(goes)
 }
 
-/// Leads runs through an assignment of a value to an element of an array. Linear in its length. `text` is a buffer.
+/// Leads runs through an assignment of a value to an element of an array. Linear in its length.
 pub fn assigned_element(
     reader: &TermReader<'_>,
     terms: &mut Terms,
@@ -148,7 +143,6 @@ pub fn assigned_element(
     path: &[Ident],
     index: &Expr,
     e: &Expr,
-    text: &mut Vec<u8>,
 ) -> Result<Flow, AllocError>
     requires typed { (ty : resolved.Ty) × HasTypeAt reader.now ty (trees.element path.now (expr_tree index.now))
         × HasTypeAt reader.now ty (expr_tree e.now) }
@@ -162,17 +156,8 @@ pub fn assigned_element(
         ends.old (Some g) ends.new) }
 {
     let asked = target_type(reader, path);
-    let within = element(reader, terms, ends, flow, path, index, asked, text)?;
-    let valued = value_operand(reader, terms, ends, within.flow, e, asked, text)?;
-    let goes = put_element(
-        reader,
-        terms,
-        valued.flow,
-        path,
-        index,
-        valued.value,
-        asked,
-        text,
-    )?;
+    let within = element(reader, terms, ends, flow, path, index, asked)?;
+    let valued = value_operand(reader, terms, ends, within.flow, e, asked)?;
+    let goes = put_element(reader, terms, valued.flow, path, index, valued.value, asked)?;
     Ok(goes)
 }

@@ -22,8 +22,8 @@ pub struct Operand {
     pub value: TermId,
 }
 
-/// Values an expression where runs stand, where its place asks for this type: those at which it overruns fail. `text`
-/// is a buffer. `AllocError` is want of memory.
+/// Values an expression where runs stand, where its place asks for this type: those at which it overruns fail.
+/// `AllocError` is want of memory.
 pub fn value_operand<'s>(
     reader: &TermReader<'s>,
     terms: &mut Terms,
@@ -31,7 +31,6 @@ pub fn value_operand<'s>(
     flow: Flow,
     e: &Expr,
     asked: ExprType<'s>,
-    text: &mut Vec<u8>,
 ) -> Result<Operand, AllocError>
     requires typed { HasTypeAt reader.now (ty_of asked) (expr_tree e.now) }
     requires settled { AreSettledCells reader.now }
@@ -41,7 +40,7 @@ pub fn value_operand<'s>(
     ensures { IfOk result
         (AsksOne reader.now (ty_of asked.entry) (expr_tree e.now) terms.old terms.new flow ends.old ends.new) }
 {
-    let valued = reader.value(terms, &flow.memory, e, asked, text)?;
+    let valued = reader.value(terms, &flow.memory, e, asked)?;
     ends.fail(terms, &flow, valued.overrun)?;
     let goes = flow.without(terms, valued.overrun)?;
     Ok(Operand {

@@ -43,15 +43,13 @@ fn reached(width: u8, length: u64) -> u64
     if length <= most { length } else { most + 1 }
 }
 
-/// Where the element is that an index numbers where runs stand, if it does not overrun. `text` is a buffer.
-/// `AllocError` is want of memory.
+/// Where the element is that an index numbers where runs stand, if it does not overrun. `AllocError` is want of memory.
 pub fn element_place(
     reader: &TermReader<'_>,
     terms: &mut Terms,
     flow: &Flow,
     path: &[Ident],
     index: &Expr,
-    text: &mut Vec<u8>,
 ) -> Result<TargetPlace, AllocError>
     requires typed { (ty : resolved.Ty) × HasTypeAt reader.now ty (trees.element path.now (expr_tree index.now)) }
     requires settled { AreSettledCells reader.now }
@@ -65,13 +63,12 @@ pub fn element_place(
     }
     let length = reader.scope().array_length(path).unwrap_or(0);
     let asked = index_type(reader.scope(), index);
-    let number = reader.value(terms, flow.memory(), index, asked, text)?;
+    let number = reader.value(terms, flow.memory(), index, asked)?;
     let count = reached(terms.width(number.value), length);
     Ok(TargetPlace::Found(number.value, count))
 }
 
-/// Puts a term where a target is. Linear in how many elements it may be. `text` is a buffer. `AllocError` is want of
-/// memory.
+/// Puts a term where a target is. Linear in how many elements it may be. `AllocError` is want of memory.
 pub fn put_at<'s>(
     reader: &TermReader<'s>,
     terms: &mut Terms,
@@ -80,7 +77,6 @@ pub fn put_at<'s>(
     place: &TargetPlace,
     id: TermId,
     ty: ExprType<'s>,
-    text: &mut Vec<u8>,
 ) -> Result<Flow, AllocError>
     requires typed { HasTargetAt reader.now (ty_of ty) path.now }
     requires settled { AreSettledCells reader.now }
@@ -93,15 +89,15 @@ pub fn put_at<'s>(
 {
     match place {
         TargetPlace::Whole => {
-            let goes = put(reader, flow, path, None, id, text)?;
+            let goes = put(reader, flow, path, None, id)?;
             Ok(goes)
         }
         TargetPlace::Number(number) => {
-            let goes = put(reader, flow, path, Some(*number), id, text)?;
+            let goes = put(reader, flow, path, Some(*number), id)?;
             Ok(goes)
         }
         TargetPlace::Found(index, count) => {
-            let goes = put_some(reader, terms, flow, path, *index, *count, id, ty, text)?;
+            let goes = put_some(reader, terms, flow, path, *index, *count, id, ty)?;
             Ok(goes)
         }
     }

@@ -76,14 +76,13 @@ pub fn within(
 }
 
 /// Leads runs through an assignment of a choice to a target without an index. `first` is the number of the first input
-/// that is a bit of choices. `text` is a buffer.
+/// that is a bit of choices.
 pub fn chosen(
     reader: &TermReader<'_>,
     terms: &mut Terms,
     flow: Flow,
     path: &[Ident],
     first: u32,
-    text: &mut Vec<u8>,
 ) -> Result<Flow, AllocError>
     requires typed { (ty : resolved.Ty) × HasTargetAt reader.now ty path.now
         × AreChoiceBits terms.old first flow.position (bits_in reader.now ty) }
@@ -101,12 +100,12 @@ pub fn chosen(
     let start = flow.position();
     let number = choice_number(terms, first, start, width)?;
     let goes = within(terms, flow, number, width, type_size(reader.scopes(), ty))?;
-    let chosen = put(reader, goes, path, None, number, text)?;
+    let chosen = put(reader, goes, path, None, number)?;
     Ok(chosen.moved(start + u64::from(width)))
 }
 
 /// Leads runs through an assignment of a choice to an element of an array. Linear in its length. `first` is the number
-/// of the first input that is a bit of choices. `text` is a buffer.
+/// of the first input that is a bit of choices.
 pub fn chosen_element(
     reader: &TermReader<'_>,
     terms: &mut Terms,
@@ -115,7 +114,6 @@ pub fn chosen_element(
     path: &[Ident],
     index: &Expr,
     first: u32,
-    text: &mut Vec<u8>,
 ) -> Result<Flow, AllocError>
     requires typed { (ty : resolved.Ty) × HasTypeAt reader.now ty (trees.element path.now (expr_tree index.now))
         × AreChoiceBits terms.old first flow.position (bits_in reader.now ty) }
@@ -130,12 +128,12 @@ pub fn chosen_element(
         ends.new) }
 {
     let ty = target_type(reader, path);
-    let found = element(reader, terms, ends, flow, path, index, ty, text)?;
+    let found = element(reader, terms, ends, flow, path, index, ty)?;
     let width = type_bits(reader.scopes(), ty);
     let start = found.flow.position();
     let number = choice_number(terms, first, start, width)?;
     let size = type_size(reader.scopes(), ty);
     let goes = within(terms, found.flow, number, width, size)?;
-    let chosen = put_element(reader, terms, goes, path, index, number, ty, text)?;
+    let chosen = put_element(reader, terms, goes, path, index, number, ty)?;
     Ok(chosen.moved(start + u64::from(width)))
 }

@@ -28,18 +28,17 @@ pub fn target_type<'s>(reader: &TermReader<'s>, path: &[Ident]) -> ExprType<'s>
 }
 
 /// The runs of a flow after a term was put into the cell that a path means, with the index of an element where there is
-/// one; where there is no such cell all is as it was. `text` is a buffer. `AllocError` is want of memory.
+/// one; where there is no such cell all is as it was. `AllocError` is want of memory.
 pub fn put(
     reader: &TermReader<'_>,
     flow: Flow,
     path: &[Ident],
     index: Option<u64>,
     id: TermId,
-    text: &mut Vec<u8>,
 ) -> Result<Flow, AllocError>
     ensures { IfOk result (Puts reader.now path.now index id flow) }
 {
-    match reader.scope().cell(path, index, text)? {
+    match reader.scope().cell(path, index) {
         Some(cell) => {
             let goes = flow.with(reader.at(), cell, id)?;
             Ok(goes)
@@ -48,7 +47,7 @@ pub fn put(
     }
 }
 
-/// Leads runs through an assignment of a value to a target without an index. `text` is a buffer.
+/// Leads runs through an assignment of a value to a target without an index.
 pub fn assigned(
     reader: &TermReader<'_>,
     terms: &mut Terms,
@@ -56,7 +55,6 @@ pub fn assigned(
     flow: Flow,
     path: &[Ident],
     e: &Expr,
-    text: &mut Vec<u8>,
 ) -> Result<Flow, AllocError>
     requires typed { (ty : resolved.Ty) × HasTargetAt reader.now ty path.now
         × HasTypeAt reader.now ty (expr_tree e.now) }
@@ -70,7 +68,7 @@ pub fn assigned(
         ends.new) }
 {
     let asked = target_type(reader, path);
-    let valued = value_operand(reader, terms, ends, flow, e, asked, text)?;
-    let goes = put(reader, valued.flow, path, None, valued.value, text)?;
+    let valued = value_operand(reader, terms, ends, flow, e, asked)?;
+    let goes = put(reader, valued.flow, path, None, valued.value)?;
     Ok(goes)
 }

@@ -55,7 +55,7 @@ impl<'a> CalledTask<'a> {
     {
         let values = argument_values(outer, course, self.task.params.as_slice(), args)?;
         let inner = &self.frame.reader;
-        let cells = inner.parameters(course.alloc, self.task, &mut course.text)?;
+        let cells = inner.parameters(course.alloc, self.task)?;
         inner.put_all(&mut course.store, cells.as_slice(), values.as_slice())?;
         Ok(())
     }

@@ -18,11 +18,11 @@ ghost use Rattle.tm_plain_bodies.specs.Runs.{
 use crate::conditions::operand;
 use crate::course::Course;
 use crate::halt::Halt;
-use tm_plain_exprs::{Reader, Stop};
+use tm_plain_exprs::{Overrun, Reader};
 use tm_scope::CellNumber;
 use tm_syntax::tree::{Expr, Ident};
 
-/// The cell of the target of an assignment. It halts where the index overruns, or memory is wanting.
+/// The cell of the target of an assignment. It halts where the index overruns.
 pub(crate) fn target(
     reader: &Reader<'_>,
     course: &mut Course,
@@ -36,7 +36,7 @@ pub(crate) fn target(
 {
     match index {
         Some(index) => element_target(reader, course, path, index),
-        None => Ok(reader.cell(path, None, &mut course.text)?),
+        None => Ok(reader.cell(path, None)),
     }
 }
 
@@ -52,10 +52,9 @@ fn element_target(
     ensures cell { IfOk result (IsTarget reader.now course.old.store path.now (Some (expr_tree index.now))) }
     ensures halts { IfErr result (HaltsAtTarget reader.now course.old path.now (Some (expr_tree index.now))) }
 {
-    match reader.index(&course.store, path, index, &mut course.text) {
-        Ok(number) => Ok(reader.cell(path, Some(number), &mut course.text)?),
-        Err(Stop::Overrun) => Err(course.at_end(Halt::Failed)),
-        Err(Stop::Memory) => Err(Halt::Memory),
+    match reader.index(&course.store, path, index) {
+        Ok(number) => Ok(reader.cell(path, Some(number))),
+        Err(Overrun) => Err(course.at_end(Halt::Failed)),
     }
 }
 

@@ -11,11 +11,11 @@ ghost use Rattle.tm_plain_exprs.specs.Valued.{Holds, IsValued};
 
 use crate::course::Course;
 use crate::halt::Halt;
-use tm_plain_exprs::{Reader, Stop};
+use tm_plain_exprs::{Overrun, Reader};
 use tm_scope::ExprType;
 use tm_syntax::tree::Expr;
 
-/// The value of an expression that a statement values. It halts where the expression overruns, or memory is wanting.
+/// The value of an expression that a statement values. It halts where the expression overruns.
 pub(crate) fn operand<'a>(
     reader: &Reader<'a>,
     course: &mut Course,
@@ -27,24 +27,22 @@ pub(crate) fn operand<'a>(
     ensures value { IfOk result (IsValued reader.now course.old.store (ty_of asked.entry) (expr_tree e.now)) }
     ensures halts { IfErr result (HaltsAt reader.now course.old (expr_tree e.now)) }
 {
-    match reader.value(&course.store, e, asked, &mut course.text) {
+    match reader.value(&course.store, e, asked) {
         Ok(value) => Ok(value),
-        Err(Stop::Overrun) => Err(course.at_end(Halt::Failed)),
-        Err(Stop::Memory) => Err(Halt::Memory),
+        Err(Overrun) => Err(course.at_end(Halt::Failed)),
     }
 }
 
-/// Whether a condition holds that a statement values. It halts where the condition overruns, or memory is wanting.
+/// Whether a condition holds that a statement values. It halts where the condition overruns.
 pub(crate) fn condition(reader: &Reader<'_>, course: &mut Course, e: &Expr) -> Result<bool, Halt>
     requires { HasTypeAt reader.now resolved.Bool (expr_tree e.now) }
     ensures same { IsSame course.old course.new }
     ensures holds { IfOk result (Holds reader.now course.old.store (expr_tree e.now)) }
     ensures halts { IfErr result (HaltsAt reader.now course.old (expr_tree e.now)) }
 {
-    match reader.holds(&course.store, e, &mut course.text) {
+    match reader.holds(&course.store, e) {
         Ok(holds) => Ok(holds),
-        Err(Stop::Overrun) => Err(course.at_end(Halt::Failed)),
-        Err(Stop::Memory) => Err(Halt::Memory),
+        Err(Overrun) => Err(course.at_end(Halt::Failed)),
     }
 }
 

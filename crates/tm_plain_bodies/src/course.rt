@@ -12,14 +12,12 @@ use std::alloc::{AllocError, Global};
 use tm_plain_exprs::Store;
 
 /// What a run keeps on its way: its memory, the calls that led to where it stands, and the choices that are left.
-/// `text` is a buffer.
 #[derive(Drop)]
 pub struct Course {
     pub alloc: Global,
     pub store: Store,
     pub trail: Trail,
     pub choices: Choices,
-    pub text: Vec<u8>,
 }
 
 impl Course {
@@ -35,7 +33,6 @@ impl Course {
             store: Store::new(alloc, values),
             trail: Trail::new(alloc),
             choices,
-            text: Vec::new(alloc),
         })
     }
 

@@ -2,10 +2,10 @@
 #![tactic(auto)]
 
 mod operators;
+mod overrun;
 mod reader;
-mod stop;
 mod store;
 
+pub use overrun::Overrun;
 pub use reader::Reader;
-pub use stop::Stop;
 pub use store::{StepValues, Store};

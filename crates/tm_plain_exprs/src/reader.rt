@@ -1,5 +1,5 @@
 //! What the names of a body of an instance have as values.
-ghost use Rattle.std.specs.Prelude.{◌≡◌, Some, IfOk, slice_get, unwrap_or};
+ghost use Rattle.std.specs.Prelude.{◌≡◌, Some, slice_get, unwrap_or};
 ghost use Rattle.std.specs.Option.{option_and_then, option_map};
 ghost use Rattle.tm_syntax.specs.declared.tree.Ident as spelled;
 ghost use Rattle.tm_syntax.specs.Tree.View.{spec_tree};
@@ -20,7 +20,6 @@ mod types;
 mod value;
 
 use crate::store::Store;
-use std::alloc::AllocError;
 use std::marker::Model;
 use tm_scope::{CellScope, Scopes, SiteBody};
 use tm_syntax::tree::Ident;
@@ -84,20 +83,18 @@ impl<'a> Reader<'a> {
     }
 
     /// The value in the cell that a path means, with the index of an element where there is one. Linear in the path.
-    /// `text` is a buffer. `AllocError` is want of memory.
     pub(crate) fn cell_value(
         &self,
         store: &Store,
         path: &[Ident],
         index: Option<u64>,
-        text: &mut Vec<u8>,
-    ) -> Result<Option<u64>, AllocError>
-        ensures { IfOk result (λ found. (of : Told self.now store.now) → found
-            ≡ option_map (read of.memory) (cell of.design (scope_of self.now.at) path.now index)) }
+    ) -> Option<u64>
+        ensures { (of : Told self.now store.now) → result
+            ≡ option_map (read of.memory) (cell of.design (scope_of self.now.at) path.now index) }
     {
-        match self.scope.cell(path, index, text)? {
-            Some(cell) => Ok(Some(store.read(self.at, cell))),
-            None => Ok(None),
+        match self.scope.cell(path, index) {
+            Some(cell) => Some(store.read(self.at, cell)),
+            None => None,
         }
     }
 

@@ -27,6 +27,7 @@ pub mod Positions
 pub mod SiteSteps
 pub mod TaskSets
 pub mod TextTasks
+pub mod VariablePaths
 pub mod WalkClosings
 pub mod WalkFields
 pub mod WalkOpenings

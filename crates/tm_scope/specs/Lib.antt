@@ -8,3 +8,4 @@ pub mod Instances
 pub mod Marks
 pub mod Members
 pub mod Types
+pub mod VariablePaths

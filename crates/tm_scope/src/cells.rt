@@ -2,7 +2,6 @@
 
 mod find;
 mod kept;
-mod paths;
 mod scope;
 mod site_body;
 mod tables;

@@ -28,4 +28,4 @@ pub use scopes::{
 };
 pub use sites::{Sites, sites_depend_on_instances_alone};
 pub use types::ExprType;
-pub use variables::Variables;
+pub use variables::{VariablePath, Variables};

@@ -41,15 +41,10 @@ fn cells_text(alloc: Global, cells: &[CellNumber]) -> Result<String, AllocError>
 }
 
 /// The cell that a path means in a body, if it is there, perhaps with an index.
-fn cell_at(
-    alloc: Global,
-    scope: &Option<CellScope>,
-    path: &[Ident],
-    index: Option<u64>,
-) -> Result<Option<CellNumber>, AllocError> {
+fn cell_at(scope: &Option<CellScope>, path: &[Ident], index: Option<u64>) -> Option<CellNumber> {
     match scope {
-        Some(scope) => scope.cell(path, index, &mut Vec::new(alloc)),
-        None => Ok(None),
+        Some(scope) => scope.cell(path, index),
+        None => None,
     }
 }
 
@@ -65,7 +60,7 @@ fn cell_of(
         None => (text, None),
     };
     let path = path_of(alloc, names)?;
-    cell_at(alloc, &cells.scope(at), &path, index)
+    Ok(cell_at(&cells.scope(at), &path, index))
 }
 
 /// The cells that a question asks for, if there are such.

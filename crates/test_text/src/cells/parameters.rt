@@ -43,7 +43,7 @@ fn task_cells(
 {
     match task {
         Some(task) => {
-            let cells = parameter_cells(alloc, scope, task, &mut Vec::new(alloc))?;
+            let cells = parameter_cells(alloc, scope, task)?;
             Ok(Some(cells))
         }
         None => Ok(None),

@@ -54,7 +54,7 @@ impl<'s> TermReader<'s> {
         Ok(id)
     }
 
-    /// The term in the cell that a path means, with the index of an element where there is one. `text` is a buffer.
+    /// The term in the cell that a path means, with the index of an element where there is one.
     pub(crate) fn cell_term(
         &self,
         terms: &mut Terms,
@@ -62,7 +62,6 @@ impl<'s> TermReader<'s> {
         path: &[Ident],
         index: Option<u64>,
         ty: ExprType<'s>,
-        text: &mut Vec<u8>,
     ) -> Result<Option<TermId>, AllocError>
         requires sized { IsSized (ty_of ty) }
         requires typed { CellHasType self.now path.now index (ty_of ty) }
@@ -70,7 +69,7 @@ impl<'s> TermReader<'s> {
         ensures { IfOk result
             (FindsCell self.now memory.now (ty_of ty.entry) path.now index terms.old terms.new) }
     {
-        match self.scope.cell(path, index, text)? {
+        match self.scope.cell(path, index) {
             Some(cell) => {
                 let id = self.term_in(terms, memory, cell, ty)?;
                 Ok(Some(id))
@@ -86,14 +85,13 @@ impl<'s> TermReader<'s> {
         memory: &TermMemory,
         path: &[Ident],
         asked: ExprType<'s>,
-        text: &mut Vec<u8>,
     ) -> Result<Valued, AllocError>
         requires typed { HasTypeAt self.now (ty_of asked) (trees.path path.now) }
         requires ready { IsReady self.now terms.old memory.now }
         ensures { IfOk result
             (Finds self.now memory.now (ty_of asked.entry) (trees.path path.now) terms.old terms.new) }
     {
-        match self.cell_term(terms, memory, path, None, asked, text)? {
+        match self.cell_term(terms, memory, path, None, asked)? {
             Some(value) => Ok(Valued {
                 value,
                 overrun: None,

@@ -52,7 +52,7 @@ pub(crate) fn past_end(
 }
 
 impl<'s> TermReader<'s> {
-    /// The term of the element of a number; where there is none it is 0. `text` is a buffer.
+    /// The term of the element of a number; where there is none it is 0.
     pub fn element_at(
         &self,
         terms: &mut Terms,
@@ -60,7 +60,6 @@ impl<'s> TermReader<'s> {
         path: &[Ident],
         index: u64,
         ty: ExprType<'s>,
-        text: &mut Vec<u8>,
     ) -> Result<TermId, AllocError>
         requires sized { IsSized (ty_of ty) }
         requires typed { CellHasType self.now path.now (Some index) (ty_of ty) }
@@ -68,7 +67,7 @@ impl<'s> TermReader<'s> {
         ensures { IfOk result
             (FindsElement self.now memory.now (ty_of ty.entry) path.now index terms.old terms.new) }
     {
-        match self.cell_term(terms, memory, path, Some(index), ty, text)? {
+        match self.cell_term(terms, memory, path, Some(index), ty)? {
             Some(id) => Ok(id),
             None => {
                 let zero = self.number_term(terms, 0, ty)?;
@@ -87,7 +86,6 @@ impl<'s> TermReader<'s> {
         index: TermId,
         others: TermId,
         ty: ExprType<'s>,
-        text: &mut Vec<u8>,
     ) -> Result<TermId, AllocError>
         requires sized { IsSized (ty_of ty) }
         requires typed { CellHasType self.now path.now (Some number) (ty_of ty) }
@@ -98,7 +96,7 @@ impl<'s> TermReader<'s> {
         ensures { IfOk result (IsOneMoreElement self.now memory.now (ty_of ty.entry) path.now number index others
             terms.old terms.new) }
     {
-        let element = self.element_at(terms, memory, path, number, ty, text)?;
+        let element = self.element_at(terms, memory, path, number, ty)?;
         let width = terms.width(index);
         let constant = make(terms, Term::Const(width, number))?;
         let here = make(terms, Term::Eq(index, constant))?;
@@ -116,7 +114,6 @@ impl<'s> TermReader<'s> {
         index: TermId,
         count: u64,
         ty: ExprType<'s>,
-        text: &mut Vec<u8>,
     ) -> Result<TermId, AllocError>
         requires sized { IsSized (ty_of ty) }
         requires typed { (k : ℕ) → CellHasType self.now path.now (Some k) (ty_of ty) }
@@ -128,7 +125,7 @@ impl<'s> TermReader<'s> {
     {
         let mut id = self.number_term(terms, 0, ty)?;
         for number in 0..count {
-            id = self.one_more_element(terms, memory, path, number, index, id, ty, text)?;
+            id = self.one_more_element(terms, memory, path, number, index, id, ty)?;
         }
         Ok(id)
     }
@@ -141,7 +138,6 @@ impl<'s> TermReader<'s> {
         path: &[Ident],
         index: &Num,
         asked: ExprType<'s>,
-        text: &mut Vec<u8>,
     ) -> Result<Valued, AllocError>
         requires typed { HasTypeAt self.now (ty_of asked) (trees.element path.now (trees.number index.now)) }
         requires ready { IsReady self.now terms.old memory.now }
@@ -149,7 +145,7 @@ impl<'s> TermReader<'s> {
             (trees.element path.now (trees.number index.now)) terms.old terms.new) }
     {
         let number = index.value.unwrap_or(0);
-        let value = self.element_at(terms, memory, path, number, asked, text)?;
+        let value = self.element_at(terms, memory, path, number, asked)?;
         Ok(Valued {
             value,
             overrun: None,

@@ -43,8 +43,7 @@ fn shift_amount(by: &Num) -> u8
 impl<'s> TermReader<'s> {
     /// The terms of an expression that has a type, where its place asks for this type: over all values of the inputs,
     /// its value and whether it overruns. Linear in the expression and in the lengths of the arrays that it indexes,
-    /// and as deep as it nests: the text's limit on nesting bounds the recursion. `text` is a buffer. `AllocError` is
-    /// want of memory.
+    /// and as deep as it nests: the text's limit on nesting bounds the recursion. `AllocError` is want of memory.
     #[cycle(value)]
     pub fn value(
         &self,
@@ -52,7 +51,6 @@ impl<'s> TermReader<'s> {
         memory: &TermMemory,
         e: &Expr,
         asked: ExprType<'s>,
-        text: &mut Vec<u8>,
     ) -> Result<Valued, AllocError>
         requires typed { HasTypeAt self.now (ty_of asked) (expr_tree e.now) }
         requires ready { IsReady self.now terms.old memory.now }
@@ -62,17 +60,15 @@ impl<'s> TermReader<'s> {
         match e {
             Expr::Truth(_, truth) => self.truth_term(terms, memory, *truth, asked),
             Expr::Number(number) => self.literal_term(terms, memory, number, asked),
-            Expr::Path(path) => self.path_term(terms, memory, path.names.as_slice(), asked, text),
-            Expr::Group(_, e) => self.value(terms, memory, e, asked, text),
-            Expr::Unary(_, op, e) => self.unary(terms, memory, *op, e, asked, text),
-            Expr::Binary(_, op, a, b) => self.binary(terms, memory, *op, a, b, asked, text),
-            Expr::Shift(_, op, e, by) => self.shifted(terms, memory, *op, e, by, asked, text),
-            Expr::Conditional(_, test, a, b) => {
-                self.chosen(terms, memory, test, a, b, asked, text)
-            }
-            Expr::Cast(_, to, e) => self.cast(terms, memory, to, e, asked, text),
+            Expr::Path(path) => self.path_term(terms, memory, path.names.as_slice(), asked),
+            Expr::Group(_, e) => self.value(terms, memory, e, asked),
+            Expr::Unary(_, op, e) => self.unary(terms, memory, *op, e, asked),
+            Expr::Binary(_, op, a, b) => self.binary(terms, memory, *op, a, b, asked),
+            Expr::Shift(_, op, e, by) => self.shifted(terms, memory, *op, e, by, asked),
+            Expr::Conditional(_, test, a, b) => { self.chosen(terms, memory, test, a, b, asked) }
+            Expr::Cast(_, to, e) => self.cast(terms, memory, to, e, asked),
             Expr::Element(path, index) => {
-                self.element(terms, memory, path.names.as_slice(), index, asked, text)
+                self.element(terms, memory, path.names.as_slice(), index, asked)
             }
         }
     }
@@ -128,14 +124,13 @@ impl<'s> TermReader<'s> {
         op: UnaryOperator,
         e: &Expr,
         asked: ExprType<'s>,
-        text: &mut Vec<u8>,
     ) -> Result<Valued, AllocError>
         requires typed { (at : Place) × HasTypeAt self.now (ty_of asked) (trees.unary at op (expr_tree e.now)) }
         requires ready { IsReady self.now terms.old memory.now }
         ensures { (at : Place) → IfOk result (Finds self.now memory.now (ty_of asked.entry)
             (trees.unary at op (expr_tree e.now)) terms.old terms.new) }
     {
-        let operand = self.value(terms, memory, e, asked, text)?;
+        let operand = self.value(terms, memory, e, asked)?;
         let value = make(terms, Term::Not(operand.value))?;
         Ok(Valued {
             value,
@@ -168,7 +163,6 @@ impl<'s> TermReader<'s> {
         a: &Expr,
         b: &Expr,
         asked: ExprType<'s>,
-        text: &mut Vec<u8>,
     ) -> Result<Valued, AllocError>
         requires typed { (at : Place) × HasTypeAt self.now (ty_of asked)
             (trees.binary at op (expr_tree a.now) (expr_tree b.now)) }
@@ -177,8 +171,8 @@ impl<'s> TermReader<'s> {
             (trees.binary at op (expr_tree a.now) (expr_tree b.now)) terms.old terms.new) }
     {
         let ty = self.operand_type(op, a, b, asked);
-        let first = self.value(terms, memory, a, ty, text)?;
-        let second = self.value(terms, memory, b, ty, text)?;
+        let first = self.value(terms, memory, a, ty)?;
+        let second = self.value(terms, memory, b, ty)?;
         let value = joined(terms, op, first.value, second.value)?;
         let overrun = joined_overrun(terms, op, first, second.overrun)?;
         Ok(Valued { value, overrun })
@@ -194,14 +188,13 @@ impl<'s> TermReader<'s> {
         e: &Expr,
         by: &Num,
         asked: ExprType<'s>,
-        text: &mut Vec<u8>,
     ) -> Result<Valued, AllocError>
         requires typed { (at : Place) × HasTypeAt self.now (ty_of asked) (trees.shift at op (expr_tree e.now) by.now) }
         requires ready { IsReady self.now terms.old memory.now }
         ensures { (at : Place) → IfOk result (Finds self.now memory.now (ty_of asked.entry)
             (trees.shift at op (expr_tree e.now) by.now) terms.old terms.new) }
     {
-        let operand = self.value(terms, memory, e, asked, text)?;
+        let operand = self.value(terms, memory, e, asked)?;
         let value = make(terms, shifted_term(op, operand.value, shift_amount(by)))?;
         Ok(Valued {
             value,
@@ -219,7 +212,6 @@ impl<'s> TermReader<'s> {
         a: &Expr,
         b: &Expr,
         asked: ExprType<'s>,
-        text: &mut Vec<u8>,
     ) -> Result<Valued, AllocError>
         requires typed { (at : Place) × HasTypeAt self.now (ty_of asked)
             (trees.conditional at (expr_tree test.now) (expr_tree a.now) (expr_tree b.now)) }
@@ -227,9 +219,9 @@ impl<'s> TermReader<'s> {
         ensures { (at : Place) → IfOk result (Finds self.now memory.now (ty_of asked.entry)
             (trees.conditional at (expr_tree test.now) (expr_tree a.now) (expr_tree b.now)) terms.old terms.new) }
     {
-        let tested = self.value(terms, memory, test, ExprType::Bool, text)?;
-        let first = self.value(terms, memory, a, asked, text)?;
-        let second = self.value(terms, memory, b, asked, text)?;
+        let tested = self.value(terms, memory, test, ExprType::Bool)?;
+        let first = self.value(terms, memory, a, asked)?;
+        let second = self.value(terms, memory, b, asked)?;
         let value = make(terms, Term::Ite(tested.value, first.value, second.value))?;
         let overrun = chosen_overrun(terms, tested, first.overrun, second.overrun)?;
         Ok(Valued { value, overrun })
@@ -244,7 +236,6 @@ impl<'s> TermReader<'s> {
         to: &Num,
         e: &Expr,
         asked: ExprType<'s>,
-        text: &mut Vec<u8>,
     ) -> Result<Valued, AllocError>
         requires typed { (at : Place) × HasTypeAt self.now (ty_of asked) (trees.cast at to.now (expr_tree e.now)) }
         requires ready { IsReady self.now terms.old memory.now }
@@ -252,7 +243,7 @@ impl<'s> TermReader<'s> {
             (trees.cast at to.now (expr_tree e.now)) terms.old terms.new) }
     {
         let own = valued_type(&self.scope, e, asked);
-        let operand = self.value(terms, memory, e, own, text)?;
+        let operand = self.value(terms, memory, e, own)?;
         let value = make(terms, Term::Resize(width_in(to), operand.value))?;
         Ok(Valued {
             value,
@@ -269,7 +260,6 @@ impl<'s> TermReader<'s> {
         path: &[Ident],
         index: &Expr,
         asked: ExprType<'s>,
-        text: &mut Vec<u8>,
     ) -> Result<Valued, AllocError>
         requires typed { HasTypeAt self.now (ty_of asked) (trees.element path.now (expr_tree index.now)) }
         requires ready { IsReady self.now terms.old memory.now }
@@ -277,13 +267,13 @@ impl<'s> TermReader<'s> {
             (trees.element path.now (expr_tree index.now)) terms.old terms.new) }
     {
         if let Expr::Number(number) = index {
-            return self.element_of_number(terms, memory, path, number, asked, text);
+            return self.element_of_number(terms, memory, path, number, asked);
         }
         let length = self.length(path);
         let ty = index_type(&self.scope, index);
-        let number = self.value(terms, memory, index, ty, text)?;
+        let number = self.value(terms, memory, index, ty)?;
         let count = reachable(terms.width(number.value), length);
-        let value = self.elements(terms, memory, path, number.value, count, asked, text)?;
+        let value = self.elements(terms, memory, path, number.value, count, asked)?;
         let past = past_end(terms, number.value, length)?;
         let overrun = either(terms, number.overrun, past)?;
         Ok(Valued { value, overrun })

@@ -37,8 +37,7 @@ fn condition_by(
 {
     let values = Vec::from_slice(alloc, state.values.as_slice())?;
     let store = Store::new(alloc, values);
-    let mut text = Vec::new(alloc);
-    reader.holds_outside(&store, e, &mut text)
+    Ok(reader.holds_outside(&store, e))
 }
 
 // The same by the reader that was found.

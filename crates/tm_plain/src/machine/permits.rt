@@ -41,9 +41,8 @@ fn suits(alloc: Global, called: &DriverTask<'_>, args: &[u64]) -> Result<bool, A
     requires { task_at called.now.frame.reader ≡ Some called.now.task.now }
     ensures { IfOk result (Suits called.now args.now) }
 {
-    let mut text = Vec::new(alloc);
     let reader = &called.frame.reader;
-    let cells = reader.parameters(alloc, called.task, &mut text)?;
+    let cells = reader.parameters(alloc, called.task)?;
     Ok(arguments_fit(reader, cells.as_slice(), args))
 }
 

@@ -93,7 +93,7 @@ fn give(
         → Keeps (tables_of d) course.new.store (put_all (memory_of s) of.called.params args.now)) }
 {
     let reader = &called.frame.reader;
-    let cells = reader.parameters(alloc, called.task, &mut course.text)?;
+    let cells = reader.parameters(alloc, called.task)?;
     reader.put_all(&mut course.store, cells.as_slice(), args)?;
     Ok(())
 }

@@ -1,5 +1,5 @@
 //! The cells that the paths of a body mean, and what is put into them.
-ghost use Rattle.std.specs.Prelude.{◌≡◌, IfOk, OnOk, Some, nat_lt};
+ghost use Rattle.std.specs.Prelude.{◌≡◌, OnOk, Some, nat_lt};
 ghost use Rattle.std.specs.Option.{option_and_then, option_map};
 ghost use Rattle.tm_syntax.specs.Scopes.Context.{Context};
 ghost use Rattle.tm_syntax.specs.Scopes.Types.{named_type};
@@ -23,20 +23,14 @@ use tm_scope::{CellNumber, ExprType};
 use tm_syntax::tree::Ident;
 
 impl<'a> Reader<'a> {
-    /// The cell that a path means, with the index of an element where there is one. Linear in the path. `text` is a
-    /// buffer. `AllocError` is want of memory.
-    pub fn cell(
-        &self,
-        path: &[Ident],
-        index: Option<u64>,
-        text: &mut Vec<u8>,
-    ) -> Result<Option<CellNumber>, AllocError>
-        ensures is_there { IfOk result (IsCellNumber self.now.tables self.now.at) }
-        ensures cell { IfOk result (λ found. (d : DesignTree) → HasCells self.now.tables d →
-            option_and_then (cell_at self.now.tables self.now.at) found
-            ≡ cell d (scope_of self.now.at) path.now index) }
+    /// The cell that a path means, with the index of an element where there is one. Linear in the path.
+    pub fn cell(&self, path: &[Ident], index: Option<u64>) -> Option<CellNumber>
+        ensures is_there { IsCellNumber self.now.tables self.now.at result }
+        ensures cell { (d : DesignTree) → HasCells self.now.tables d →
+            option_and_then (cell_at self.now.tables self.now.at) result
+            ≡ cell d (scope_of self.now.at) path.now index }
     {
-        self.scope.cell(path, index, text)
+        self.scope.cell(path, index)
     }
 
     /// The type of what a path means: a parameter or local before a variable, or an array's elements.

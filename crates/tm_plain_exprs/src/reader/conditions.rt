@@ -1,5 +1,5 @@
 //! Whether conditions hold.
-ghost use Rattle.std.specs.Prelude.{◌≡◌, false, Err, IfOk};
+ghost use Rattle.std.specs.Prelude.{◌≡◌, IfOk, OnErr};
 ghost use Rattle.tm_syntax.specs.declared.design.Ty.TheVariants as resolved;
 ghost use Rattle.tm_syntax.specs.Tree.View.{expr_tree};
 ghost use Rattle.tm_scope.specs.Cells.{scope_of};
@@ -9,41 +9,34 @@ ghost use Rattle.tm_plain_exprs.specs.Kept.{Keeps};
 ghost use Rattle.tm_design.specs.Typed.{HasTypeAt};
 ghost use Rattle.tm_plain_exprs.specs.Valued.{Holds, Overruns, Told};
 
+use crate::overrun::Overrun;
 use crate::reader::Reader;
-use crate::stop::Stop;
 use crate::store::Store;
-use std::alloc::AllocError;
 use tm_scope::ExprType;
 use tm_syntax::tree::Expr;
 
 impl<'a> Reader<'a> {
     /// Whether a condition holds. `Overrun` comes exactly where an index that is valued is not below the length of its
     /// array.
-    pub fn holds(&self, store: &Store, e: &Expr, text: &mut Vec<u8>) -> Result<bool, Stop>
+    pub fn holds(&self, store: &Store, e: &Expr) -> Result<bool, Overrun>
         requires { HasTypeAt self.now resolved.Bool (expr_tree e.now) }
         ensures holds { IfOk result (Holds self.now store.now (expr_tree e.now)) }
-        ensures overrun { result ≡ Err Stop.Overrun → Overruns self.now store.now (expr_tree e.now) }
+        ensures overrun { OnErr result (Overruns self.now store.now (expr_tree e.now)) }
     {
-        let value = self.value(store, e, ExprType::Bool, text)?;
+        let value = self.value(store, e, ExprType::Bool)?;
         Ok(value != 0)
     }
 
     /// Whether a condition holds that stands outside of all bodies: no index overruns there.
-    pub fn holds_outside(
-        &self,
-        store: &Store,
-        e: &Expr,
-        text: &mut Vec<u8>,
-    ) -> Result<bool, AllocError>
+    pub fn holds_outside(&self, store: &Store, e: &Expr) -> bool
         requires typed { HasTypeAt self.now resolved.Bool (expr_tree e.now) }
         requires outside { self.now.at.body ≡ Outside }
         requires kept { (m : run.Memory) × Keeps self.now.tables store.now m }
-        ensures { IfOk result (Holds self.now store.now (expr_tree e.now)) }
+        ensures { Holds self.now store.now (expr_tree e.now) result }
     {
-        match self.holds(store, e, text) {
-            Ok(holds) => Ok(holds),
-            Err(Stop::Memory) => Err(AllocError),
-            Err(Stop::Overrun) => unreachable!(),
+        match self.holds(store, e) {
+            Ok(holds) => holds,
+            Err(Overrun) => unreachable!(),
         }
     }
 }

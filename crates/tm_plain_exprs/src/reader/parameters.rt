@@ -16,18 +16,13 @@ use tm_syntax::tree::TaskDef;
 
 impl<'a> Reader<'a> {
     /// The cells into which the arguments of a call of the body go, which is that of this task. Linear in the
-    /// parameters and their paths. `text` is a buffer. `AllocError` is want of memory.
-    pub fn parameters(
-        &self,
-        alloc: Global,
-        task: &TaskDef,
-        text: &mut Vec<u8>,
-    ) -> Result<Vec<CellNumber>, AllocError>
+    /// parameters and their paths. `AllocError` is want of memory.
+    pub fn parameters(&self, alloc: Global, task: &TaskDef) -> Result<Vec<CellNumber>, AllocError>
         requires { task_at self.now ≡ Some task.now }
         ensures { IfOk result
             (λ numbers. AreCalledCells self.now (length task.now.params.items) numbers.items) }
     {
-        parameter_cells(alloc, &self.scope, task, text)
+        parameter_cells(alloc, &self.scope, task)
     }
 
     /// Puts values into cells, one after the other, as many as there are of both. `AllocError` is want of memory.

@@ -1,5 +1,5 @@
 //! The values of expressions.
-ghost use Rattle.std.specs.Prelude.{◌≡◌, ◌<◌, Err, IfOk};
+ghost use Rattle.std.specs.Prelude.{◌≡◌, ◌<◌, IfOk, OnErr};
 ghost use Rattle.tm_base.specs.declared.place.Place.{Place};
 ghost use Rattle.tm_base.specs.Arithmetic as numbers;
 ghost use Rattle.tm_syntax.specs.declared.design.Ty.{Ty};
@@ -14,10 +14,9 @@ ghost use Rattle.tm_design.specs.Typed.{HasTypeAt};
 ghost use Rattle.tm_plain_exprs.specs.Valued.{IsIndex, IsOperandType, IsValued, Overruns};
 
 use crate::operators::{binary_value, unary_value};
+use crate::overrun::Overrun;
 use crate::reader::Reader;
-use crate::stop::Stop;
 use crate::store::Store;
-use std::alloc::AllocError;
 use tm_base::{ShiftOperator, bit, resize, shift};
 use tm_scope::ExprType;
 use tm_syntax::tree::{BinaryOperator, Expr, Ident, Num, UnaryOperator};
@@ -74,43 +73,37 @@ fn decides(op: BinaryOperator, first: u64) -> bool
 
 impl<'a> Reader<'a> {
     /// The value of an expression that has a type, where its place asks for this type. Linear in the expression, and as
-    /// deep as it nests: the text's limit on nesting bounds the recursion. `text` is a buffer. `Overrun` comes exactly
-    /// where an index that is valued is not below the length of its array.
+    /// deep as it nests: the text's limit on nesting bounds the recursion. `Overrun` comes exactly where an index that
+    /// is valued is not below the length of its array.
     #[cycle(value)]
-    pub fn value(
-        &self,
-        store: &Store,
-        e: &Expr,
-        asked: ExprType<'a>,
-        text: &mut Vec<u8>,
-    ) -> Result<u64, Stop>
+    pub fn value(&self, store: &Store, e: &Expr, asked: ExprType<'a>) -> Result<u64, Overrun>
         requires { HasTypeAt self.now (ty_of asked) (expr_tree e.now) }
         ensures value { IfOk result (IsValued self.now store.now (ty_of asked.entry) (expr_tree e.now)) }
-        ensures overrun { result ≡ Err Stop.Overrun → Overruns self.now store.now (expr_tree e.now) }
+        ensures overrun { OnErr result (Overruns self.now store.now (expr_tree e.now)) }
     {
         match e {
             Expr::Truth(_, truth) => Ok(bit(*truth)),
             Expr::Number(number) => Ok(number.value.unwrap_or(0)),
-            Expr::Path(path) => Ok(self.path_value(store, path.names.as_slice(), text)?),
-            Expr::Group(_, e) => self.value(store, e, asked, text),
-            Expr::Unary(_, op, e) => self.unary(store, *op, e, asked, text),
+            Expr::Path(path) => Ok(self.path_value(store, path.names.as_slice())),
+            Expr::Group(_, e) => self.value(store, e, asked),
+            Expr::Unary(_, op, e) => self.unary(store, *op, e, asked),
             Expr::Binary(_, op, a, b) => {
                 let ty = self.operand_type(*op, a, b, asked);
-                let first = self.value(store, a, ty, text)?;
-                self.joined(store, *op, first, b, ty, text)
+                let first = self.value(store, a, ty)?;
+                self.joined(store, *op, first, b, ty)
             }
-            Expr::Shift(_, op, e, by) => self.shifted(store, *op, e, by, asked, text),
+            Expr::Shift(_, op, e, by) => self.shifted(store, *op, e, by, asked),
             Expr::Conditional(_, test, a, b) => {
-                let tested = self.value(store, test, ExprType::Bool, text)?;
+                let tested = self.value(store, test, ExprType::Bool)?;
                 if tested == 0 {
-                    self.value(store, b, asked, text)
+                    self.value(store, b, asked)
                 } else {
-                    self.value(store, a, asked, text)
+                    self.value(store, a, asked)
                 }
             }
-            Expr::Cast(_, to, e) => self.cast(store, to, e, asked, text),
+            Expr::Cast(_, to, e) => self.cast(store, to, e, asked),
             Expr::Element(path, index) => {
-                self.element(store, path.names.as_slice(), index, asked, text)
+                self.element(store, path.names.as_slice(), index, asked)
             }
         }
     }
@@ -118,17 +111,12 @@ impl<'a> Reader<'a> {
 
 impl<'a> Reader<'a> {
     // The value of what a path means: of its cell, or of the enum constant.
-    fn path_value(
-        &self,
-        store: &Store,
-        path: &[Ident],
-        text: &mut Vec<u8>,
-    ) -> Result<u64, AllocError>
-        ensures { IfOk result (λ n. (asked : Ty) → IsValued self.now store.now asked (trees.path path.now) n) }
+    fn path_value(&self, store: &Store, path: &[Ident]) -> u64
+        ensures { (asked : Ty) → IsValued self.now store.now asked (trees.path path.now) result }
     {
-        match self.cell_value(store, path, None, text)? {
-            Some(value) => Ok(value),
-            None => Ok(self.constant(path)),
+        match self.cell_value(store, path, None) {
+            Some(value) => value,
+            None => self.constant(path),
         }
     }
 
@@ -140,15 +128,14 @@ impl<'a> Reader<'a> {
         op: UnaryOperator,
         e: &Expr,
         asked: ExprType<'a>,
-        text: &mut Vec<u8>,
-    ) -> Result<u64, Stop>
+    ) -> Result<u64, Overrun>
         requires { (at : Place) × HasTypeAt self.now (ty_of asked) (trees.unary at op (expr_tree e.now)) }
         ensures value { IfOk result (λ n. (at : Place) →
             IsValued self.now store.now (ty_of asked.entry) (trees.unary at op (expr_tree e.now)) n) }
-        ensures overrun { result ≡ Err Stop.Overrun → (at : Place) →
-            Overruns self.now store.now (trees.unary at op (expr_tree e.now)) }
+        ensures overrun { OnErr result ((at : Place) →
+            Overruns self.now store.now (trees.unary at op (expr_tree e.now))) }
     {
-        let operand = self.value(store, e, asked, text)?;
+        let operand = self.value(store, e, asked)?;
         Ok(unary_value(op, width_of(asked), operand))
     }
 
@@ -162,22 +149,21 @@ impl<'a> Reader<'a> {
         first: u64,
         b: &Expr,
         ty: ExprType<'a>,
-        text: &mut Vec<u8>,
-    ) -> Result<u64, Stop>
+    ) -> Result<u64, Overrun>
         requires { HasTypeAt self.now (ty_of ty) (expr_tree b.now) }
         ensures value { IfOk result (λ n. (at : Place) (asked : Ty) (a : trees.ExprTree) →
             IsOperandType self.now op asked a (expr_tree b.now) (ty_of ty.entry) →
             IsValued self.now store.now (ty_of ty.entry) a first →
             IsValued self.now store.now asked (trees.binary at op a (expr_tree b.now)) n) }
-        ensures overrun { result ≡ Err Stop.Overrun → (at : Place) (asked : Ty) (a : trees.ExprTree) →
+        ensures overrun { OnErr result ((at : Place) (asked : Ty) (a : trees.ExprTree) →
             IsOperandType self.now op asked a (expr_tree b.now) (ty_of ty.entry) →
             IsValued self.now store.now (ty_of ty.entry) a first →
-            Overruns self.now store.now (trees.binary at op a (expr_tree b.now)) }
+            Overruns self.now store.now (trees.binary at op a (expr_tree b.now))) }
     {
         if decides(op, first) {
             return Ok(binary_value(op, width_of(ty), first, 0));
         }
-        let second = self.value(store, b, ty, text)?;
+        let second = self.value(store, b, ty)?;
         Ok(binary_value(op, width_of(ty), first, second))
     }
 
@@ -190,36 +176,28 @@ impl<'a> Reader<'a> {
         e: &Expr,
         by: &Num,
         asked: ExprType<'a>,
-        text: &mut Vec<u8>,
-    ) -> Result<u64, Stop>
+    ) -> Result<u64, Overrun>
         requires { (at : Place) × HasTypeAt self.now (ty_of asked) (trees.shift at op (expr_tree e.now) by.now) }
         ensures value { IfOk result (λ n. (at : Place) →
             IsValued self.now store.now (ty_of asked.entry) (trees.shift at op (expr_tree e.now) by.now) n) }
-        ensures overrun { result ≡ Err Stop.Overrun → (at : Place) →
-            Overruns self.now store.now (trees.shift at op (expr_tree e.now) by.now) }
+        ensures overrun { OnErr result ((at : Place) →
+            Overruns self.now store.now (trees.shift at op (expr_tree e.now) by.now)) }
     {
-        let operand = self.value(store, e, asked, text)?;
+        let operand = self.value(store, e, asked)?;
         Ok(shift(op, width_of(asked), operand, shift_amount(by)))
     }
 
     // The value of a cast.
     #[cycle(value)]
-    fn cast(
-        &self,
-        store: &Store,
-        to: &Num,
-        e: &Expr,
-        asked: ExprType<'a>,
-        text: &mut Vec<u8>,
-    ) -> Result<u64, Stop>
+    fn cast(&self, store: &Store, to: &Num, e: &Expr, asked: ExprType<'a>) -> Result<u64, Overrun>
         requires { (at : Place) × HasTypeAt self.now (ty_of asked) (trees.cast at to.now (expr_tree e.now)) }
         ensures value { IfOk result (λ n. (at : Place) →
             IsValued self.now store.now (ty_of asked.entry) (trees.cast at to.now (expr_tree e.now)) n) }
-        ensures overrun { result ≡ Err Stop.Overrun → (at : Place) →
-            Overruns self.now store.now (trees.cast at to.now (expr_tree e.now)) }
+        ensures overrun { OnErr result ((at : Place) →
+            Overruns self.now store.now (trees.cast at to.now (expr_tree e.now))) }
     {
         let own = self.cast_type(e, asked);
-        let operand = self.value(store, e, own, text)?;
+        let operand = self.value(store, e, own)?;
         Ok(resize(width_in(to), operand))
     }
 
@@ -231,41 +209,29 @@ impl<'a> Reader<'a> {
         path: &[Ident],
         index: &Expr,
         asked: ExprType<'a>,
-        text: &mut Vec<u8>,
-    ) -> Result<u64, Stop>
+    ) -> Result<u64, Overrun>
         requires { HasTypeAt self.now (ty_of asked) (trees.element path.now (expr_tree index.now)) }
         ensures value { IfOk result
             (IsValued self.now store.now (ty_of asked.entry) (trees.element path.now (expr_tree index.now))) }
-        ensures overrun { result ≡ Err Stop.Overrun →
-            Overruns self.now store.now (trees.element path.now (expr_tree index.now)) }
+        ensures overrun { OnErr result (Overruns self.now store.now (trees.element path.now (expr_tree index.now))) }
     {
-        let number = self.index(store, path, index, text)?;
-        Ok(
-            self.cell_value(store, path, Some(number), text)?
-                .unwrap_or(0),
-        )
+        let number = self.index(store, path, index)?;
+        Ok(self.cell_value(store, path, Some(number)).unwrap_or(0))
     }
 
     /// The value of the index of an element. `Overrun` comes exactly where the element overruns: an index that is
     /// valued is not below the length of its array.
     #[cycle(value)]
-    pub fn index(
-        &self,
-        store: &Store,
-        path: &[Ident],
-        index: &Expr,
-        text: &mut Vec<u8>,
-    ) -> Result<u64, Stop>
+    pub fn index(&self, store: &Store, path: &[Ident], index: &Expr) -> Result<u64, Overrun>
         requires { (asked : Ty) × HasTypeAt self.now asked (trees.element path.now (expr_tree index.now)) }
         ensures value { IfOk result (IsIndex self.now store.now path.now (expr_tree index.now)) }
-        ensures overrun { result ≡ Err Stop.Overrun →
-            Overruns self.now store.now (trees.element path.now (expr_tree index.now)) }
+        ensures overrun { OnErr result (Overruns self.now store.now (trees.element path.now (expr_tree index.now))) }
     {
         let length = self.length(path);
         let ty = self.index_type(index);
-        let number = self.value(store, index, ty, text)?;
+        let number = self.value(store, index, ty)?;
         if length <= number {
-            return Err(Stop::Overrun);
+            return Err(Overrun);
         }
         Ok(number)
     }

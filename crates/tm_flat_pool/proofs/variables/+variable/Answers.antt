@@ -1,5 +1,4 @@
 use Rattle.std.proofs.Common.{sym, ap, ◌∙◌}
-use Rattle.std.proofs.lemmas.Result.{IfOk-weaker}
 use Rattle.tm_syntax.specs.Tree.{ExprTree, path, group, element}
 use Rattle.tm_syntax.specs.Tree.View.{expr_tree}
 use Rattle.tm_syntax.specs.Design.Atoms.{resolved}
@@ -9,27 +8,26 @@ use Rattle.tm_flat_pool.proofs.variables.+variable.Goals as goal
 
 pub returns-in-Path : goal.returns-in-Path
 returns-in-Path t c =
-    IfOk-weaker c.path_variable.result _ _ (λ v told d over.
-    told d over
+    λ d over.
+    c.path_variable.ensures d over
     ∙ ap (λ (t : ExprTree). variable_in (resolved d (scope_of c.args.scope.now.at) t))
-    (ap path c.as_slice.ensures.value ∙ ap expr_tree (sym c.in-Path.is))) c.path_variable.ensures
+    (ap path c.as_slice.ensures.value ∙ ap expr_tree (sym c.in-Path.is))
 
 pub returns-in-Group : goal.returns-in-Group
 returns-in-Group t c =
-    IfOk-weaker c.variable.result _ _ (λ v told d over.
-    told d over
+    λ d over.
+    c.variable.ensures d over
     ∙ ap (λ (t : ExprTree). variable_in (resolved d (scope_of c.args.scope.now.at) t))
-    ((λ i. group c.in-Group.field-0 (expr_tree (c.deref.ensures i))) ∙ ap expr_tree (sym c.in-Group.is)))
-    c.variable.ensures
+    ((λ i. group c.in-Group.field-0 (expr_tree (c.deref.ensures i))) ∙ ap expr_tree (sym c.in-Group.is))
 
 pub returns-in-Element : goal.returns-in-Element
 returns-in-Element t c =
-    IfOk-weaker c.element_variable.result _ _ (λ v told d over.
+    λ d over.
     let scope = scope_of c.args.scope.now.at in
-    told d over (resolved d scope (expr_tree c.deref-in-Element.result.now))
+    c.element_variable.ensures d over (resolved d scope (expr_tree c.deref-in-Element.result.now))
     ∙ ap (λ (t : ExprTree). variable_in (resolved d scope t))
     ((λ i. element (c.as_slice-in-Element.ensures.value i) (expr_tree (c.deref-in-Element.ensures i)))
-    ∙ ap expr_tree (sym c.in-Element.is))) c.element_variable.ensures
+    ∙ ap expr_tree (sym c.in-Element.is))
 
 pub returns-in-Number : goal.returns-in-Number
 returns-in-Number t c = λ d over.

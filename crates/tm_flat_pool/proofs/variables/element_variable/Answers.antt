@@ -1,5 +1,4 @@
 use Rattle.std.proofs.Common.{sym, ap, ◌∙◌}
-use Rattle.std.proofs.lemmas.Result.{IfOk-weaker}
 use Rattle.tm_syntax.specs.Tree.View.{expr_tree}
 use Rattle.tm_scope.specs.Cells.{scope_of}
 use Rattle.tm_atoms.proofs.Resolving.{element-literal, element-other}
@@ -8,10 +7,10 @@ use Rattle.tm_flat_pool.proofs.variables.element_variable.Goals as goal
 
 pub returns-in-Some : goal.returns-in-Some
 returns-in-Some c =
-    IfOk-weaker c.path_variable.result _ _ (λ v told d over r.
-    told d over
+    λ d over r.
+    c.path_variable.ensures d over
     ∙ sym (ap variable_in (element-literal d (scope_of c.args.scope.now.at) c.args.path.now r
-    (expr_tree c.args.index.now) c.in-Some.number (sym c.literal.ensures ∙ c.in-Some.is)))) c.path_variable.ensures
+    (expr_tree c.args.index.now) c.in-Some.number (sym c.literal.ensures ∙ c.in-Some.is)))
 
 pub returns-in-None : goal.returns-in-None
 returns-in-None c = λ d over r.

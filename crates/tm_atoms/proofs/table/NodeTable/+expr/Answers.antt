@@ -120,8 +120,8 @@ returns-in-Some t c =
     (sym (element-literal d scope names (resolved d scope index) index c.in-Some.k
     (sym c.literal.ensures ∙ c.in-Some.is))) (has d over))) c.cell-in-Some.ensures
 
-pub returns-in_ok-first-in-None : goal.returns-in_ok-first-in-None
-returns-in_ok-first-in-None t c =
+pub returns-in_ok-index-in-None : goal.returns-in_ok-index-in-None
+returns-in_ok-index-in-None t c =
     IfOk-weaker c.noted-in-None.result _ _ (λ n noting d over.
     let scope = scope_of c.args.scope.now.at in
     let tree = expr_tree c.in-Element.index.value in
@@ -136,5 +136,5 @@ returns-in_ok-first-in-None t c =
     (resolved d scope tree)
     (subst (λ (t : ExprTree). HasNumber c.args.self.now c.expr-in-None.new.self c.in_ok-index-in-None.index
     (resolved d scope t)) (ap expr_tree c.deref-in-None.ensures) (c.in_ok-index-in-None.ensures d over))
-    c.in_ok-first-in-None.first (first_element (cell d scope names (Some 0)))
-    (c.in_ok-first-in-None.ensures d over) noting))) c.noted-in-None.ensures
+    c.first_element-first.result (first_element (cell d scope names (Some 0)))
+    (c.first_element-first.ensures d over) noting))) c.noted-in-None.ensures

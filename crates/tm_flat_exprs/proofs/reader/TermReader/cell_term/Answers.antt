@@ -11,9 +11,9 @@ term_in-requires-clause-typed c =
     number_type c.args.self.now c.args.memory.now (ty_of c.args.ty) c.args.path.now c.args.index c.in-Some.cell
     c.requires.typed
     (subst (λ (v : ScopedCells). IsCellNumber v.tables v.at (Some c.in-Some.cell)) c.self.view_is
-    (subst (IsCellNumber s.tables s.at) c.in-Some.is c.in_ok-cell.ensures.is_there))
+    (subst (IsCellNumber s.tables s.at) c.in-Some.is c.cell.ensures.is_there))
     (subst (λ (v : ScopedCells). Tells v c.args.path.now c.args.index (Some c.in-Some.cell)) c.self.view_is
-    (λ d has. ap (option_and_then (cell_at s.tables s.at)) (sym c.in-Some.is) ∙ c.in_ok-cell.ensures.cell d has))
+    (λ d has. ap (option_and_then (cell_at s.tables s.at)) (sym c.in-Some.is) ∙ c.cell.ensures.cell d has))
 
 pub returns-in_ok-id-in-Some : goal.returns-in_ok-id-in-Some
 returns-in_ok-id-in-Some c =
@@ -21,9 +21,9 @@ returns-in_ok-id-in-Some c =
     cell_found c.args.self.now c.args.memory.now (ty_of c.args.ty) c.args.path.now c.args.index c.in-Some.cell
     c.args.terms.now c.term_in.new.terms _
     (subst (λ (v : ScopedCells). IsCellNumber v.tables v.at (Some c.in-Some.cell)) c.self.view_is
-    (subst (IsCellNumber s.tables s.at) c.in-Some.is c.in_ok-cell.ensures.is_there))
+    (subst (IsCellNumber s.tables s.at) c.in-Some.is c.cell.ensures.is_there))
     (subst (λ (v : ScopedCells). Tells v c.args.path.now c.args.index (Some c.in-Some.cell)) c.self.view_is
-    (λ d has. ap (option_and_then (cell_at s.tables s.at)) (sym c.in-Some.is) ∙ c.in_ok-cell.ensures.cell d has))
+    (λ d has. ap (option_and_then (cell_at s.tables s.at)) (sym c.in-Some.is) ∙ c.cell.ensures.cell d has))
     c.in_ok-id-in-Some.ensures
 
 pub returns-in-None : goal.returns-in-None
@@ -32,4 +32,4 @@ returns-in-None c =
     no_cell_found c.args.self.now c.args.memory.now (ty_of c.args.ty) c.args.path.now c.args.index c.args.terms.now
     c.requires.ready
     (subst (λ (v : ScopedCells). Tells v c.args.path.now c.args.index None) c.self.view_is
-    (λ d has. ap (option_and_then (cell_at s.tables s.at)) (sym c.in-None.is) ∙ c.in_ok-cell.ensures.cell d has))
+    (λ d has. ap (option_and_then (cell_at s.tables s.at)) (sym c.in-None.is) ∙ c.cell.ensures.cell d has))

@@ -1,5 +1,4 @@
 use Rattle.std.proofs.Common.{ap, ◌∙◌}
-use Rattle.std.proofs.lemmas.Result.{IfOk-weaker}
 use Rattle.tm_syntax.specs.Design.Atoms.{resolved_atom}
 use Rattle.tm_syntax.specs.Design.View.{design_tree}
 use Rattle.tm_atoms.specs.Atoms.{atom_of, listed}
@@ -19,9 +18,7 @@ unreachable-requires c =
     atom_there (listed c.args.atoms.now) c.args.number c.get.result c.requires.number c.get.ensures c.in-None.is
 
 pub returns : goal.returns
-returns c =
-    IfOk-weaker c.variable_of.result _ _ (λ v told a there.
-    told
-    ∙ ap (λ (x : AtomAt). variable_in (resolved_atom (design_tree c.args.self.now.design.now) (atom_of x)))
-    (one_atom (listed c.args.atoms.now) c.args.number c.get.result c.in-Some.atom a c.get.ensures c.in-Some.is there))
+returns c = λ a there.
     c.variable_of.ensures
+    ∙ ap (λ (x : AtomAt). variable_in (resolved_atom (design_tree c.args.self.now.design.now) (atom_of x)))
+    (one_atom (listed c.args.atoms.now) c.args.number c.get.result c.in-Some.atom a c.get.ensures c.in-Some.is there)

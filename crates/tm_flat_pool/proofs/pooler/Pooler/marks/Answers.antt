@@ -15,9 +15,9 @@ atom_variable-requires-clause-number c = omega (arith, c.loop-number-test.true, 
 pub loop-number-preserved : goal.loop-number-preserved
 loop-number-preserved c =
     more_marked (design_tree c.args.self.now.design.now) (listed c.args.atoms.now) c.loop-number.number
-    c.loop-number.marks.items c.mark.new.marks.items c.in_ok-found.found
+    c.loop-number.marks.items c.mark.new.marks.items c.atom_variable.result
     (omega (arith, c.loop-number-test.true, c.len-number-end.ensures)) c.loop-number.invariant
-    c.in_ok-found.ensures c.mark.ensures
+    c.atom_variable.ensures c.mark.ensures
 
 pub returns : goal.returns
 returns c =

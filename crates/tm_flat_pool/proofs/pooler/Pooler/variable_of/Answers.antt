@@ -1,4 +1,3 @@
-use Rattle.std.proofs.lemmas.Result.{IfOk-weaker}
 use Rattle.tm_syntax.specs.Tree.View.{expr_tree}
 use Rattle.tm_flat_pool.proofs.TruthTerms.{scope_there}
 use Rattle.tm_flat_pool.proofs.pooler.Pooler.variable_of.Goals as goal
@@ -6,7 +5,6 @@ use Rattle.tm_flat_pool.proofs.pooler.Pooler.variable_of.Goals as goal
 pub returns : goal.returns
 returns c =
     let m = c.args.self.now in
-    IfOk-weaker c.variable_by.result _ _ (λ v told.
-    told m.design.now c.args.at
+    c.variable_by.ensures m.design.now c.args.at
     (scope_there m.design.now m.cells.now m.same_cells c.args.at c.scope-found.result c.scope-found.ensures
-    (expr_tree c.args.e.now) c.requires.typed)) c.variable_by.ensures
+    (expr_tree c.args.e.now) c.requires.typed)

@@ -1,11 +1,8 @@
 use Rattle.std.proofs.Common.{◌≡◌, List, ℕ, ap, ◌∙◌, subst}
-use Rattle.std.proofs.lemmas.Result.{IfOk-weaker}
-use Rattle.tm_syntax.specs.declared.design.Design.{Design}
 use Rattle.tm_syntax.specs.Tree.View.{expr_tree}
 use Rattle.tm_syntax.specs.Scopes.Context.{outside}
 use Rattle.tm_syntax.specs.Design.View.{design_tree}
 use Rattle.tm_sem.specs.State.{StateData}
-use Rattle.tm_sem.specs.Step.{memory_of}
 use Rattle.tm_sem.specs.Value.{plain_memory, holds_in}
 use Rattle.tm_plain_bodies.specs.Tables.{tables_of}
 use Rattle.tm_plain_exprs.specs.Valued.{Holds}
@@ -24,12 +21,9 @@ returns c =
     let s = c.args.reader.now in
     let values : c.in_ok-values.values.items ≡ c.args.state.now.values
     = c.in_ok-values.ensures.items ∙ c.as_slice.ensures.value ∙ ap (λ (s : StateData). s.values) c.state.view_is in
-    IfOk-weaker c.holds_outside.result (Holds s k e)
-    (λ t. (d : Design) (n : ℕ) → s ≡ outside_of d n →
-    t ≡ holds_in (design_tree d) (record { instance = n; body = outside }) (memory_of c.args.state.now) e)
-    (λ t h. λ d n same.
+    let t = c.holds_outside.result in
+    λ d n same.
     holds_at d n c.in_ok-values.values.items k e t (c.new-store.ensures.keeps (tables_of d))
-    (subst (λ s. Holds s k e t) same h)
+    (subst (λ s. Holds s k e t) same c.holds_outside.ensures)
     ∙ ap (λ (vs : List ℕ). holds_in (design_tree d) (record { instance = n; body = outside }) (plain_memory vs) e)
-    values)
-    c.holds_outside.ensures
+    values

@@ -1,4 +1,4 @@
-use Rattle.std.proofs.Common.{◌≡◌, ◌≢◌, ℕ, ◌<◌, ◌≤◌, true, false, Some, Err, sym, ap, ◌∙◌, subst, rules, arith}
+use Rattle.std.proofs.Common.{◌≡◌, ◌≢◌, ℕ, ◌<◌, ◌≤◌, true, false, Some, sym, ap, ◌∙◌, subst, rules, arith}
 use Rattle.std.specs.Prelude.{◌==◌, IfOk, nat_le, unwrap_or}
 use Rattle.std.proofs.lemmas.Result.{IfOk-weaker}
 use Rattle.std.proofs.lemmas.Bool.Decides.{nat_tests}
@@ -19,7 +19,7 @@ use Rattle.tm_plain_exprs.proofs.Leaves.{truth_valued, number_valued, path_value
 use Rattle.tm_plain_exprs.proofs.Wholes.{form_typed, whole_valued, whole_overruns, joined_valued, joined_overruns}
 use Rattle.tm_design.proofs.OperandParts.{sized_at, group_part, unary_part, shift_part, shift_by, test_part, first_part, second_part, cast_width, cast_operand, cast_own, index_part, length_read}
 use Rattle.tm_plain_exprs.proofs.Sizes.{expr_size}
-use Rattle.tm_plain_exprs.proofs.Stops.{handed_on, no_memory}
+use Rattle.tm_plain_exprs.proofs.Stops.{on_err, on_err-weaker}
 use Rattle.tm_plain_exprs.proofs.reader.Reader.+value.Goals as goal
 
 past : (a b : ℕ) → a ≤ b → nat_le a b ≡ true
@@ -49,10 +49,9 @@ pub unary-unary_value-requires : goal.unary-unary_value-requires
 unary-unary_value-requires t c = c.width_of.ensures.is_width
 
 pub unary-returns-in_err-operand-clause-overrun : goal.unary-returns-in_err-operand-clause-overrun
-unary-returns-in_err-operand-clause-overrun t c = λ is at.
+unary-returns-in_err-operand-clause-overrun t c = on_err c.from_residual.result (λ at.
     unary_overruns c.args.self.now c.args.store.now at c.args.op (expr_tree c.args.e.now)
-    (c.value.ensures.overrun
-    (c.in_err-operand.was ∙ ap Err (handed_on c.from_residual.result _ c.from_residual.ensures.1 is)))
+    c.in_err-operand.ensures.overrun)
 
 pub unary-returns-clause-value : goal.unary-returns-clause-value
 unary-returns-clause-value t c = λ at.
@@ -86,12 +85,10 @@ joined-returns-then-decides-clause-value t c = λ at asked a meets valued.
     (sym c.decides.ensures ∙ c.if-decides.true))
 
 pub joined-returns-in_err-second-clause-overrun : goal.joined-returns-in_err-second-clause-overrun
-joined-returns-in_err-second-clause-overrun t c = λ is at asked a meets valued.
+joined-returns-in_err-second-clause-overrun t c = on_err c.from_residual.result (λ at asked a meets valued.
     second_operand_overruns c.args.self.now c.args.store.now at c.args.op asked (ty_of c.args.ty) a
     (expr_tree c.args.b.now) c.args.first (λ of. meets.meets of.design of.cells) valued
-    (sym c.decides.ensures ∙ c.if-decides.false)
-    (c.value.ensures.overrun
-    (c.in_err-second.was ∙ ap Err (handed_on c.from_residual.result _ c.from_residual.ensures.1 is)))
+    (sym c.decides.ensures ∙ c.if-decides.false) c.in_err-second.ensures.overrun)
 
 pub joined-width_of-requires-2 : goal.joined-width_of-requires-2
 joined-width_of-requires-2 t c = sized_at c.args.self.now c.requires
@@ -129,10 +126,9 @@ shifted-shift_amount-requires t c =
     c.requires.1
 
 pub shifted-returns-in_err-operand-clause-overrun : goal.shifted-returns-in_err-operand-clause-overrun
-shifted-returns-in_err-operand-clause-overrun t c = λ is at.
+shifted-returns-in_err-operand-clause-overrun t c = on_err c.from_residual.result (λ at.
     shift_overruns c.args.self.now c.args.store.now at c.args.op (expr_tree c.args.e.now) c.args.by.now
-    (c.value.ensures.overrun
-    (c.in_err-operand.was ∙ ap Err (handed_on c.from_residual.result _ c.from_residual.ensures.1 is)))
+    c.in_err-operand.ensures.overrun)
 
 pub shifted-returns-clause-value : goal.shifted-returns-clause-value
 shifted-returns-clause-value t c = λ at.
@@ -161,10 +157,9 @@ cast-width_in-requires t c =
     cast_width c.args.self.now (ty_of c.args.asked) c.requires.0 c.args.to.now (expr_tree c.args.e.now) c.requires.1
 
 pub cast-returns-in_err-operand-clause-overrun : goal.cast-returns-in_err-operand-clause-overrun
-cast-returns-in_err-operand-clause-overrun t c = λ is at.
+cast-returns-in_err-operand-clause-overrun t c = on_err c.from_residual.result (λ at.
     cast_overruns c.args.self.now c.args.store.now at c.args.to.now (expr_tree c.args.e.now)
-    (c.value.ensures.overrun
-    (c.in_err-operand.was ∙ ap Err (handed_on c.from_residual.result _ c.from_residual.ensures.1 is)))
+    c.in_err-operand.ensures.overrun)
 
 pub cast-returns-clause-value : goal.cast-returns-clause-value
 cast-returns-clause-value t c = λ at.
@@ -186,13 +181,8 @@ pub element-index-requires : goal.element-index-requires
 element-index-requires t c = (search rules, (ty_of c.args.asked, c.requires))
 
 pub element-returns-in_err-number-clause-overrun : goal.element-returns-in_err-number-clause-overrun
-element-returns-in_err-number-clause-overrun t c = λ is.
-    c.index.ensures.overrun
-    (c.in_err-number.was ∙ ap Err (handed_on c.from_residual.result _ c.from_residual.ensures.1 is))
-
-pub element-returns-in_err-cell_value-clause-overrun : goal.element-returns-in_err-cell_value-clause-overrun
-element-returns-in_err-cell_value-clause-overrun t c = λ is.
-    no_memory c.from_residual-in_err-cell_value.result c.from_residual-in_err-cell_value.ensures.1 is
+element-returns-in_err-number-clause-overrun t c =
+    on_err c.from_residual.result c.in_err-number.ensures.overrun
 
 pub element-returns-clause-value : goal.element-returns-clause-value
 element-returns-clause-value t c =
@@ -202,7 +192,7 @@ element-returns-clause-value t c =
     element_valued s c.args.store.now path (expr_tree c.args.index.now) n c.in_ok-number.ensures.value
     (ty_of c.args.asked) c.unwrap_or.result
     (λ of. read_or (meaning.read of.memory) (cell of.design (scope_of s.at) path (Some n)) 0
-    ∙ sym (c.unwrap_or.ensures ∙ ap (λ o. unwrap_or o 0) (c.in_ok-cell_value.ensures of)))
+    ∙ sym (c.unwrap_or.ensures ∙ ap (λ o. unwrap_or o 0) (c.cell_value.ensures of)))
 
 -- ---- indices
 pub index-value-requires : goal.index-value-requires
@@ -214,13 +204,12 @@ index-value-requires t c = (
 )
 
 pub index-returns-in_err-number-clause-overrun : goal.index-returns-in_err-number-clause-overrun
-index-returns-in_err-number-clause-overrun t c = λ is.
-    index_overruns c.args.self.now c.args.store.now c.args.path.now (expr_tree c.args.index.now)
-    (c.value.ensures.overrun
-    (c.in_err-number.was ∙ ap Err (handed_on c.from_residual.result _ c.from_residual.ensures.1 is)))
+index-returns-in_err-number-clause-overrun t c = on_err c.from_residual.result
+    (index_overruns c.args.self.now c.args.store.now c.args.path.now (expr_tree c.args.index.now)
+    c.in_err-number.ensures.overrun)
 
 pub index-returns-then-length-number-clause-overrun : goal.index-returns-then-length-number-clause-overrun
-index-returns-then-length-number-clause-overrun t c = λ is.
+index-returns-then-length-number-clause-overrun t c =
     let s = c.args.self.now in
     let path = c.args.path.now in
     let index = expr_tree c.args.index.now in
@@ -345,8 +334,8 @@ value-returns-in-Group-clause-overrun t c =
     let is : expr_tree c.args.e.now ≡ trees.group c.in-Group.field-0 (expr_tree c.deref.result.now) = search rules in
     whole_overruns c.args.self.now c.args.store.now (expr_tree c.args.e.now) (λ at. trees.group at (expr_tree
     c.deref.result.now)) c.in-Group.field-0 is c.value.result
-    (λ over at. group_overruns c.args.self.now c.args.store.now at (expr_tree c.deref.result.now)
-    (c.value.ensures.overrun over))
+    (on_err-weaker c.value.result (λ over at. group_overruns c.args.self.now c.args.store.now at
+    (expr_tree c.deref.result.now) over) c.value.ensures.overrun)
 
 pub value-returns-in-Truth-clause-value : goal.value-returns-in-Truth-clause-value
 value-returns-in-Truth-clause-value t c =
@@ -358,15 +347,11 @@ value-returns-in-Number-clause-value t c =
     number_valued c.args.self.now c.args.store.now (ty_of c.args.asked) (expr_tree c.args.e.now) c.in-Number.number _
     (search rules) c.unwrap_or.ensures
 
-pub value-returns-in_ok-path_value-in-Path-clause-value : goal.value-returns-in_ok-path_value-in-Path-clause-value
-value-returns-in_ok-path_value-in-Path-clause-value t c =
+pub value-returns-in-Path-clause-value : goal.value-returns-in-Path-clause-value
+value-returns-in-Path-clause-value t c =
     let is : expr_tree c.args.e.now ≡ trees.path c.as_slice.result.now = search rules in
     path_valued c.args.self.now c.args.store.now (ty_of c.args.asked) (expr_tree c.args.e.now) c.as_slice.result.now _
-    is c.in_ok-path_value-in-Path.ensures
-
-pub value-returns-in_err-path_value-in-Path-clause-overrun : goal.value-returns-in_err-path_value-in-Path-clause-overrun
-value-returns-in_err-path_value-in-Path-clause-overrun t c = λ is.
-    no_memory c.from_residual.result c.from_residual.ensures.1 is
+    is c.path_value.ensures
 
 pub value-operand_type-ty-requires : goal.value-operand_type-ty-requires
 value-operand_type-ty-requires t c =
@@ -387,15 +372,13 @@ value-value-requires-in-Binary t c =
     )
 
 pub value-returns-in_err-first-in-Binary-clause-overrun : goal.value-returns-in_err-first-in-Binary-clause-overrun
-value-returns-in_err-first-in-Binary-clause-overrun t c = λ over.
+value-returns-in_err-first-in-Binary-clause-overrun t c =
     let is : expr_tree c.args.e.now ≡ trees.binary c.in-Binary.field-0 c.in-Binary.op (expr_tree
     c.deref-in-Binary-3.result.now) (expr_tree c.deref-in-Binary-2.result.now) = search rules in
-    subst (Overruns c.args.self.now c.args.store.now) (sym is)
+    on_err c.from_residual.result (subst (Overruns c.args.self.now c.args.store.now) (sym is)
     (first_operand_overruns c.args.self.now c.args.store.now c.in-Binary.field-0 c.in-Binary.op (expr_tree
     c.deref-in-Binary-3.result.now) (expr_tree c.deref-in-Binary-2.result.now)
-    (c.value-in-Binary.ensures.overrun (c.in_err-first-in-Binary.was
-    ∙ ap Err (handed_on c.from_residual-in_err-first-in-Binary.result _
-    c.from_residual-in_err-first-in-Binary.ensures.1 over))))
+    c.in_err-first-in-Binary.ensures.overrun))
 
 pub value-joined-requires : goal.value-joined-requires
 value-joined-requires t c =
@@ -451,16 +434,15 @@ value-value-requires-in-Conditional t c =
 
 pub value-returns-in_err-tested-in-Conditional-clause-overrun :
     goal.value-returns-in_err-tested-in-Conditional-clause-overrun
-value-returns-in_err-tested-in-Conditional-clause-overrun t c = λ over.
+value-returns-in_err-tested-in-Conditional-clause-overrun t c =
     let is : expr_tree c.args.e.now ≡ trees.conditional c.in-Conditional.field-0 (expr_tree
     c.deref-in-Conditional.result.now) (expr_tree c.in-Conditional.a.value) (expr_tree c.in-Conditional.b.value) =
     search rules in
-    subst (Overruns c.args.self.now c.args.store.now) (sym is)
+    on_err c.from_residual-in_err-tested-in-Conditional.result
+    (subst (Overruns c.args.self.now c.args.store.now) (sym is)
     (test_overruns c.args.self.now c.args.store.now c.in-Conditional.field-0 (expr_tree
     c.deref-in-Conditional.result.now) (expr_tree c.in-Conditional.a.value) (expr_tree c.in-Conditional.b.value)
-    (c.value-in-Conditional.ensures.overrun (c.in_err-tested-in-Conditional.was
-    ∙ ap Err (handed_on c.from_residual-in_err-tested-in-Conditional.result _
-    c.from_residual-in_err-tested-in-Conditional.ensures.1 over))))
+    c.in_err-tested-in-Conditional.ensures.overrun))
 
 pub value-value-requires-then-tested-eq0 : goal.value-value-requires-then-tested-eq0
 value-value-requires-then-tested-eq0 t c =
@@ -500,16 +482,16 @@ value-returns-then-tested-eq0-clause-value t c =
     c.in_ok-tested-in-Conditional.ensures.value h) c.value-then-tested-eq0.ensures.value)
 
 pub value-returns-then-tested-eq0-clause-overrun : goal.value-returns-then-tested-eq0-clause-overrun
-value-returns-then-tested-eq0-clause-overrun t c = λ over.
+value-returns-then-tested-eq0-clause-overrun t c =
     let is : expr_tree c.args.e.now ≡ trees.conditional c.in-Conditional.field-0 (expr_tree
     c.deref-in-Conditional.result.now) (expr_tree c.in-Conditional.a.value) (expr_tree
     c.deref-then-tested-eq0.result.now) = search rules in
-    subst (Overruns c.args.self.now c.args.store.now) (sym is)
+    on_err-weaker c.value-then-tested-eq0.result (λ over. subst (Overruns c.args.self.now c.args.store.now) (sym is)
     (second_overruns c.args.self.now c.args.store.now c.in-Conditional.field-0 (expr_tree
     c.deref-in-Conditional.result.now) (expr_tree c.in-Conditional.a.value) (expr_tree
     c.deref-then-tested-eq0.result.now) c.in_ok-tested-in-Conditional.tested (none_is
     c.in_ok-tested-in-Conditional.tested c.if-tested-eq0.true)
-    c.in_ok-tested-in-Conditional.ensures.value (c.value-then-tested-eq0.ensures.overrun over))
+    c.in_ok-tested-in-Conditional.ensures.value over)) c.value-then-tested-eq0.ensures.overrun
 
 pub value-value-requires-else-tested-eq0 : goal.value-value-requires-else-tested-eq0
 value-value-requires-else-tested-eq0 t c =
@@ -549,16 +531,16 @@ value-returns-else-tested-eq0-clause-value t c =
     c.in_ok-tested-in-Conditional.ensures.value h) c.value-else-tested-eq0.ensures.value)
 
 pub value-returns-else-tested-eq0-clause-overrun : goal.value-returns-else-tested-eq0-clause-overrun
-value-returns-else-tested-eq0-clause-overrun t c = λ over.
+value-returns-else-tested-eq0-clause-overrun t c =
     let is : expr_tree c.args.e.now ≡ trees.conditional c.in-Conditional.field-0 (expr_tree
     c.deref-in-Conditional.result.now) (expr_tree c.deref-else-tested-eq0.result.now) (expr_tree
     c.in-Conditional.b.value) = search rules in
-    subst (Overruns c.args.self.now c.args.store.now) (sym is)
+    on_err-weaker c.value-else-tested-eq0.result (λ over. subst (Overruns c.args.self.now c.args.store.now) (sym is)
     (first_overruns c.args.self.now c.args.store.now c.in-Conditional.field-0 (expr_tree
     c.deref-in-Conditional.result.now) (expr_tree c.deref-else-tested-eq0.result.now) (expr_tree
     c.in-Conditional.b.value) c.in_ok-tested-in-Conditional.tested (some_is c.in_ok-tested-in-Conditional.tested
     c.if-tested-eq0.false)
-    c.in_ok-tested-in-Conditional.ensures.value (c.value-else-tested-eq0.ensures.overrun over))
+    c.in_ok-tested-in-Conditional.ensures.value over)) c.value-else-tested-eq0.ensures.overrun
 
 pub value-element-requires : goal.value-element-requires
 value-element-requires t c =
@@ -574,7 +556,7 @@ value-returns-in-Element-clause-value t c =
     c.element.ensures.value
 
 pub value-returns-in-Element-clause-overrun : goal.value-returns-in-Element-clause-overrun
-value-returns-in-Element-clause-overrun t c = λ over.
+value-returns-in-Element-clause-overrun t c =
     let is : expr_tree c.args.e.now ≡ trees.element c.as_slice-in-Element.result.now (expr_tree
     c.deref-in-Element.result.now) = search rules in
-    subst (Overruns c.args.self.now c.args.store.now) (sym is) (c.element.ensures.overrun over)
+    on_err-weaker c.element.result (subst (Overruns c.args.self.now c.args.store.now) (sym is)) c.element.ensures.overrun

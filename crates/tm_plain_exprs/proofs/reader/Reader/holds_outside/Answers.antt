@@ -7,4 +7,4 @@ pub unreachable-requires : goal.unreachable-requires
 unreachable-requires c =
     never_overruns c.args.self.now c.args.store.now types.Bool (expr_tree c.args.e.now) c.requires.typed
     c.requires.outside
-    c.requires.kept.0 c.requires.kept.1 (c.holds.ensures.overrun (cc))
+    c.requires.kept.0 c.requires.kept.1 c.in-Err.ensures.overrun

@@ -5,9 +5,9 @@ use Rattle.tm_plain_exprs.proofs.reader.Reader.path_value.Goals as goal
 pub returns-in-Some : goal.returns-in-Some
 returns-in-Some c =
     path_found c.args.self.now c.args.store.now c.args.path.now c.in-Some.value
-    (λ of. sym c.in-Some.is ∙ c.in_ok-value.ensures of)
+    (λ of. sym c.in-Some.is ∙ c.cell_value.ensures of)
 
 pub returns-in-None : goal.returns-in-None
 returns-in-None c =
     path_constant c.args.self.now c.args.store.now c.args.path.now c.constant.result
-    (λ of. sym c.in-None.is ∙ c.in_ok-value.ensures of) c.constant.ensures
+    (λ of. sym c.in-None.is ∙ c.cell_value.ensures of) c.constant.ensures

@@ -11,7 +11,7 @@ returns-in-Some-clause-cell c = λ d has.
     let x = c.args.self.now.tables in
     let at = c.args.self.now.at in
     let there : (k : Cell) × (cell_at x at c.in-Some.own ≡ Some k) =
-    subst (IsCellNumber x at) c.in-Some.is c.in_ok-own.ensures.is_there in
+    subst (IsCellNumber x at) c.in-Some.is c.own_cell.ensures.is_there in
     there.1
     ∙ sym (cell-own d at c.args.path.now c.args.index (site d at.instance) there.0
-    (sym (c.in_ok-own.ensures.cell d has) ∙ ap (option_and_then (cell_at x at)) c.in-Some.is ∙ there.1))
+    (sym (c.own_cell.ensures.cell d has) ∙ ap (option_and_then (cell_at x at)) c.in-Some.is ∙ there.1))

@@ -10,8 +10,7 @@ use Rattle.tm_scope.proofs.cells.scope.CellScope.member_cell.Goals as goal
 pub returns-clause-cell : goal.returns-clause-cell
 returns-clause-cell c = λ d has.
     let node = instance_node c.in-Some.node.now in
-    c.variable.ensures.cell d has
-    ∙ ap (variable_at d) (c.as_slice.ensures.value ∙ c.in_ok-write_variable_path.ensures node (sym c.as_bytes.ensures))
+    c.member.ensures.cell d has node (sym c.as_bytes.ensures)
     ∙ ap (λ n. variable_at d (variable_path node n c.args.index)) c.last_name.ensures
     ∙ sym (member-node d c.args.path.now c.args.index (site d c.args.self.now.at.instance)
     ∙ ap (option_and_then (λ n. variable_at d (variable_path n (last_name c.args.path.now) c.args.index)))

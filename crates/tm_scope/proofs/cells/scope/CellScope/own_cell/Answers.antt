@@ -1,5 +1,4 @@
 use Rattle.std.proofs.Common.{◌≡◌, ◌++◌, ◌∷◌, sym, ap, ◌∙◌}
-use Rattle.std.proofs.lemmas.Result.{IfOk-weaker}
 use Rattle.std.specs.Option.{option_and_then, option_map}
 use Rattle.tm_syntax.specs.Design.{DesignTree, member_path}
 use Rattle.tm_syntax.specs.Design.Cells.{in_step, own_cell, variable_at}
@@ -11,22 +10,13 @@ use Rattle.tm_scope.proofs.OwnCells.{own-kept}
 use Rattle.tm_scope.proofs.cells.scope.CellScope.own_cell.Goals as goal
 
 pub returns-then-is_kept-clause-cell : goal.returns-then-is_kept-clause-cell
-returns-then-is_kept-clause-cell c =
-    let x = c.args.self.now.tables in
+returns-then-is_kept-clause-cell c = λ d has.
     let at = c.args.self.now.at in
-    IfOk-weaker c.kept_cell.result
-    (λ r. (d : DesignTree) → HasCells x d → option_and_then (cell_at x at) r
-    ≡ option_and_then (λ (s : Site). variable_at d
-    (member_path s.node.path (frame_name d at) ++ 46 ∷ c.last_name.result.now)) (site d at.instance))
-    (λ r. (d : DesignTree) → HasCells x d → option_and_then (cell_at x at) r
-    ≡ option_and_then (λ s. own_cell d (scope_of at) s c.args.path.now) (site d at.instance))
-    (λ r kept d has.
-    kept d has
+    c.kept_cell.ensures.cell d has
     ∙ ap (λ n. option_and_then (λ (s : Site). variable_at d
     (member_path s.node.path (frame_name d at) ++ 46 ∷ n)) (site d at.instance)) c.last_name.ensures
     ∙ sym (own-kept d at c.args.path.now (site d at.instance) (sym (c.is_kept.ensures d has) ∙ c.if-is_kept.true)
-    c.in-Some.ensures.is_there.0 (sym (c.in-Some.ensures.slot d has) ∙ c.in-Some.ensures.is_there.1)))
-    c.kept_cell.ensures.cell
+    c.in-Some.ensures.is_there.0 (sym (c.in-Some.ensures.slot d has) ∙ c.in-Some.ensures.is_there.1))
 
 pub returns-else-is_kept-clause-is_there : goal.returns-else-is_kept-clause-is_there
 returns-else-is_kept-clause-is_there c =
