@@ -32,8 +32,8 @@ fn laziness(design: &Design, process: &Item) -> Option<bool>
     Some(template.processes.get(index as usize)?.lazy)
 }
 
-// Whether a process is owed its turns: it is not lazy.
-fn is_owed(design: &Design, process: &Item) -> bool
+/// Whether a process of a design, by its item, is owed its turns: it is there, and not lazy.
+pub fn is_owed(design: &Design, process: &Item) -> bool
     ensures { (p : ℕ) → slice_get design.now.processes.items p ≡ Some process.now →
         result ≡ owes (design_tree design.now) p }
 {

@@ -14,4 +14,5 @@ mod parameters;
 mod states;
 mod truths;
 
+pub use fairs::is_owed;
 pub use marker::Marker;
