@@ -16,6 +16,7 @@ ghost use Rattle.tm_flat_states.specs.Markable.{IsMarkable};
 ghost use Rattle.tm_flat_states.specs.Marks.{MakesSuch};
 
 use crate::marker::Marker;
+use crate::memory::input_memory;
 use std::alloc::{AllocError, Global};
 use tm_flat::FlatStep;
 use tm_syntax::design::{Design, Item};
@@ -143,7 +144,7 @@ impl<'s> Marker<'s> {
             AllZip (IsConditionTerm u (design_tree self.now.design.now))
             (map of_text self.now.design.now.fairs.items) ids.items)) }
     {
-        let memory = self.memory(alloc, terms)?;
+        let memory = input_memory(alloc, terms, self.design)?;
         let ids = self.fair_terms(alloc, terms, &memory)?;
         Ok(ids)
     }
