@@ -21,16 +21,15 @@ mod cells;
 mod counting;
 mod drawing;
 mod games;
-mod reading;
 mod refining;
 
 use case_rows::{Case, number, read_cases, read_table, split_word};
 use cells::{Side, parted};
 use games::{decided, made};
-use reading::design_of;
 use refining::refined;
 use std::alloc::{AllocError, Global};
 use std::io;
+use tm_inst::read_design;
 use tm_syntax::design::Design;
 
 /// What comes of what a word asks for, in an order of the bits of states.
@@ -87,7 +86,7 @@ fn measured(
 fn answer(alloc: Global, text: &[u8], question: &str) -> Result<String, AllocError> {
     let (word, rest) = split_word(question);
     let (times, order) = split_word(rest);
-    match design_of(alloc, text) {
+    match read_design(alloc, text) {
         Some(design) => measured(alloc, &design, word, order, number(times)),
         None => String::from_str(alloc, "faulty"),
     }

@@ -13,16 +13,15 @@ ghost use Rattle.tm_syntax.specs.Faults.{IsOfText, IsSound};
 
 mod cells;
 mod games;
-mod reading;
 mod states;
 mod steps;
 mod updates;
 
 use case_rows::{Answers, check_tables};
-use reading::design_of;
 use std::alloc::{AllocError, Global};
 use std::io;
 use tm_game::Game;
+use tm_inst::read_design;
 use tm_judge::game_of;
 use tm_plain::{Machine, Tables};
 use tm_syntax::design::Design;
@@ -123,7 +122,7 @@ impl Answers for Rows {
         text: &str,
         question: &str,
     ) -> Result<String, AllocError> {
-        match design_of(alloc, text.as_bytes()) {
+        match read_design(alloc, text.as_bytes()) {
             Some(design) => answer_by_design(alloc, table, &design, question),
             None => String::from_str(alloc, "faulty"),
         }

@@ -29,9 +29,9 @@ mod texts;
 mod types;
 
 use case_rows::{Answers, check_tables};
-use reading::design_of;
 use std::alloc::{AllocError, Global};
 use std::io;
+use tm_inst::read_design;
 use tm_plain::Tables;
 use tm_sem::state::State;
 use tm_syntax::design::Design;
@@ -104,7 +104,7 @@ fn answer_by_text(
     last: &mut State,
     question: &str,
 ) -> Result<String, AllocError> {
-    match design_of(alloc, text) {
+    match read_design(alloc, text) {
         Some(design) => answer_by_design(alloc, table, &design, last, question),
         None => String::from_str(alloc, "faulty"),
     }

@@ -17,7 +17,12 @@ pub struct Callee<'s> {
 
 /// The task or procedure that a path of a body of an instance calls, by the text and the instances. Linear in the
 /// path.
-pub fn callee<'s>(spec: &'s Spec, sites: &Sites, at: SiteBody, path: &[Ident]) -> Option<Callee<'s>>
+pub fn called_task<'s>(
+    spec: &'s Spec,
+    sites: &Sites,
+    at: SiteBody,
+    path: &[Ident],
+) -> Option<Callee<'s>>
     requires { spec.now ≡ sites.now.spec }
     ensures found { IfSome result (λ c. (x : CellTables) → sites.now ≡ instances_of x
         → IsCallee x at path.now c.at c.task.now) }

@@ -12,7 +12,7 @@ mod sorts;
 mod step_cells;
 mod types;
 
-pub use callees::{Callee, callee};
+pub use callees::{Callee, called_task};
 pub use location_counts::processes_have_the_locations_of_their_text;
 pub use parameters::parameter_cells;
 pub use runnable_laws::sound_designs_of_texts_are_fit;

@@ -6,7 +6,7 @@ ghost use Rattle.tm_scope.specs.Cells.{HasCells, scope_of};
 ghost use Rattle.tm_design.specs.Callees.{IsCallee};
 
 use crate::walker::Walker;
-use tm_design::{Callee, callee};
+use tm_design::{Callee, called_task};
 use tm_scope::SiteBody;
 use tm_syntax::tree::Ident;
 
@@ -17,6 +17,6 @@ impl<'s> Walker<'s> {
         ensures none { IfNone result ((d : DesignTree) → HasCells self.now.cells.now d →
             called d (scope_of at) path.now ≡ None) }
     {
-        callee(self.scopes.spec(), &self.sites, at, path)
+        called_task(self.scopes.spec(), &self.sites, at, path)
     }
 }

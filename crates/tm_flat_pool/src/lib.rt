@@ -5,7 +5,6 @@ mod atoms;
 mod bits;
 mod holding;
 mod marks;
-mod memory;
 mod pool;
 mod pool_laws;
 mod pooler;

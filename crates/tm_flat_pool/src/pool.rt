@@ -15,6 +15,7 @@ ghost use Rattle.tm_flat_pool.specs.PoolTerms.{IsPredicateTerm};
 use crate::pooler::Pooler;
 use std::alloc::{AllocError, Global};
 use tm_atoms::Atoms;
+use tm_flat_states::input_memory;
 use tm_term::{TermId, Terms};
 
 /// The predicates of a pool as terms, in order, and how many of them the abstraction begins with.
@@ -50,7 +51,7 @@ impl<'s> Pooler<'s> {
             made.ids.items)) }
     {
         let atoms = self.atoms(alloc)?;
-        let memory = self.memory(alloc, terms)?;
+        let memory = input_memory(alloc, terms, self.design)?;
         let mut ids = self.atom_terms(alloc, terms, &memory, &atoms)?;
         let marks = self.marks(alloc, &atoms)?;
         let bits = self.bit_terms(alloc, terms, marks.as_slice())?;

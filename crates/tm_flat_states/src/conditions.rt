@@ -1,5 +1,5 @@
 //! The terms of conditions that stand outside of all bodies.
-ghost use Rattle.std.specs.Prelude.{◌≡◌, ◌≤◌, ℕ, IfNone, IfOk, IfSome, None, Some, length};
+ghost use Rattle.std.specs.Prelude.{◌≡◌, ℕ, IfNone, IfOk, IfSome, None, Some};
 ghost use Rattle.std.specs.Option.{option_map};
 ghost use Rattle.tm_base.specs.Arithmetic.{bit};
 ghost use Rattle.tm_syntax.specs.declared.design.Design as designs;
@@ -9,33 +9,17 @@ ghost use Rattle.tm_syntax.specs.Tree.View.{expr_tree};
 ghost use Rattle.tm_syntax.specs.Design.Scope.{site};
 ghost use Rattle.tm_syntax.specs.Design.View.{design_tree};
 ghost use Rattle.tm_design.specs.Typed.{HasTypeAt};
-ghost use Rattle.tm_term.specs.Table.{IsSound};
-ghost use Rattle.tm_flat.specs.Inputs.{input_widths};
 ghost use Rattle.tm_flat_exprs.specs.Made.{Makes};
-ghost use Rattle.tm_flat_states.specs.Conditions.{AreInputTerms, HasInputs, MakesMemory, stated};
+ghost use Rattle.tm_flat_states.specs.Conditions.{HasInputs, stated};
 ghost use Rattle.tm_flat_exprs.specs.Tables.{cells_of};
 ghost use Rattle.tm_flat_states.specs.Markable.{IsMarkable, outside_of};
 
 use crate::marker::Marker;
-use std::alloc::{AllocError, Global};
+use std::alloc::AllocError;
 use tm_flat_exprs::{TermMemory, TermReader, make};
 use tm_scope::{BodyName, ExprType, SiteBody};
 use tm_syntax::tree::Expr;
 use tm_term::{Term, TermId, Terms};
-
-// The first inputs, of so many numbers, as terms.
-fn input_terms(alloc: Global, terms: &mut Terms, count: u32) -> Result<Vec<TermId>, AllocError>
-    requires sound { IsSound terms.old }
-    requires within { count ≤ length terms.old.inputs }
-    ensures { IfOk result (λ ids. AreInputTerms terms.old terms.new count ids.items) }
-{
-    let mut ids = Vec::new(alloc);
-    for index in 0..count {
-        let id = terms.mk(Term::Input(index))?;
-        ids.push(id)?;
-    }
-    Ok(ids)
-}
 
 // The term of a condition, by the reader of what stands outside of all bodies of an instance.
 fn condition_by(
@@ -77,17 +61,6 @@ fn condition_found(
 }
 
 impl<'s> Marker<'s> {
-    /// A memory of the inputs. Linear in the variables. `AllocError` is want of memory.
-    pub(crate) fn memory(&self, alloc: Global, terms: &mut Terms) -> Result<TermMemory, AllocError>
-        requires markable { IsMarkable self.now.design.now }
-        requires sound { IsSound terms.old }
-        requires inputs { terms.old.inputs ≡ input_widths (design_tree self.now.design.now) }
-        ensures { IfOk result (MakesMemory (cells_of self.now.design.now) terms.old terms.new) }
-    {
-        let ids = input_terms(alloc, terms, self.design.vars.len() as u32)?;
-        Ok(TermMemory::new(alloc, ids))
-    }
-
     // The reader of what stands outside of all bodies of an instance, where there is such an instance.
     fn reader(&self, instance: u32) -> Option<TermReader<'s>>
         ensures found { IfSome result (λ r. r ≡ outside_of self.now.design.now instance) }

@@ -16,6 +16,7 @@ ghost use Rattle.tm_flat_states.specs.Markable.{IsMarkable};
 ghost use Rattle.tm_flat_states.specs.Marks.{MakesSuch};
 
 use crate::marker::Marker;
+use crate::memory::input_memory;
 use std::alloc::{AllocError, Global};
 use tm_flat::FlatStep;
 use tm_syntax::design::{Design, Item};
@@ -32,8 +33,8 @@ fn laziness(design: &Design, process: &Item) -> Option<bool>
     Some(template.processes.get(index as usize)?.lazy)
 }
 
-// Whether a process is owed its turns: it is not lazy.
-fn is_owed(design: &Design, process: &Item) -> bool
+/// Whether a process of a design, by its item, is owed its turns: it is there, and not lazy.
+pub fn is_owed(design: &Design, process: &Item) -> bool
     ensures { (p : ℕ) → slice_get design.now.processes.items p ≡ Some process.now →
         result ≡ owes (design_tree design.now) p }
 {
@@ -143,7 +144,7 @@ impl<'s> Marker<'s> {
             AllZip (IsConditionTerm u (design_tree self.now.design.now))
             (map of_text self.now.design.now.fairs.items) ids.items)) }
     {
-        let memory = self.memory(alloc, terms)?;
+        let memory = input_memory(alloc, terms, self.design)?;
         let ids = self.fair_terms(alloc, terms, &memory)?;
         Ok(ids)
     }

@@ -17,6 +17,7 @@ ghost use Rattle.tm_flat_states.specs.Markable.{IsMarkable};
 ghost use Rattle.tm_flat_states.specs.Marks.{MakesSuch};
 
 use crate::marker::Marker;
+use crate::memory::input_memory;
 use std::alloc::{AllocError, Global};
 use tm_flat_exprs::TermMemory;
 use tm_syntax::design::Item;
@@ -130,7 +131,7 @@ impl<'s> Marker<'s> {
             AllZip (IsGoalTerm u (design_tree self.now.design.now))
             (range_with_len 0 (length self.now.design.now.goals.items)) ids.items)) }
     {
-        let memory = self.memory(alloc, terms)?;
+        let memory = input_memory(alloc, terms, self.design)?;
         let ids = self.goal_terms(alloc, terms, &memory)?;
         Ok(ids)
     }

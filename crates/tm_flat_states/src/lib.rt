@@ -10,8 +10,11 @@ mod goals;
 mod inputs;
 mod magic;
 mod marker;
+mod memory;
 mod parameters;
 mod states;
 mod truths;
 
+pub use fairs::is_owed;
 pub use marker::Marker;
+pub use memory::input_memory;

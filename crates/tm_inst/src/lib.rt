@@ -16,5 +16,5 @@ mod vars;
 pub use design::instantiate;
 pub use instances::list_instances;
 pub use items::{Items, list_items};
-pub use specification::{MOST_BYTES, Specification, read_specification};
+pub use specification::{MOST_BYTES, Specification, read_design, read_specification};
 pub use vars::variables;

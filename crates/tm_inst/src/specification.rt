@@ -1,10 +1,10 @@
 //! Reading the text of a specification.
-ghost use Rattle.std.specs.Prelude.{◌≡◌, ◌≤◌, List, length, IfOk, IfErr};
+ghost use Rattle.std.specs.Prelude.{◌≡◌, ◌≤◌, List, length, IfOk, IfErr, IfSome};
 ghost use Rattle.tm_syntax.specs.declared.token.Token as tokens;
 ghost use Rattle.tm_syntax.specs.Limits.{specification_limit};
 ghost use Rattle.tm_syntax.specs.Tree.View.{spec_tree};
 ghost use Rattle.tm_syntax.specs.Design.View.{design_tree};
-ghost use Rattle.tm_syntax.specs.Faults.{FaultOf, HasTreeFault, IsSound};
+ghost use Rattle.tm_syntax.specs.Faults.{FaultOf, HasTreeFault, IsOfText, IsSound};
 ghost use Rattle.tm_inst.specs.ShortTexts.{IsOfShortText};
 ghost use Rattle.tm_flat_room.specs.Assuming.{has_assume as has_word};
 ghost use Rattle.tm_inst.specs.Specification.{IsDesignText, IsMemoryOr};
@@ -56,4 +56,19 @@ pub fn read_specification(alloc: Global, text: &[u8]) -> Result<Specification, F
     let design = design_of(alloc, spec)?;
     let assumes = has_assume(&tokens);
     Ok(Specification { design, assumes })
+}
+
+/// The design that a text tells, where it is one of a specification: without a fault, of at most `MOST_BYTES` bytes,
+/// and with memory for its design.
+pub fn read_design(alloc: Global, text: &[u8]) -> Option<Design>
+    ensures sound { IfSome result (λ design. IsSound (design_tree design)) }
+    ensures of_text { IfSome result (λ design. IsOfText (design_tree design).spec) }
+{
+    if text.len() > MOST_BYTES {
+        return None;
+    }
+    match read_specification(alloc, text) {
+        Ok(read) => Some(read.design),
+        Err(_) => None,
+    }
 }

@@ -1,11 +1,10 @@
 -- Counts of state bits and of fairness conditions, as code makes them and as the definitions say.
-use Rattle.std.proofs.Common.{◌≡◌, ℕ, zero, suc, ◌+◌, ◌*◌, ◌<◌, ◌≤◌, Bool, true, false, cond, Option, None, Some, List}
+use Rattle.std.proofs.Common.{◌≡◌, ℕ, ◌+◌, ◌≤◌, Bool, true, false, cond, List}
 use Rattle.std.proofs.Common.{[], ◌∷◌, ◌++◌, map, length, if◌then◌else◌, refl, sym, ap, subst, ◌∙◌, arith}
 use Rattle.std.proofs.Common.{length-append}
 use mir.Val.{bool_byte}
 use Rattle.std.specs.Prelude.{filter, sum, sum_by, not}
 use Rattle.std.specs.List.{AllZip, range_with_len}
-use Rattle.std.specs.Option.{option_map, option_map_or}
 use Rattle.std.proofs.lemmas.List.{length-map, map-id}
 use Rattle.std.proofs.lemmas.List.Elements.{filter-append}
 use Rattle.std.proofs.lemmas.List.Filters.{length-filter_both}
@@ -17,7 +16,7 @@ use Rattle.tm_syntax.specs.declared.design.Var.{Var}
 use Rattle.tm_syntax.specs.declared.tree.Spec.{Spec}
 use Rattle.tm_syntax.specs.Tree.View.{spec_tree}
 use Rattle.tm_syntax.specs.Design.{DesignTree}
-use Rattle.tm_syntax.specs.Design.Locations.{Thread, end_number, thread}
+use Rattle.tm_syntax.specs.Design.Locations.{end_number}
 use Rattle.tm_syntax.specs.Design.Sizes.{bits_of_number, type_bits}
 use Rattle.tm_syntax.specs.Design.View.{design_tree}
 use Rattle.tm_syntax.specs.Faults.{IsSound}
@@ -25,12 +24,10 @@ use Rattle.tm_syntax.proofs.Limits as limits
 use Rattle.tm_locations.specs.Locations.{AreLocations, table_of}
 use Rattle.tm_locations.specs.declared.table.Locations.{Locations}
 use Rattle.tm_sem.specs.Fairness.{conditions, of_text, of_process, is_owed, owed}
-use Rattle.tm_sem.specs.StateBits.{state_widths}
 use Rattle.tm_states.specs.States.{AreSized, HaveLocations, end_of}
 use Rattle.tm_states.proofs.StateLaws.{sized}
 use Rattle.tm_states.proofs.TableEnds.{table_end}
 use Rattle.tm_judge.specs.Shape.{state_bit_count}
-use Rattle.tm_judge.specs.Inner.Laziness.{lazy_of}
 
 -- a sum of what is made of the items of a list
 sum-mapped : {X : Type 0} (f : X → ℕ) (xs : List X) → sum (map f xs) ≡ sum_by f xs
@@ -77,16 +74,6 @@ module _ (d : DesignTree) where
       let processes = length-map (owed d) of_process in
       let declared = length-map d.fairs of_text in
       omega (arith, all, processes, declared)
-
-  -- whether a process is owed its turns
-  pub owed_by : (p : ℕ) (lazy : Option Bool) → option_map lazy_of (thread d p) ≡ lazy →
-      option_map_or not lazy false ≡ is_owed d p
-  owed_by p lazy is = ap (λ o. option_map_or not o false) (sym is) ∙ by (thread d p)
-    where
-      by : (o : Option Thread) →
-          option_map_or not (option_map lazy_of o) false ≡ option_map_or (λ (t : Thread). not t.process.lazy) o false
-      by None = refl
-      by (Some t) = refl
 
   range_more : (n : ℕ) → range_with_len 0 (n + 1) ≡ range_with_len 0 n ++ n ∷ []
   range_more n =

@@ -1,3 +1,2 @@
 -- What contracts of private functions alone cite.
-pub mod Laziness
 pub mod Updates

@@ -7,7 +7,7 @@ ghost use Rattle.tm_design.specs.Callees.{IsCallee};
 ghost use Rattle.tm_plain_bodies.specs.Tables.{tables_of};
 
 use crate::runner::Runner;
-use tm_design::{Callee, callee};
+use tm_design::{Callee, called_task};
 use tm_scope::SiteBody;
 use tm_syntax::tree::Ident;
 
@@ -18,6 +18,6 @@ impl<'s> Runner<'s> {
         ensures none { IfNone result ((d : DesignTree) → HasCells (tables_of self.now) d →
             called d (scope_of at) path.now ≡ None) }
     {
-        callee(&self.design.spec, &self.sites, at, path)
+        called_task(&self.design.spec, &self.sites, at, path)
     }
 }

@@ -11,19 +11,19 @@ use Rattle.tm_design.proofs.Found.{none_then}
 use Rattle.tm_plain_bodies.specs.Tables.{tables_of}
 use Rattle.tm_plain_bodies.proofs.runner.Runner.callee.Goals as goal
 
-pub callee-requires : goal.callee-requires
-callee-requires c = sym (ap (λ (y : InstanceTables). y.spec) c.self.invariant.2)
+pub called_task-requires : goal.called_task-requires
+called_task-requires c = sym (ap (λ (y : InstanceTables). y.spec) c.self.invariant.2)
 
 pub returns-clause-found : goal.returns-clause-found
 returns-clause-found c =
-    subst (λ (m : Design). IfSome c.callee.result (λ found. IsCallee (tables_of m) c.args.at c.args.path.now found.at
+    subst (λ (m : Design). IfSome c.called_task.result (λ found. IsCallee (tables_of m) c.args.at c.args.path.now found.at
     found.task.now)) c.self.view_is
-    (IfSome_then c.callee.result c.callee.ensures.found
+    (IfSome_then c.called_task.result c.called_task.ensures.found
     (λ found is. is (tables_of c.self.inside.design.now) c.self.invariant.2))
 
 pub returns-clause-none : goal.returns-clause-none
 returns-clause-none c =
-    subst (λ (m : Design). IfNone c.callee.result ((d : DesignTree) → HasCells (tables_of m) d →
+    subst (λ (m : Design). IfNone c.called_task.result ((d : DesignTree) → HasCells (tables_of m) d →
     called d (scope_of c.args.at) c.args.path.now ≡ None)) c.self.view_is
-    (none_then c.callee.result c.callee.ensures.none
+    (none_then c.called_task.result c.called_task.ensures.none
     (λ none. none (tables_of c.self.inside.design.now) c.self.invariant.2))

@@ -9,7 +9,7 @@ use Rattle.tm_locations.proofs.TableCallees.{item-read, without-instance, withou
 use Rattle.tm_design.specs.Callees.{instances_of}
 use Rattle.tm_design.proofs.Found.{nothing_found}
 use Rattle.tm_design.proofs.TableCalls.{is_callee, none_called, over}
-use Rattle.tm_design.proofs.callees.callee.Goals as goal
+use Rattle.tm_design.proofs.callees.called_task.Goals as goal
 
 pub returns-in_err-found-clause-none : goal.returns-in_err-found-clause-none
 returns-in_err-found-clause-none c =

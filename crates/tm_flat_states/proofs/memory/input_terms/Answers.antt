@@ -1,5 +1,5 @@
 use Rattle.tm_flat_states.proofs.StatedTerms.{more_inputs}
-use Rattle.tm_flat_pool.proofs.memory.input_terms.Goals as goal
+use Rattle.tm_flat_states.proofs.memory.input_terms.Goals as goal
 
 pub loop-index-preserved : goal.loop-index-preserved
 loop-index-preserved c =

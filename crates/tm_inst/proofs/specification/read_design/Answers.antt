@@ -1,7 +1,7 @@
-use Rattle.test_game.proofs.reading.design_of.Goals as goal
+use Rattle.tm_inst.proofs.specification.read_design.Goals as goal
 
-pub returns-in-Ok-clause-read : goal.returns-in-Ok-clause-read
-returns-in-Ok-clause-read c =
+pub returns-in-Ok-clause-of_text : goal.returns-in-Ok-clause-of_text
+returns-in-Ok-clause-of_text c =
     let is = c.in-Ok.ensures.read.1 in
     record {
       text = _;

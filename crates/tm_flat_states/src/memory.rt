@@ -3,13 +3,13 @@ ghost use Rattle.std.specs.Prelude.{◌≡◌, ◌≤◌, IfOk, length};
 ghost use Rattle.tm_syntax.specs.Design.View.{design_tree};
 ghost use Rattle.tm_term.specs.Table.{IsSound};
 ghost use Rattle.tm_flat.specs.Inputs.{input_widths};
-ghost use Rattle.tm_flat_states.specs.Conditions.{AreInputTerms, MakesMemory};
 ghost use Rattle.tm_flat_exprs.specs.Tables.{cells_of};
+ghost use Rattle.tm_flat_states.specs.Conditions.{AreInputTerms, MakesMemory};
 ghost use Rattle.tm_flat_states.specs.Markable.{IsMarkable};
 
-use crate::pooler::Pooler;
 use std::alloc::{AllocError, Global};
 use tm_flat_exprs::TermMemory;
+use tm_syntax::design::Design;
 use tm_term::{Term, TermId, Terms};
 
 // The first inputs, of so many numbers, as terms.
@@ -26,15 +26,17 @@ fn input_terms(alloc: Global, terms: &mut Terms, count: u32) -> Result<Vec<TermI
     Ok(ids)
 }
 
-impl<'s> Pooler<'s> {
-    /// A memory of the inputs. Linear in the variables. `AllocError` is want of memory.
-    pub(crate) fn memory(&self, alloc: Global, terms: &mut Terms) -> Result<TermMemory, AllocError>
-        requires markable { IsMarkable self.now.design.now }
-        requires sound { IsSound terms.old }
-        requires inputs { terms.old.inputs ≡ input_widths (design_tree self.now.design.now) }
-        ensures { IfOk result (MakesMemory (cells_of self.now.design.now) terms.old terms.new) }
-    {
-        let ids = input_terms(alloc, terms, self.design.vars.len() as u32)?;
-        Ok(TermMemory::new(alloc, ids))
-    }
+/// A memory of the inputs of a design. Linear in the variables. `AllocError` is want of memory.
+pub fn input_memory(
+    alloc: Global,
+    terms: &mut Terms,
+    design: &Design,
+) -> Result<TermMemory, AllocError>
+    requires markable { IsMarkable design.now }
+    requires sound { IsSound terms.old }
+    requires inputs { terms.old.inputs ≡ input_widths (design_tree design.now) }
+    ensures { IfOk result (MakesMemory (cells_of design.now) terms.old terms.new) }
+{
+    let ids = input_terms(alloc, terms, design.vars.len() as u32)?;
+    Ok(TermMemory::new(alloc, ids))
 }
