@@ -16,8 +16,8 @@ module _ (s : ScopedCells) (k : Kept) (whole : ExprTree) (form : Place → ExprT
     pub form_typed : (ty : Ty) → HasTypeAt s ty whole → (at : Place) × HasTypeAt s ty (form at)
     form_typed ty h = (at, subst (HasTypeAt s ty) is h)
 
-    pub whole_valued : (asked : Ty) (r : Result ℕ Overrun) → IfOk r (λ n. (at : Place) → IsValued s k asked (form at) n) →
-        IfOk r (IsValued s k asked whole)
+    pub whole_valued : (asked : Ty) (r : Result ℕ Overrun) →
+        IfOk r (λ n. (at : Place) → IsValued s k asked (form at) n) → IfOk r (IsValued s k asked whole)
     whole_valued asked (Ok n) h = subst (λ e. IsValued s k asked e n) (sym is) (h at)
     whole_valued asked (Err e) h = tt
 

@@ -1,14 +1,12 @@
--- Paths of state variables by their parts: where they end, their hashes, and their numbers.
+-- Paths of state variables by their parts: where they end, and their numbers.
 use Rattle.std.proofs.Common.{◌≡◌, ℕ, Bool, true, false, cond, Option, None, Some, List, [], ◌∷◌, ◌++◌, length, take, drop, nat_eq, is_some, refl, sym, ap, ◌∙◌, true≢false}
 use Rattle.std.specs.Prelude.{◌&&◌}
 use Rattle.std.specs.Option.{option_or}
 use Rattle.std.specs.Cmp.Lexicographic.{pointwise, bytes_decides}
 use Rattle.std.proofs.lemmas.Bool.{eqb-true, eq-eqb}
 use Rattle.std.proofs.lemmas.List.{append_assoc}
-use Rattle.std.proofs.lemmas.List.Sums.{fold-append}
 use Rattle.tm_syntax.specs.Design.{member_path}
 use Rattle.tm_scope.specs.Directory.{index_of}
-use Rattle.tm_scope.specs.VariablePaths.{hash_next, hash_on}
 
 and_assoc : (a b c : Bool) → a && (b && c) ≡ (a && b) && c
 and_assoc true b c = refl

@@ -2,12 +2,11 @@
 ghost use Rattle.std.specs.Prelude.{◌≡◌, IfOk, OnErr};
 ghost use Rattle.tm_syntax.specs.declared.design.Ty.TheVariants as resolved;
 ghost use Rattle.tm_syntax.specs.Tree.View.{expr_tree};
-ghost use Rattle.tm_scope.specs.Cells.{scope_of};
 ghost use Rattle.tm_scope.specs.declared.context.BodyName.TheVariants.{Outside};
 ghost use Rattle.tm_sem.specs.Value as run;
 ghost use Rattle.tm_plain_exprs.specs.Kept.{Keeps};
 ghost use Rattle.tm_design.specs.Typed.{HasTypeAt};
-ghost use Rattle.tm_plain_exprs.specs.Valued.{Holds, Overruns, Told};
+ghost use Rattle.tm_plain_exprs.specs.Valued.{Holds, Overruns};
 
 use crate::overrun::Overrun;
 use crate::reader::Reader;

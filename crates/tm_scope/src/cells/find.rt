@@ -22,7 +22,8 @@ impl<'s> CellScope<'s> {
     pub fn cell(&self, path: &[Ident], index: Option<u64>) -> Option<CellNumber>
         ensures is_there { IsCellNumber self.now.tables self.now.at result }
         ensures cell { (d : DesignTree) → HasCells self.now.tables d →
-            option_and_then (cell_at self.now.tables self.now.at) result ≡ cell d (scope_of self.now.at) path.now index }
+            option_and_then (cell_at self.now.tables self.now.at) result
+            ≡ cell d (scope_of self.now.at) path.now index }
     {
         match self.own_cell(path) {
             Some(own) => Some(own),

@@ -158,7 +158,7 @@ fn is_named(name: &[u8], last: Option<&[u8]>, path: &[u8]) -> bool
     }
 }
 
-/// An odd number next to 2^64 over the golden ratio.
+// An odd number next to 2^64 over the golden ratio.
 const FACTOR: u64 = 0x9e37_79b9_7f4a_7c15;
 
 // The hash of a text with one more byte, by that of the text: multiplicative hashing (Knuth 1973).

@@ -6,7 +6,6 @@ use Rattle.tm_sem.specs.State.{StateData}
 use Rattle.tm_sem.specs.Value.{plain_memory, holds_in}
 use Rattle.tm_plain_bodies.specs.Tables.{tables_of}
 use Rattle.tm_plain_exprs.specs.Valued.{Holds}
-use Rattle.tm_plain.specs.Tasks.{outside_of}
 use Rattle.tm_plain.proofs.Machines.{holds_at}
 use Rattle.tm_plain.proofs.machine.goals.condition_by.Goals as goal
 

@@ -1,6 +1,6 @@
 use Rattle.std.proofs.Common.{◌≡◌, ◌≢◌, ℕ, ◌<◌, ◌≤◌, true, false, Some, sym, ap, ◌∙◌, subst, rules, arith}
 use Rattle.std.specs.Prelude.{◌==◌, IfOk, nat_le, unwrap_or}
-use Rattle.std.proofs.lemmas.Result.{IfOk-weaker}
+use Rattle.std.proofs.lemmas.Result.{IfErr-weaker, IfOk-weaker}
 use Rattle.std.proofs.lemmas.Bool.Decides.{nat_tests}
 use Rattle.tm_base.specs.declared.place.Place.{Place}
 use Rattle.tm_base.specs.Arithmetic.{resize}
@@ -19,7 +19,7 @@ use Rattle.tm_plain_exprs.proofs.Leaves.{truth_valued, number_valued, path_value
 use Rattle.tm_plain_exprs.proofs.Wholes.{form_typed, whole_valued, whole_overruns, joined_valued, joined_overruns}
 use Rattle.tm_design.proofs.OperandParts.{sized_at, group_part, unary_part, shift_part, shift_by, test_part, first_part, second_part, cast_width, cast_operand, cast_own, index_part, length_read}
 use Rattle.tm_plain_exprs.proofs.Sizes.{expr_size}
-use Rattle.tm_plain_exprs.proofs.Stops.{on_err, on_err-weaker}
+use Rattle.tm_plain_exprs.proofs.Stops.{on_err}
 use Rattle.tm_plain_exprs.proofs.reader.Reader.+value.Goals as goal
 
 past : (a b : ℕ) → a ≤ b → nat_le a b ≡ true
@@ -334,7 +334,7 @@ value-returns-in-Group-clause-overrun t c =
     let is : expr_tree c.args.e.now ≡ trees.group c.in-Group.field-0 (expr_tree c.deref.result.now) = search rules in
     whole_overruns c.args.self.now c.args.store.now (expr_tree c.args.e.now) (λ at. trees.group at (expr_tree
     c.deref.result.now)) c.in-Group.field-0 is c.value.result
-    (on_err-weaker c.value.result (λ over at. group_overruns c.args.self.now c.args.store.now at
+    (IfErr-weaker c.value.result _ _ (λ _ over at. group_overruns c.args.self.now c.args.store.now at
     (expr_tree c.deref.result.now) over) c.value.ensures.overrun)
 
 pub value-returns-in-Truth-clause-value : goal.value-returns-in-Truth-clause-value
@@ -486,7 +486,8 @@ value-returns-then-tested-eq0-clause-overrun t c =
     let is : expr_tree c.args.e.now ≡ trees.conditional c.in-Conditional.field-0 (expr_tree
     c.deref-in-Conditional.result.now) (expr_tree c.in-Conditional.a.value) (expr_tree
     c.deref-then-tested-eq0.result.now) = search rules in
-    on_err-weaker c.value-then-tested-eq0.result (λ over. subst (Overruns c.args.self.now c.args.store.now) (sym is)
+    IfErr-weaker c.value-then-tested-eq0.result _ _
+    (λ _ over. subst (Overruns c.args.self.now c.args.store.now) (sym is)
     (second_overruns c.args.self.now c.args.store.now c.in-Conditional.field-0 (expr_tree
     c.deref-in-Conditional.result.now) (expr_tree c.in-Conditional.a.value) (expr_tree
     c.deref-then-tested-eq0.result.now) c.in_ok-tested-in-Conditional.tested (none_is
@@ -535,7 +536,8 @@ value-returns-else-tested-eq0-clause-overrun t c =
     let is : expr_tree c.args.e.now ≡ trees.conditional c.in-Conditional.field-0 (expr_tree
     c.deref-in-Conditional.result.now) (expr_tree c.deref-else-tested-eq0.result.now) (expr_tree
     c.in-Conditional.b.value) = search rules in
-    on_err-weaker c.value-else-tested-eq0.result (λ over. subst (Overruns c.args.self.now c.args.store.now) (sym is)
+    IfErr-weaker c.value-else-tested-eq0.result _ _
+    (λ _ over. subst (Overruns c.args.self.now c.args.store.now) (sym is)
     (first_overruns c.args.self.now c.args.store.now c.in-Conditional.field-0 (expr_tree
     c.deref-in-Conditional.result.now) (expr_tree c.deref-else-tested-eq0.result.now) (expr_tree
     c.in-Conditional.b.value) c.in_ok-tested-in-Conditional.tested (some_is c.in_ok-tested-in-Conditional.tested
@@ -559,4 +561,5 @@ pub value-returns-in-Element-clause-overrun : goal.value-returns-in-Element-clau
 value-returns-in-Element-clause-overrun t c =
     let is : expr_tree c.args.e.now ≡ trees.element c.as_slice-in-Element.result.now (expr_tree
     c.deref-in-Element.result.now) = search rules in
-    on_err-weaker c.element.result (subst (Overruns c.args.self.now c.args.store.now) (sym is)) c.element.ensures.overrun
+    IfErr-weaker c.element.result _ _ (λ _. subst (Overruns c.args.self.now c.args.store.now) (sym is))
+    c.element.ensures.overrun

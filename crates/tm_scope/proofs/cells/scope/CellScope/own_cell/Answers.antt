@@ -1,10 +1,10 @@
-use Rattle.std.proofs.Common.{◌≡◌, ◌++◌, ◌∷◌, sym, ap, ◌∙◌}
+use Rattle.std.proofs.Common.{◌++◌, ◌∷◌, sym, ap, ◌∙◌}
 use Rattle.std.specs.Option.{option_and_then, option_map}
-use Rattle.tm_syntax.specs.Design.{DesignTree, member_path}
+use Rattle.tm_syntax.specs.Design.{member_path}
 use Rattle.tm_syntax.specs.Design.Cells.{in_step, own_cell, variable_at}
 use Rattle.tm_syntax.specs.Scopes.Context.{Slot}
 use Rattle.tm_syntax.specs.Design.Scope.{Site, site}
-use Rattle.tm_scope.specs.Cells.{HasCells, cell_at, scope_of}
+use Rattle.tm_scope.specs.Cells.{scope_of}
 use Rattle.tm_scope.specs.Inner.CellScopes.{frame_name}
 use Rattle.tm_scope.proofs.OwnCells.{own-kept}
 use Rattle.tm_scope.proofs.cells.scope.CellScope.own_cell.Goals as goal
