@@ -1,8 +1,6 @@
 //! Cases of guarded updates, of symbolic games and of the cells of predicates, table by table.
 //!
-//! The input is tables of `case_rows`, one behind the other. The line `== NAME` stands in front of each, and tells
-//! what its rows ask of: the module of that name tells them. A table passes where each of its rows does; rows are told
-//! by their lines in the whole input.
+//! The input is tables of `case_rows`; the module of a table's name tells what its rows ask.
 #![tactic(auto)]
 
 ghost use Rattle.tm_abs.specs.Tracked.{IsPooled};

@@ -13,7 +13,8 @@ zip_get (a ∷ xs) (b ∷ ys) zero x y here there =
     (λ i. Some (one i, two i))
 zip_get (a ∷ xs) (b ∷ ys) (suc k) x y here there = zip_get xs ys k x y here there
 
-pub get_at : {A : Type 0} (xs : List A) (k : ℕ) (x : A) → slice_get xs k ≡ Some x → (k < length xs) × (get_or xs k x ≡ x)
+pub get_at : {A : Type 0} (xs : List A) (k : ℕ) (x : A) → slice_get xs k ≡ Some x →
+    (k < length xs) × (get_or xs k x ≡ x)
 get_at [] k x is = absurd (cc)
 get_at (a ∷ xs) zero x is = let same : a ≡ x = cc in (omega arith, same)
 get_at (a ∷ xs) (suc k) x is = let rest = get_at xs k x is in (omega (arith, rest.0), rest.1)

@@ -16,8 +16,8 @@ called_task-requires c = sym (ap (λ (y : InstanceTables). y.spec) c.self.invari
 
 pub returns-clause-found : goal.returns-clause-found
 returns-clause-found c =
-    subst (λ (m : Design). IfSome c.called_task.result (λ found. IsCallee (tables_of m) c.args.at c.args.path.now found.at
-    found.task.now)) c.self.view_is
+    subst (λ (m : Design). IfSome c.called_task.result (λ found.
+    IsCallee (tables_of m) c.args.at c.args.path.now found.at found.task.now)) c.self.view_is
     (IfSome_then c.called_task.result c.called_task.ensures.found
     (λ found is. is (tables_of c.self.inside.design.now) c.self.invariant.2))
 
