@@ -1,5 +1,5 @@
 -- Laws of judging: what comes first, and lists part by part.
-use Rattle.std.proofs.Common.{◌≡◌, ℕ, ◌+◌, ◌<◌, ◌≤◌, List, [], ◌∷◌, ◌++◌, length, drop, get_or, Result, Ok, Err, Bor, IsErrAnd, IfErr, subst, sym, ap, ◌∙◌}
+use Rattle.std.proofs.Common.{◌≡◌, ℕ, ◌+◌, ◌<◌, ◌≤◌, List, [], ◌∷◌, ◌++◌, length, drop, get_or, Ok, Bor, subst, sym, ap, ◌∙◌}
 use Rattle.std.proofs.Math.ListN.{drop_of_length-le}
 use Rattle.std.proofs.lemmas.List.{at_drop_more}
 use Rattle.serde_json.specs.Data.{Data}
@@ -64,21 +64,6 @@ pub each-whole : {A : Type 0} (judge : List A → Data → Judged A) (all : Judg
 each-whole judge all found values i so_far end =
     so_far ∙ ap (λ vs. each judge found (items_view vs)) (drop_of_length-le values end)
 
--- an error that is handed on
-pub handed_on : {T : Type 0} (r : Result T ReadCertError) (e : ReadCertError) (P : ReadCertError → Type 0)
-    → IsErrAnd r (λ y. y ≡ e) → P e → IfErr r P
-handed_on (Ok x) e P is h = absurd is
-handed_on (Err y) e P is h = subst P (sym is) h
-
--- the error of the part at a place, handed on
-pub each-exit : {A T : Type 0} (r : Result T ReadCertError) (judge : List A → Data → Judged A) (all : Judged (List A))
-    (found : List A) (values : List Value) (i : ℕ) (v : Value) (e : ReadCertError)
-    → IsErrAnd r (λ y. y ≡ e)
-    → all ≡ each judge found (items_view (drop i values)) → i < length values → v ≡ get_or values i v
-    → IsRefusalOf (judge found (view v)) e → IfErr r (IsRefusalOf all)
-each-exit r judge all found values i v e is so_far within at refused =
-    handed_on r e (IsRefusalOf all) is (each-refused judge all found values i v e so_far within at refused)
-
 -- the path of the part behind those that were found
 pub next_path : {A : Type 0} (parent : Bor Path) (count : ℕ) (found : List A) → count ≡ length found
     → path_text (Index parent count) ≡ index_path (path_text parent.now) (length found)
@@ -94,12 +79,11 @@ part-found judge path part_path all found new values i v part so_far within at s
     each-found (at_next judge path) all found new values i v part so_far within at
     (ap (λ p. judge p (view v)) (sym same) ∙ ok) added
 
--- the error of such a part, handed on
-pub part-exit : {A T : Type 0} (r : Result T ReadCertError) (judge : List ℕ → Data → Judged A) (path part_path : List ℕ)
-    (all : Judged (List A)) (found : List A) (values : List Value) (i : ℕ) (v : Value) (e : ReadCertError)
-    → IsErrAnd r (λ y. y ≡ e)
+-- a list has the fault of such a part
+pub part-refused : {A : Type 0} (judge : List ℕ → Data → Judged A) (path part_path : List ℕ) (all : Judged (List A))
+    (found : List A) (values : List Value) (i : ℕ) (v : Value) (e : ReadCertError)
     → all ≡ each (at_next judge path) found (items_view (drop i values)) → i < length values → v ≡ get_or values i v
-    → part_path ≡ index_path path (length found) → IsRefusalOf (judge part_path (view v)) e → IfErr r (IsRefusalOf all)
-part-exit r judge path part_path all found values i v e is so_far within at same refused =
-    each-exit r (at_next judge path) all found values i v e is so_far within at
+    → part_path ≡ index_path path (length found) → IsRefusalOf (judge part_path (view v)) e → IsRefusalOf all e
+part-refused judge path part_path all found values i v e so_far within at same refused =
+    each-refused (at_next judge path) all found values i v e so_far within at
     (subst (λ p. IsRefusalOf (judge p (view v)) e) same refused)

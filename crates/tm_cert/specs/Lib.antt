@@ -1,6 +1,7 @@
 pub mod Cert
 pub mod CertValue
 pub mod Goals
+pub mod Hashed
 pub mod Judge
 pub mod Judged
 pub mod KeyOrder

@@ -1,5 +1,7 @@
 //! Certificates: what makes a verdict on a design checkable.
+use std::hash::{Hash, Hasher};
 use std::marker::Model;
+use tm_dd::mixed;
 
 /// A certificate of either kind.
 #[derive(Drop)]
@@ -55,15 +57,27 @@ impl Model for EnvCert {
 }
 
 /// A node of a decision diagram: `lo` where the bit of its level is 0, and `hi` where it is 1.
-#[derive(Clone, Copy, PartialEq, Eq, Hash, Debug)]
+#[derive(Clone, Copy, PartialEq, Eq)]
 pub struct Entry {
     pub level: u32,
     pub lo: u64,
     pub hi: u64,
 }
 
+impl Hash for Entry {
+    ghost use Rattle.tm_cert.specs.Hashed.{entry_hash, same_entry_hash};
+
+    ghost hash_input = { entry_hash };
+
+    ghost respects_eq = { same_entry_hash };
+
+    fn hash<H: Hasher>(&self, state: &mut H) {
+        state.write_u64(mixed(u64::from(self.level), self.lo, self.hi));
+    }
+}
+
 /// The set of the states up to a rank, and the number of the fairness condition of that rank.
-#[derive(Clone, Copy, PartialEq, Eq, Debug)]
+#[derive(Clone, Copy)]
 pub struct Rank {
     pub fair: u32,
     pub set: u64,

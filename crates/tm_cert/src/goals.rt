@@ -29,8 +29,10 @@ pub(crate) fn read_goals(
     ensures refused { IfErr result
         (IsRefusalOf (goals_at goals fairs ids (path_text path.now) (view value.now))) }
 {
-    let parts = read_counted(alloc, path, goals, value)?;
-    read_each_goal(alloc, path, fairs, ids, parts)
+    match read_counted(alloc, path, goals, value) {
+        Ok(parts) => read_each_goal(alloc, path, fairs, ids, parts),
+        Err(error) => Err(error),
+    }
 }
 
 /// The ranks of each goal in a list.
@@ -49,7 +51,8 @@ fn read_each_goal(
 {
     let mut found = Vec::new(alloc);
     for value in parts {
-        let ranks = read_goal(alloc, &Path::Index(&*path, found.len()), fairs, ids, value)?;
+        let place = Path::Index(&*path, found.len());
+        let ranks = given!(read_goal(alloc, &place, fairs, ids, value), found);
         found.push(ranks)?;
     }
     Ok(found)
@@ -69,11 +72,11 @@ fn read_goal(
     ensures refused { IfErr result
         (IsRefusalOf (goal_at fairs ids (path_text path.now) (view value.now))) }
 {
-    let members = read_members(alloc, path, value)?;
+    let members = given!(read_members(alloc, path, value));
     let ranks_path = Path::Member(path, "ranks");
-    let ranks = read_value(alloc, &ranks_path, members, "ranks")?;
-    let ranks = read_ranks(alloc, &ranks_path, fairs, ids, ranks)?;
-    refuse_other(alloc, path, members, &["ranks"])?;
+    let ranks = given!(read_value(alloc, &ranks_path, members, "ranks"));
+    let ranks = given!(read_ranks(alloc, &ranks_path, fairs, ids, ranks));
+    given!(refuse_other(alloc, path, members, &["ranks"]), ranks);
     Ok(ranks)
 }
 
@@ -91,8 +94,10 @@ fn read_ranks(
     ensures refused { IfErr result
         (IsRefusalOf (ranks_at fairs ids (path_text path.now) (view value.now))) }
 {
-    let parts = read_items(alloc, path, value)?;
-    read_each_rank(alloc, path, fairs, ids, parts)
+    match read_items(alloc, path, value) {
+        Ok(parts) => read_each_rank(alloc, path, fairs, ids, parts),
+        Err(error) => Err(error),
+    }
 }
 
 fn read_each_rank(
@@ -109,7 +114,8 @@ fn read_each_rank(
 {
     let mut ranks = Vec::new(alloc);
     for value in parts {
-        let rank = read_rank(alloc, &Path::Index(&*path, ranks.len()), fairs, ids, value)?;
+        let place = Path::Index(&*path, ranks.len());
+        let rank = given!(read_rank(alloc, &place, fairs, ids, value), ranks);
         ranks.push(rank)?;
     }
     Ok(ranks)
@@ -129,11 +135,13 @@ fn read_rank(
     ensures refused { IfErr result
         (IsRefusalOf (rank_at fairs ids (path_text path.now) (view value.now))) }
 {
-    let parts = read_items(alloc, path, value)?;
-    if parts.len() != 2 {
-        return Err(wrong_shape(alloc, path));
+    match read_items(alloc, path, value) {
+        Ok(parts) if parts.len() == 2 => {
+            read_pair(alloc, path, fairs, ids, &parts[0], &parts[1])
+        }
+        Ok(_) => Err(wrong_shape(alloc, path)),
+        Err(error) => Err(error),
     }
-    read_pair(alloc, path, fairs, ids, &parts[0], &parts[1])
 }
 
 fn read_pair(
@@ -149,8 +157,8 @@ fn read_pair(
     ensures refused { IfErr result (IsRefusalOf
         (pair_numbers fairs ids (path_text path.now) (view fair.now) (view set.now))) }
 {
-    let fair = read_below(alloc, &Path::Index(path, 0), u64::from(fairs), fair)?;
-    let set = read_below(alloc, &Path::Index(path, 1), ids, set)?;
+    let fair = given!(read_below(alloc, &Path::Index(path, 0), u64::from(fairs), fair));
+    let set = given!(read_below(alloc, &Path::Index(path, 1), ids, set));
     Ok(Rank {
         fair: fair as u32,
         set,

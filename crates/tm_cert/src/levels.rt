@@ -27,8 +27,10 @@ pub(crate) fn read_levels(
     ensures refused { IfErr result
         (IsRefusalOf (levels_at goals fairs ids (path_text path.now) (view value.now))) }
 {
-    let parts = read_items(alloc, path, value)?;
-    read_each_level(alloc, path, goals, fairs, ids, parts)
+    match read_items(alloc, path, value) {
+        Ok(parts) => read_each_level(alloc, path, goals, fairs, ids, parts),
+        Err(error) => Err(error),
+    }
 }
 
 fn read_each_level(
@@ -46,14 +48,8 @@ fn read_each_level(
 {
     let mut levels = Vec::new(alloc);
     for value in parts {
-        let level = read_level(
-            alloc,
-            &Path::Index(&*path, levels.len()),
-            goals,
-            fairs,
-            ids,
-            value,
-        )?;
+        let place = Path::Index(&*path, levels.len());
+        let level = given!(read_level(alloc, &place, goals, fairs, ids, value), levels);
         levels.push(level)?;
     }
     Ok(levels)
@@ -74,19 +70,21 @@ fn read_level(
     ensures refused { IfErr result
         (IsRefusalOf (level_at goals fairs ids (path_text path.now) (view value.now))) }
 {
-    let members = read_members(alloc, path, value)?;
-    let chains_path = Path::Member(path, "chains");
-    let chains = read_value(alloc, &chains_path, members, "chains")?;
-    let chains = read_chains(alloc, &chains_path, fairs, ids, chains)?;
-    let goal = read_key(
-        alloc,
-        &Path::Member(path, "goal"),
-        members,
-        "goal",
-        u64::from(goals),
-    )?;
-    let set = read_key(alloc, &Path::Member(path, "set"), members, "set", ids)?;
-    refuse_other(alloc, path, members, &["chains", "goal", "set"])?;
+    let members = given!(read_members(alloc, path, value));
+    let at = Path::Member(path, "chains");
+    let chains = given!(read_value(alloc, &at, members, "chains"));
+    let chains = given!(read_chains(alloc, &at, fairs, ids, chains));
+    let at = Path::Member(path, "goal");
+    let goal = given!(
+        read_key(alloc, &at, members, "goal", u64::from(goals)),
+        chains
+    );
+    let at = Path::Member(path, "set");
+    let set = given!(read_key(alloc, &at, members, "set", ids), chains);
+    given!(
+        refuse_other(alloc, path, members, &["chains", "goal", "set"]),
+        chains
+    );
     Ok(CertLevel {
         goal: goal as u32,
         set,
@@ -108,8 +106,10 @@ pub(crate) fn read_key(
     ensures refused { IfErr result (IsRefusalOf
         (number_of_key limit (path_text path.now) key.now (members_view members.now.entries))) }
 {
-    let value = read_value(alloc, path, members, key)?;
-    read_below(alloc, path, limit, value)
+    match read_value(alloc, path, members, key) {
+        Ok(value) => read_below(alloc, path, limit, value),
+        Err(error) => Err(error),
+    }
 }
 
 /// The chains of a level, one for each fairness condition.
@@ -126,8 +126,10 @@ fn read_chains(
     ensures refused { IfErr result
         (IsRefusalOf (chains_at fairs ids (path_text path.now) (view value.now))) }
 {
-    let parts = read_counted(alloc, path, fairs, value)?;
-    read_each_chain(alloc, path, ids, parts)
+    match read_counted(alloc, path, fairs, value) {
+        Ok(parts) => read_each_chain(alloc, path, ids, parts),
+        Err(error) => Err(error),
+    }
 }
 
 fn read_each_chain(
@@ -144,7 +146,8 @@ fn read_each_chain(
 {
     let mut chains = Vec::new(alloc);
     for value in parts {
-        let chain = read_chain(alloc, &Path::Index(&*path, chains.len()), ids, value)?;
+        let place = Path::Index(&*path, chains.len());
+        let chain = given!(read_chain(alloc, &place, ids, value), chains);
         chains.push(chain)?;
     }
     Ok(chains)
@@ -163,8 +166,10 @@ fn read_chain(
     ensures refused { IfErr result
         (IsRefusalOf (chain_at ids (path_text path.now) (view value.now))) }
 {
-    let parts = read_items(alloc, path, value)?;
-    read_each_id(alloc, path, ids, parts)
+    match read_items(alloc, path, value) {
+        Ok(parts) => read_each_id(alloc, path, ids, parts),
+        Err(error) => Err(error),
+    }
 }
 
 fn read_each_id(
@@ -180,7 +185,8 @@ fn read_each_id(
 {
     let mut chain = Vec::new(alloc);
     for value in parts {
-        let id = read_below(alloc, &Path::Index(&*path, chain.len()), ids, value)?;
+        let place = Path::Index(&*path, chain.len());
+        let id = given!(read_below(alloc, &place, ids, value), chain);
         chain.push(id)?;
     }
     Ok(chain)

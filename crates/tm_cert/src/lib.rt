@@ -1,6 +1,19 @@
 //! Certificates as JSON, read and written.
 #![tactic(auto)]
 
+/// What a call gives. Its error ends the function, and what that holds is dropped whole, not part by part.
+macro_rules! given {
+    ($result:expr $(, $held:ident)*) => {
+        match $result {
+            Ok(given) => given,
+            Err(error) => {
+                $(drop($held);)*
+                return Err(error);
+            }
+        }
+    };
+}
+
 mod cert;
 mod goals;
 pub mod head;

@@ -1,8 +1,8 @@
 //! The nodes of the diagrams.
-ghost use Rattle.std.specs.Prelude.{◌≡◌, [], ◌∷◌, ◌++◌, Ok, Some, None, IfOk, IfErr, if◌then◌else◌};
+ghost use Rattle.std.specs.Prelude.{◌≡◌, [], ◌∷◌, ◌++◌, Ok, Some, None, IfOk, IfErr, OnOk, if◌then◌else◌};
 ghost use Rattle.serde_json.specs.View.{view, items_view};
 ghost use Rattle.tm_cert.specs.Judged.{and_then, each, IsRefusalOf};
-ghost use Rattle.tm_cert.specs.Nodes.{entry_at, is_above_child, is_over, nodes_at, three_at, three_numbers};
+ghost use Rattle.tm_cert.specs.Nodes.{entry_at, is_above_child, is_over, new_node, nodes_at, three_at, three_numbers};
 ghost use Rattle.tm_cert.specs.Part.{items_at};
 ghost use Rattle.tm_cert.specs.Path.{path_text};
 ghost use Rattle.tm_cert.specs.Three.{entry_of};
@@ -15,6 +15,11 @@ use crate::refusal::{BadCert, ReadCertError};
 use indexmap::IndexSet;
 use serde_json::Value;
 use std::alloc::Global;
+use std::hash::BuildHasherDefault;
+use tm_dd::NumberHasher;
+
+/// The entries so far, each once.
+type Entries = IndexSet<Entry, BuildHasherDefault<NumberHasher>>;
 
 /// The numbers of an entry, as they stand in the list.
 #[derive(Clone, Copy)]
@@ -36,8 +41,10 @@ pub(crate) fn read_nodes(
         (λ nodes. nodes_at (path_text path.now) bits (view value.now) ≡ Ok nodes.items) }
     ensures refused { IfErr result (IsRefusalOf (nodes_at (path_text path.now) bits (view value.now))) }
 {
-    let entries = read_items(alloc, path, value)?;
-    read_entries(alloc, path, bits, entries)
+    match read_items(alloc, path, value) {
+        Ok(entries) => read_entries(alloc, path, bits, entries),
+        Err(error) => Err(error),
+    }
 }
 
 /// The entries in a list.
@@ -52,9 +59,13 @@ fn read_entries(
     ensures refused { IfErr result
         (IsRefusalOf (each (entry_at (path_text path.now) bits) [] (items_view entries.now))) }
 {
-    let mut nodes = IndexSet::new(alloc);
+    let mut nodes = Entries::with_capacity_and_hasher(
+        alloc,
+        entries.len(),
+        BuildHasherDefault::new(),
+    )?;
     for value in entries {
-        read_entry(alloc, path, bits, &mut nodes, value)?;
+        given!(read_entry(alloc, path, bits, &mut nodes, value), nodes);
     }
     Ok(nodes.into_iter().collect(alloc)?)
 }
@@ -64,7 +75,7 @@ fn read_entry(
     alloc: Global,
     path: &Path<'_>,
     bits: u32,
-    nodes: &mut IndexSet<Entry>,
+    nodes: &mut Entries,
     value: &Value,
 ) -> Result<(), ReadCertError>
     ensures ok { IfOk result (λ _. (entry : EntryData)
@@ -73,11 +84,26 @@ fn read_entry(
     ensures refused { IfErr result
         (IsRefusalOf (entry_at (path_text path.now) bits nodes.old.keys (view value.now))) }
 {
-    let three = read_three(alloc, &Path::Index(path, nodes.len()), value)?;
+    match read_three(alloc, &Path::Index(path, nodes.len()), value) {
+        Ok(three) => put_entry(bits, nodes, three),
+        Err(error) => Err(error),
+    }
+}
+
+/// Adds the entry of these numbers to those before it, if it is a new node over them.
+fn put_entry(bits: u32, nodes: &mut Entries, three: Three) -> Result<(), ReadCertError>
+    ensures ok { OnOk result ((new_node bits nodes.old.keys (entry_of three) ≡ Ok (entry_of three))
+        × (nodes.new.keys ≡ nodes.old.keys ++ entry_of three ∷ [])) }
+    ensures refused { IfErr result (IsRefusalOf (new_node bits nodes.old.keys (entry_of three))) }
+{
     let id = nodes.len() as u64 + 2;
     match entry_over(bits, nodes, three) {
-        Some(entry) if nodes.insert(entry)? => Ok(()),
-        _ => Err(ReadCertError::Bad(BadCert::Node(id))),
+        Some(entry) => match nodes.insert(entry) {
+            Ok(true) => Ok(()),
+            Ok(false) => Err(ReadCertError::Bad(BadCert::Node(id))),
+            Err(_) => Err(ReadCertError::Memory),
+        },
+        None => Err(ReadCertError::Bad(BadCert::Node(id))),
     }
 }
 
@@ -90,11 +116,13 @@ fn read_three(alloc: Global, path: &Path<'_>, value: &Value) -> Result<Three, Re
     ensures refused { IfErr result (IsRefusalOf
         (and_then (items_at (path_text path.now) (view value.now)) (three_at (path_text path.now)))) }
 {
-    let parts = read_items(alloc, path, value)?;
-    if parts.len() != 3 {
-        return Err(wrong_shape(alloc, path));
+    match read_items(alloc, path, value) {
+        Ok(parts) if parts.len() == 3 => {
+            read_numbers(alloc, path, &parts[0], &parts[1], &parts[2])
+        }
+        Ok(_) => Err(wrong_shape(alloc, path)),
+        Err(error) => Err(error),
     }
-    read_numbers(alloc, path, &parts[0], &parts[1], &parts[2])
 }
 
 fn read_numbers(
@@ -110,14 +138,14 @@ fn read_numbers(
         (three_numbers (path_text path.now) (view level.now) (view lo.now) (view hi.now))) }
 {
     Ok(Three {
-        level: read_number(alloc, &Path::Index(path, 0), level)?,
-        lo: read_number(alloc, &Path::Index(path, 1), lo)?,
-        hi: read_number(alloc, &Path::Index(path, 2), hi)?,
+        level: given!(read_number(alloc, &Path::Index(path, 0), level)),
+        lo: given!(read_number(alloc, &Path::Index(path, 1), lo)),
+        hi: given!(read_number(alloc, &Path::Index(path, 2), hi)),
     })
 }
 
 /// The entry of these numbers, if it is a node over those before it.
-fn entry_over(bits: u32, nodes: &IndexSet<Entry>, three: Three) -> Option<Entry>
+fn entry_over(bits: u32, nodes: &Entries, three: Three) -> Option<Entry>
     ensures { result
         ≡ (if is_over bits nodes.now.keys (entry_of three) then Some (entry_of three) else None) }
 {
@@ -140,7 +168,7 @@ fn entry_over(bits: u32, nodes: &IndexSet<Entry>, three: Three) -> Option<Entry>
 }
 
 /// Whether the level is above that of a child, if the child is no constant.
-fn is_above_child(nodes: &IndexSet<Entry>, level: u64, id: u64) -> bool
+fn is_above_child(nodes: &Entries, level: u64, id: u64) -> bool
     ensures { result ≡ is_above_child nodes.now.keys level id }
 {
     if id < 2 {

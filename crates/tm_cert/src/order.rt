@@ -24,8 +24,10 @@ pub(crate) fn read_order(
         (λ order. order_at (path_text path.now) bits (view value.now) ≡ Ok order.items) }
     ensures refused { IfErr result (IsRefusalOf (order_at (path_text path.now) bits (view value.now))) }
 {
-    let places = read_counted(alloc, path, bits, value)?;
-    read_places(alloc, path, bits, places)
+    match read_counted(alloc, path, bits, value) {
+        Ok(places) => read_places(alloc, path, bits, places),
+        Err(error) => Err(error),
+    }
 }
 
 /// The places in a list, each for the first time.
@@ -42,7 +44,7 @@ fn read_places(
 {
     let mut order = IndexSet::new(alloc);
     for value in places {
-        read_place(alloc, path, bits, &mut order, value)?;
+        given!(read_place(alloc, path, bits, &mut order, value), order);
     }
     Ok(order.into_iter().collect(alloc)?)
 }
@@ -62,10 +64,10 @@ fn read_place(
         (IsRefusalOf (place_at (path_text path.now) bits order.old.keys (view value.now))) }
 {
     let path = Path::Index(path, order.len());
-    let place = read_below(alloc, &path, u64::from(bits), value)?;
-    if order.insert(place as u32)? {
-        Ok(())
-    } else {
-        Err(out_of_range(alloc, &path))
+    let place = given!(read_below(alloc, &path, u64::from(bits), value));
+    match order.insert(place as u32) {
+        Ok(true) => Ok(()),
+        Ok(false) => Err(out_of_range(alloc, &path)),
+        Err(_) => Err(ReadCertError::Memory),
     }
 }

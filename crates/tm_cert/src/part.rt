@@ -65,11 +65,10 @@ pub(crate) fn read_below(
     ensures refused { IfErr result
         (IsRefusalOf (number_below_at (path_text path.now) limit (view value.now))) }
 {
-    let number = read_number(alloc, path, value)?;
-    if number < limit {
-        Ok(number)
-    } else {
-        Err(out_of_range(alloc, path))
+    match read_number(alloc, path, value) {
+        Ok(number) if number < limit => Ok(number),
+        Ok(_) => Err(out_of_range(alloc, path)),
+        Err(error) => Err(error),
     }
 }
 
@@ -102,11 +101,10 @@ pub(crate) fn read_counted<'v>(
     ensures refused { IfErr result
         (IsRefusalOf (counted_items_at (path_text path.now) count (view value.now))) }
 {
-    let items = read_items(alloc, path, value)?;
-    if items.len() == count as usize {
-        Ok(items)
-    } else {
-        Err(out_of_range(alloc, path))
+    match read_items(alloc, path, value) {
+        Ok(items) if items.len() == count as usize => Ok(items),
+        Ok(_) => Err(out_of_range(alloc, path)),
+        Err(error) => Err(error),
     }
 }
 

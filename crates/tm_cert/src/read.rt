@@ -68,12 +68,12 @@ fn read_cert_value(alloc: Global, shape: CertShape, value: &Value) -> Result<Cer
     ensures ok { IfOk result (λ cert. judge shape (view value.now) ≡ Ok cert) }
     ensures refused { IfErr result (IsRefusalOf (judge shape (view value.now))) }
 {
-    let members = read_members(alloc, &Path::Key("format"), value)?;
-    let format = read_format(alloc, members)?;
-    let side = read_side(alloc, shape.wanted, members)?;
-    read_bits(alloc, shape.bits, members)?;
-    let order = read_order_of(alloc, format, shape.bits, members)?;
-    let nodes = read_nodes_of(alloc, shape.bits, members)?;
+    let members = given!(read_members(alloc, &Path::Key("format"), value));
+    let format = given!(read_format(alloc, members));
+    let side = given!(read_side(alloc, shape.wanted, members));
+    given!(read_bits(alloc, shape.bits, members));
+    let order = given!(read_order_of(alloc, format, shape.bits, members));
+    let nodes = given!(read_nodes_of(alloc, shape.bits, members), order);
     match side {
         Side::Driver => read_driver(alloc, shape, format, order, nodes, members),
         Side::Environment => read_environment(alloc, shape, format, order, nodes, members),
@@ -88,11 +88,12 @@ fn read_format(alloc: Global, members: &Map<String, Value>) -> Result<Format, Re
         (IsRefusalOf (of_key (codes "format") format_at (members_view members.now.entries))) }
 {
     let path = Path::Key("format");
-    let value = read_value(alloc, &path, members, "format")?;
-    match read_number(alloc, &path, value)? {
-        1 => Ok(Format::First),
-        2 => Ok(Format::Second),
-        _ => Err(out_of_range(alloc, &path)),
+    let value = given!(read_value(alloc, &path, members, "format"));
+    match read_number(alloc, &path, value) {
+        Ok(1) => Ok(Format::First),
+        Ok(2) => Ok(Format::Second),
+        Ok(_) => Err(out_of_range(alloc, &path)),
+        Err(error) => Err(error),
     }
 }
 
@@ -108,7 +109,7 @@ fn read_side(
         (IsRefusalOf (of_key (codes "kind") (side_at wanted) (members_view members.now.entries))) }
 {
     let path = Path::Key("kind");
-    let value = read_value(alloc, &path, members, "kind")?;
+    let value = given!(read_value(alloc, &path, members, "kind"));
     match value.as_str() {
         Some("driver") if wanted != Kind::Environment => Ok(Side::Driver),
         Some("environment") if wanted != Kind::Driver => Ok(Side::Environment),
@@ -124,11 +125,11 @@ fn read_bits(alloc: Global, bits: u32, members: &Map<String, Value>) -> Result<(
         (IsRefusalOf (of_key (codes "bits") (bits_at bits) (members_view members.now.entries))) }
 {
     let path = Path::Key("bits");
-    let value = read_value(alloc, &path, members, "bits")?;
-    if read_number(alloc, &path, value)? == u64::from(bits) {
-        Ok(())
-    } else {
-        Err(out_of_range(alloc, &path))
+    let value = given!(read_value(alloc, &path, members, "bits"));
+    match read_number(alloc, &path, value) {
+        Ok(number) if number == u64::from(bits) => Ok(()),
+        Ok(_) => Err(out_of_range(alloc, &path)),
+        Err(error) => Err(error),
     }
 }
 
@@ -148,7 +149,7 @@ fn read_order_of(
         Format::First => Ok(places_in_order(alloc, bits)?),
         Format::Second => {
             let path = Path::Key("order");
-            let value = read_value(alloc, &path, members, "order")?;
+            let value = given!(read_value(alloc, &path, members, "order"));
             read_order(alloc, &path, bits, value)
         }
     }
@@ -174,8 +175,10 @@ fn read_nodes_of(
         (of_key (codes "nodes") (λ path. nodes_at path bits) (members_view members.now.entries))) }
 {
     let path = Path::Key("nodes");
-    let value = read_value(alloc, &path, members, "nodes")?;
-    read_nodes(alloc, &path, bits, value)
+    match read_value(alloc, &path, members, "nodes") {
+        Ok(value) => read_nodes(alloc, &path, bits, value),
+        Err(error) => Err(error),
+    }
 }
 
 /// The driver's certificate of this order and these nodes.
@@ -194,11 +197,17 @@ fn read_driver(
         (driver_of shape format order.items nodes.items (members_view members.now.entries))) }
 {
     let ids = nodes.len() as u64 + 2;
-    let region = read_key(alloc, &Path::Key("region"), members, "region", ids)?;
+    let path = Path::Key("region");
+    let region = given!(read_key(alloc, &path, members, "region", ids), order, nodes);
     let path = Path::Key("goals");
-    let goals = read_value(alloc, &path, members, "goals")?;
-    let goals = read_goals(alloc, &path, shape.goals, shape.fairs, ids, goals)?;
-    refuse_unknown(alloc, members, known_keys(format, Side::Driver))?;
+    let goals = given!(read_value(alloc, &path, members, "goals"), order, nodes);
+    let goals = given!(
+        read_goals(alloc, &path, shape.goals, shape.fairs, ids, goals),
+        order,
+        nodes
+    );
+    let keys = known_keys(format, Side::Driver);
+    given!(refuse_unknown(alloc, members, keys), order, nodes, goals);
     Ok(Cert::Driver(DriverCert {
         order,
         nodes,
@@ -223,10 +232,15 @@ fn read_environment(
         (environment_of shape format order.items nodes.items (members_view members.now.entries))) }
 {
     let path = Path::Key("levels");
-    let levels = read_value(alloc, &path, members, "levels")?;
+    let levels = given!(read_value(alloc, &path, members, "levels"), order, nodes);
     let ids = nodes.len() as u64 + 2;
-    let levels = read_levels(alloc, &path, shape.goals, shape.fairs, ids, levels)?;
-    refuse_unknown(alloc, members, known_keys(format, Side::Environment))?;
+    let levels = given!(
+        read_levels(alloc, &path, shape.goals, shape.fairs, ids, levels),
+        order,
+        nodes
+    );
+    let keys = known_keys(format, Side::Environment);
+    given!(refuse_unknown(alloc, members, keys), order, nodes, levels);
     Ok(Cert::Environment(EnvCert {
         order,
         nodes,

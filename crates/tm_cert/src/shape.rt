@@ -1,7 +1,7 @@
 //! What a certificate has to fit.
 
 /// The kind of certificate that a command wants.
-#[derive(Clone, Copy, PartialEq, Eq, Debug)]
+#[derive(Clone, Copy, PartialEq, Eq)]
 pub enum Kind {
     Driver,
     Environment,
@@ -9,7 +9,7 @@ pub enum Kind {
 }
 
 /// The numbers of a design that its certificates speak of, and the kind of certificate that is wanted.
-#[derive(Clone, Copy, Debug)]
+#[derive(Clone, Copy)]
 pub struct CertShape {
     /// How many state bits.
     pub bits: u32,

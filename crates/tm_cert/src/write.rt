@@ -1,13 +1,13 @@
 //! From a certificate to its text.
-ghost use Rattle.std.specs.Prelude.{◌≡◌, map, IfOk};
-ghost use Rattle.serde_json.specs.View.{view};
-ghost use Rattle.serde_json.specs.Data.{Data};
+ghost use Rattle.std.specs.Prelude.{◌≡◌, map, codes, IfOk};
+ghost use Rattle.serde_json.specs.View.{view, members_view};
+ghost use Rattle.serde_json.specs.Data.{Data, Members, member, no_members, object, put};
 ghost use Rattle.tm_cert.specs.CertValue.{IsCert, IsCertText};
 ghost use Rattle.tm_cert.specs.declared.shape.CertShape.{CertShape};
 ghost use Rattle.tm_cert.specs.Written.{cert_data, cert_text, driver_data, entry_data, environment_data, goal_data, level_data, list_data, number_data, rank_data};
 
 use crate::cert::{Cert, CertLevel, DriverCert, Entry, EnvCert, Rank};
-use serde_json::{Value, json};
+use serde_json::{Map, Value, put};
 use std::alloc::{AllocError, Global};
 
 /// The text of a certificate for a design of so many state bits: JSON in format 2, without blanks, the keys of each
@@ -33,40 +33,66 @@ fn cert_value(alloc: Global, bits: u32, cert: &Cert) -> Result<Value, AllocError
     }
 }
 
-#[tactic(auto, unfolding(crate::specs::Written::driver_data))]
 fn driver_value(alloc: Global, bits: u32, cert: &DriverCert) -> Result<Value, AllocError>
     ensures { IfOk result (λ value. view value ≡ driver_data bits cert.now) }
 {
-    let goals = goals_value(alloc, &cert.goals)?;
-    let nodes = nodes_value(alloc, &cert.nodes)?;
-    let order = order_value(alloc, &cert.order)?;
-    let region = cert.region;
-    json!(in alloc; {
-        "bits": bits,
-        "format": 2u32,
-        "goals": goals,
-        "kind": "driver",
-        "nodes": nodes,
-        "order": order,
-        "region": region
-    })
+    let members = first_members(alloc, bits);
+    let members = with(alloc, members, "goals", goals_value(alloc, &cert.goals));
+    let members = with(alloc, members, "kind", Value::try_from_str(alloc, "driver"));
+    let members = with(alloc, members, "nodes", nodes_value(alloc, &cert.nodes));
+    let members = with(alloc, members, "order", order_value(alloc, &cert.order));
+    object(with(alloc, members, "region", Ok(Value::from(cert.region))))
 }
 
-#[tactic(auto, unfolding(crate::specs::Written::environment_data))]
 fn environment_value(alloc: Global, bits: u32, cert: &EnvCert) -> Result<Value, AllocError>
     ensures { IfOk result (λ value. view value ≡ environment_data bits cert.now) }
 {
-    let levels = levels_value(alloc, &cert.levels)?;
-    let nodes = nodes_value(alloc, &cert.nodes)?;
-    let order = order_value(alloc, &cert.order)?;
-    json!(in alloc; {
-        "bits": bits,
-        "format": 2u32,
-        "kind": "environment",
-        "levels": levels,
-        "nodes": nodes,
-        "order": order
-    })
+    let members = first_members(alloc, bits);
+    let members = with(
+        alloc,
+        members,
+        "kind",
+        Value::try_from_str(alloc, "environment"),
+    );
+    let members = with(alloc, members, "levels", levels_value(alloc, &cert.levels));
+    let members = with(alloc, members, "nodes", nodes_value(alloc, &cert.nodes));
+    object(with(alloc, members, "order", order_value(alloc, &cert.order)))
+}
+
+/// The members with which both kinds of certificate begin.
+fn first_members(alloc: Global, bits: u32) -> Result<Map<String, Value>, AllocError>
+    ensures { IfOk result (λ members. members_view members.entries
+        ≡ member (codes "bits") (number_data bits) (member (codes "format") (number_data 2) no_members)) }
+{
+    let members = with(alloc, Ok(Map::new(alloc)), "bits", Ok(Value::from(bits)));
+    with(alloc, members, "format", Ok(Value::from(2u32)))
+}
+
+/// The members of an object and one more. What memory lacked for stays an error, so a caller hands on one result.
+fn with(
+    alloc: Global,
+    members: Result<Map<String, Value>, AllocError>,
+    key: &str,
+    value: Result<Value, AllocError>,
+) -> Result<Map<String, Value>, AllocError>
+    ensures { (ms : Members) (d : Data) → IfOk members (λ m. members_view m.entries ≡ ms)
+        → IfOk value (λ v. view v ≡ d) → IfOk result (λ m. members_view m.entries ≡ put key.now d ms) }
+{
+    let mut members = given!(members, value);
+    let value = given!(value, members);
+    given!(put(&mut members, alloc, key, value), members);
+    Ok(members)
+}
+
+/// The object of these members.
+fn object(members: Result<Map<String, Value>, AllocError>) -> Result<Value, AllocError>
+    ensures { (ms : Members) → IfOk members (λ m. members_view m.entries ≡ ms)
+        → IfOk result (λ v. view v ≡ object ms) }
+{
+    match members {
+        Ok(members) => Ok(Value::Object(members)),
+        Err(error) => Err(error),
+    }
 }
 
 fn order_value(alloc: Global, order: &[u32]) -> Result<Value, AllocError>
@@ -92,8 +118,12 @@ fn nodes_value(alloc: Global, nodes: &[Entry]) -> Result<Value, AllocError>
 fn entry_value(alloc: Global, entry: Entry) -> Result<Value, AllocError>
     ensures { IfOk result (λ value. view value ≡ entry_data entry) }
 {
-    let Entry { level, lo, hi } = entry;
-    json!(in alloc; [level, lo, hi])
+    let numbers = [
+        Value::from(entry.level),
+        Value::from(entry.lo),
+        Value::from(entry.hi),
+    ];
+    Ok(Value::Array(Vec::from_array(alloc, numbers)?))
 }
 
 fn goals_value(alloc: Global, goals: &[Vec<Rank>]) -> Result<Value, AllocError>
@@ -110,8 +140,8 @@ fn goals_value(alloc: Global, goals: &[Vec<Rank>]) -> Result<Value, AllocError>
 fn goal_value(alloc: Global, ranks: &[Rank]) -> Result<Value, AllocError>
     ensures { IfOk result (λ value. view value ≡ goal_data ranks.now) }
 {
-    let ranks = ranks_value(alloc, ranks)?;
-    json!(in alloc; {"ranks": ranks})
+    let members = Ok(Map::new(alloc));
+    object(with(alloc, members, "ranks", ranks_value(alloc, ranks)))
 }
 
 fn ranks_value(alloc: Global, ranks: &[Rank]) -> Result<Value, AllocError>
@@ -127,8 +157,8 @@ fn ranks_value(alloc: Global, ranks: &[Rank]) -> Result<Value, AllocError>
 fn rank_value(alloc: Global, rank: Rank) -> Result<Value, AllocError>
     ensures { IfOk result (λ value. view value ≡ rank_data rank) }
 {
-    let Rank { fair, set } = rank;
-    json!(in alloc; [fair, set])
+    let numbers = [Value::from(rank.fair), Value::from(rank.set)];
+    Ok(Value::Array(Vec::from_array(alloc, numbers)?))
 }
 
 fn levels_value(alloc: Global, levels: &[CertLevel]) -> Result<Value, AllocError>
@@ -144,10 +174,10 @@ fn levels_value(alloc: Global, levels: &[CertLevel]) -> Result<Value, AllocError
 fn level_value(alloc: Global, level: &CertLevel) -> Result<Value, AllocError>
     ensures { IfOk result (λ value. view value ≡ level_data level.now) }
 {
-    let chains = chains_value(alloc, &level.chains)?;
-    let goal = level.goal;
-    let set = level.set;
-    json!(in alloc; {"chains": chains, "goal": goal, "set": set})
+    let members = Ok(Map::new(alloc));
+    let members = with(alloc, members, "chains", chains_value(alloc, &level.chains));
+    let members = with(alloc, members, "goal", Ok(Value::from(level.goal)));
+    object(with(alloc, members, "set", Ok(Value::from(level.set))))
 }
 
 fn chains_value(alloc: Global, chains: &[Vec<u64>]) -> Result<Value, AllocError>
