@@ -1,6 +1,5 @@
 -- What the tables of a scope say.
 use Rattle.std.specs.Prelude.{◌≡◌, ℕ, Option, List, map, nat_eq}
-use Rattle.std.specs.Borrow.{Bor}
 use Rattle.std.specs.List.{filter}
 use Rattle.std.specs.Map.{lookup}
 use Rattle.std.specs.Option.{option_map, option_or}
@@ -10,6 +9,8 @@ use Rattle.tm_syntax.specs.Scopes.Names.{is_spelled}
 use Rattle.tm_syntax.specs.Scopes.Declared as text
 use Rattle.tm_syntax.specs.Faults.Marks.{Mark, named, first_mark}
 use Rattle.tm_syntax.specs.Faults.Names.{later_name, repeats}
+use Rattle.tm_scope.specs.declared.names.name_key.NameKey.{NameKey}
+use Rattle.tm_scope.specs.Directory.{key_bytes}
 use Rattle.tm_names.specs.declared.sorts.sort.Declared.{Declared}
 use Rattle.tm_names.specs.declared.scopes.mark.NameMark.{NameMark}
 use Rattle.tm_names.specs.declared.scopes.names.Names.{Names}
@@ -17,8 +18,8 @@ use Rattle.tm_names.specs.declared.scopes.scope.Scope.{Scope}
 use Rattle.tm_names.specs.Sorts.{declared_of, first_declared}
 
 -- the declaration that stands beside the first entry of this name
-abbrev pub found : List (Bor (List ℕ) × Declared) → List ℕ → Option text.Declared
-found entries name = option_map declared_of (lookup (λ (key : Bor (List ℕ)). pointwise nat_eq name key.now) entries)
+abbrev pub found : List (NameKey × Declared) → List ℕ → Option text.Declared
+found entries name = option_map declared_of (lookup (λ key. pointwise nat_eq name (key_bytes key)) entries)
 
 -- a fault at a name
 abbrev pub mark_of : NameMark → Mark

@@ -109,8 +109,7 @@ pub fn names<'a>(alloc: Global, text: &[u8], by: Sign, tokens: &'a [Token]) -> R
         (IsRefused (AnyOf (λ _. AreParted by (IsName text.now))) (GoesOn by Nothing) tokens.now) }
 {
     let (first, rest) = read!(name(alloc, text, tokens));
-    let mut names = Vec::new(alloc);
-    names.push(first)?;
+    let mut names = vec![in alloc; first]?;
     let mut rest = rest;
     while let Some((_, behind)) = mark(rest, TokenKind::Sign(by)) {
         let (next, behind) = read!(name(alloc, text, behind));

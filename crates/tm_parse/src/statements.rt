@@ -1,6 +1,6 @@
 //! Readers of statements. They descend only where a level is opened.
 
-ghost use Rattle.std.specs.Prelude.{◌≡◌, ◌+◌, ◌<◌, ◌≤◌, map, length, Some, IfOk, IfErr, None};
+ghost use Rattle.std.specs.Prelude.{◌≡◌, ◌+◌, ◌<◌, ◌≤◌, ◌++◌, [], ◌∷◌, map, length, Some, IfOk, IfErr, OnOk, None};
 ghost use Rattle.std.specs.Option.{option_map};
 ghost use Rattle.tm_syntax.specs.declared.token.TokenKind.TheVariants as token;
 ghost use Rattle.tm_syntax.specs.declared.token.Word.TheVariants as word;
@@ -14,7 +14,7 @@ ghost use Rattle.tm_parse.specs.Commands.{GoesAt, row_tree, AreExprs, AreArgs, A
 use crate::expressions::{enclosed, expr, expr_from, place_from};
 use crate::leaves::path;
 use crate::marks::{Read, first_kind, mark, need, open};
-use std::alloc::Global;
+use std::alloc::{AllocError, Global};
 use tm_base::Place;
 use tm_syntax::token::{Sign, Token, TokenKind, Word};
 use tm_syntax::tree::{Expr, Path, Stmt, Value};
@@ -67,8 +67,7 @@ fn exprs<'a>(alloc: Global, text: &[u8], depth: u8, tokens: &'a [Token]) -> Read
         (IsRefused (AnyOf (AreExprs text.now depth)) (GoesOn sign.Comma (GoesExpr 0)) tokens.now) }
 {
     let (first, rest) = read!(expr(alloc, text, depth, tokens));
-    let mut exprs = Vec::new(alloc);
-    exprs.push(first)?;
+    let mut exprs = vec![in alloc; first]?;
     let mut rest = rest;
     while let Some((_, behind)) = mark(rest, TokenKind::Sign(Sign::Comma)) {
         let (next, behind) = read!(expr(alloc, text, depth, behind));
@@ -271,6 +270,17 @@ fn stmt_sort(tokens: &[Token]) -> Option<StmtSort>
     }
 }
 
+/// Puts a statement behind others. The first one gets room for itself alone: many blocks hold no other.
+fn push_stmt(stmts: &mut Vec<Stmt>, stmt: Stmt) -> Result<(), AllocError>
+    ensures { OnOk result (stmts.new.items ≡ stmts.old.items ++ stmt ∷ []) }
+{
+    if stmts.is_empty() {
+        stmts.reserve_exact(1)?;
+    }
+    stmts.push(stmt)?;
+    Ok(())
+}
+
 /// Statements, as many as stand here.
 #[cycle(statement)]
 pub fn stmts<'a>(alloc: Global, text: &[u8], depth: u8, tokens: &'a [Token]) -> Read<'a, Vec<Stmt>>
@@ -285,7 +295,7 @@ pub fn stmts<'a>(alloc: Global, text: &[u8], depth: u8, tokens: &'a [Token]) -> 
     let mut rest = tokens;
     while let Some(sort) = stmt_sort(rest) {
         let (stmt, behind) = read!(stmt(alloc, text, depth, sort, rest));
-        stmts.push(stmt)?;
+        push_stmt(&mut stmts, stmt)?;
         rest = behind;
     }
     Ok((stmts, rest))
@@ -419,8 +429,7 @@ fn else_from<'a>(alloc: Global, text: &[u8], depth: u8, tokens: &'a [Token]) -> 
     }
     let (_, rest) = read!(open(depth, tokens, TokenKind::Word(Word::If)));
     let (stmt, rest) = read!(if_from(alloc, text, depth + 1, rest));
-    let mut branch = Vec::new(alloc);
-    branch.push(stmt)?;
+    let branch = vec![in alloc; stmt]?;
     Ok((branch, rest))
 }
 

@@ -1,33 +1,34 @@
 -- What a directory finds after a name is noted.
-use Rattle.std.proofs.Common.{◌≡◌, ℕ, Bool, true, false, cond, Option, None, Some, List, [], ◌∷◌, map, nat_eq, Bor, is_some, refl, sym, ap, ◌∙◌, true≢false}
+use Rattle.std.proofs.Common.{◌≡◌, ℕ, Bool, true, false, cond, Option, None, Some, List, [], ◌∷◌, map, nat_eq, is_some, refl, sym, ap, ◌∙◌, true≢false}
 use Rattle.std.specs.Option.{option_or}
 use Rattle.std.specs.Cmp.Lexicographic.{pointwise, bytes_decides}
 use Rattle.std.specs.Map.{lookup}
-use Rattle.tm_scope.specs.Directory.{index_of}
+use Rattle.tm_scope.specs.declared.names.name_key.NameKey.{NameKey}
+use Rattle.tm_scope.specs.Directory.{index_of, key_bytes}
 
 -- the entries as contracts see them
-abbrev pub seen : List (Bor (List ℕ) × ℕ) → List (List ℕ × ℕ)
-seen es = map (λ e. (e.0.now, e.1)) es
+abbrev pub seen : List (NameKey × ℕ) → List (List ℕ × ℕ)
+seen es = map (λ e. (key_bytes e.0, e.1)) es
 
 -- the test of a name among the keys
-abbrev pub is_key : List ℕ → Bor (List ℕ) → Bool
-is_key name k = pointwise nat_eq name k.now
+abbrev pub is_key : List ℕ → NameKey → Bool
+is_key name k = pointwise nat_eq name (key_bytes k)
 
-pub index_of-seen : (es : List (Bor (List ℕ) × ℕ)) (name : List ℕ) → index_of (seen es) name ≡ lookup (is_key name) es
+pub index_of-seen : (es : List (NameKey × ℕ)) (name : List ℕ) → index_of (seen es) name ≡ lookup (is_key name) es
 index_of-seen [] name = refl
-index_of-seen (e ∷ es) name = ap (cond (pointwise nat_eq name e.0.now) (Some e.1)) (index_of-seen es name)
+index_of-seen (e ∷ es) name = ap (cond (pointwise nat_eq name (key_bytes e.0)) (Some e.1)) (index_of-seen es name)
 
 -- a name that has no index gets one
-pub index_of-noted : (es fs : List (Bor (List ℕ) × ℕ)) (name : List ℕ) (index : ℕ) →
+pub index_of-noted : (es fs : List (NameKey × ℕ)) (name : List ℕ) (index : ℕ) →
     false ≡ is_some (lookup (is_key name) es) →
-    ((q : Bor (List ℕ)) → lookup (is_key q.now) fs ≡ cond (pointwise nat_eq name q.now) (Some index)
-    (lookup (is_key q.now) es)) →
+    ((q : NameKey) → lookup (is_key (key_bytes q)) fs ≡ cond (pointwise nat_eq name (key_bytes q)) (Some index)
+    (lookup (is_key (key_bytes q)) es)) →
     (other : List ℕ) →
     index_of (seen fs) other ≡ option_or (index_of (seen es) other)
     (cond (pointwise nat_eq other name) (Some index) None)
 index_of-noted es fs name index absent updates other =
     index_of-seen fs other
-    ∙ updates (record { ref_ptr = (0, 0); now = other })
+    ∙ updates (record { bytes = record { ref_ptr = (0, 0); now = other } })
     ∙ by (pointwise nat_eq other name) (pointwise nat_eq name other) refl refl (lookup (is_key other) es) refl
     ∙ ap (λ o. option_or o (cond (pointwise nat_eq other name) (Some index) None)) (sym (index_of-seen es other))
   where

@@ -21,7 +21,7 @@ pub use cells::{CellNumber, CellScope, Cells, SiteBody, ordered_tasks_are_pausin
 pub use context::BodyName;
 pub use graph::{Walked, walk_graph};
 pub use members::{SiteTask, SlotNumber};
-pub use names::Directory;
+pub use names::{Directory, NameKey};
 pub use scopes::{
     BodyScope, Scopes, numbers_lead_where_tasks_are, numbers_lead_where_templates_do,
     numbers_lead_where_variables_are,

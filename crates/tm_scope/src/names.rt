@@ -2,6 +2,8 @@
 
 mod directory;
 mod has_name;
+mod name_key;
 
 pub use directory::Directory;
 pub(crate) use has_name::HasName;
+pub use name_key::NameKey;

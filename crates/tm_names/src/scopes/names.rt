@@ -8,11 +8,12 @@ ghost use Rattle.tm_names.specs.ScopeNames.{found};
 use crate::sorts::Declared;
 use indexmap::IndexMap;
 use std::alloc::{AllocError, Global};
+use tm_scope::NameKey;
 
 /// The declaration of each name of a scope that stands first.
 #[derive(Drop)]
 pub(crate) struct Names<'a> {
-    pub(crate) first: IndexMap<&'a [u8], Declared<'a>>,
+    pub(crate) first: IndexMap<NameKey<'a>, Declared<'a>>,
 }
 
 impl<'a> Names<'a> {
@@ -29,7 +30,10 @@ impl<'a> Names<'a> {
     pub(crate) fn find(&self, name: &[u8]) -> Option<Declared<'a>>
         ensures { option_map declared_of result ≡ found self.now.first.entries name.now }
     {
-        self.first.get(name).copied()
+        if self.first.is_empty() {
+            return None;
+        }
+        self.first.get(NameKey::new(name)).copied()
     }
 
     /// The declaration of a name here, or else in the scope around.
@@ -49,7 +53,7 @@ impl<'a> Names<'a> {
             ≡ (if pointwise nat_eq other name.now then Some (declared_of declared.entry)
             else found self.old.first.entries other)) }
     {
-        self.first.insert(name, declared)?;
+        self.first.insert(NameKey::new(name), declared)?;
         Ok(())
     }
 }

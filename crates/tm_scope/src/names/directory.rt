@@ -6,7 +6,7 @@ ghost use Rattle.std.specs.List.{list_any};
 ghost use Rattle.tm_syntax.specs.Scopes.Names.{is_spelled};
 ghost use Rattle.tm_scope.specs.Directory.{index_of};
 
-use crate::names::HasName;
+use crate::names::{HasName, NameKey};
 use indexmap::IndexMap;
 use std::alloc::{AllocError, Global};
 use std::marker::Model;
@@ -17,15 +17,16 @@ use tm_syntax::tree::Ident;
 /// Contracts see a directory as a list of names with their indices.
 #[derive(Drop)]
 pub struct Directory<'a> {
-    first: IndexMap<&'a [u8], usize>,
+    first: IndexMap<NameKey<'a>, usize>,
 }
 
 impl<'a> Model for Directory<'a> {
     ghost use Rattle.std.specs.Prelude.{ℕ, List, map};
+    ghost use Rattle.tm_scope.specs.Directory.{key_bytes};
 
     ghost Value = { List (List ℕ × ℕ) };
 
-    ghost view = { λ d. map (λ e. (e.0.now, e.1)) d.first.entries };
+    ghost view = { λ d. map (λ e. (key_bytes e.0, e.1)) d.first.entries };
 }
 
 impl<'a> Directory<'a> {
@@ -42,7 +43,10 @@ impl<'a> Directory<'a> {
     pub fn find(&self, name: &[u8]) -> Option<usize>
         ensures { result ≡ index_of self.now name.now }
     {
-        self.first.get(name).copied()
+        if self.first.is_empty() {
+            return None;
+        }
+        self.first.get(NameKey::new(name)).copied()
     }
 
     /// Notes a name at an index. A name that has one keeps it. `AllocError` is want of memory.
@@ -51,8 +55,9 @@ impl<'a> Directory<'a> {
             index_of self.new other ≡ option_or (index_of self.old other)
             (if pointwise nat_eq other name.now then Some index else None)) }
     {
-        if self.first.get(name).is_none() {
-            self.first.insert(name, index)?;
+        let key = NameKey::new(name);
+        if self.first.get(key).is_none() {
+            self.first.insert(key, index)?;
         }
         Ok(())
     }

@@ -160,7 +160,10 @@ impl<'s> BodyScope<'s> {
             ≡ either_type (named_type (context_of self.now) path.now)
             (constant_type (spec_tree self.now.spec) path.now) }
     {
-        either_type(self.named_type(path), self.constant_type(path))
+        match self.named_type(path) {
+            Some(ty) => Some(ty),
+            None => self.constant_type(path),
+        }
     }
 
     /// The length of the array that a path means. A length of 2^64 or more counts as 0.

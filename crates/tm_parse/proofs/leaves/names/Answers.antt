@@ -15,7 +15,7 @@ pub loop-behind-init : goal.loop-behind-init
 loop-behind-init c = record {
   so_far = subst (λ (ns : List Ident).
       SoFar c.args.by (λ _. IsName c.args.text.now) Nothing ns c.args.tokens.now c.in-Ok.read.1.now)
-      (sym (c.in_ok-push.ensures.items ∙ ap (λ ns. ns ++ c.in-Ok.read.0 ∷ []) c.new-names.ensures.items))
+      (sym c.in_ok-names.ensures.items)
       (so_far_one (λ goes. goes) c.in-Ok.ensures.taken);
   shorter = omega (arith, c.in-Ok.ensures.shorter);
 }
@@ -29,7 +29,7 @@ pub loop-behind-preserved : goal.loop-behind-preserved
 loop-behind-preserved c = record {
   so_far = subst (λ (ns : List Ident).
       SoFar c.args.by (λ _. IsName c.args.text.now) Nothing ns c.args.tokens.now c.in-Ok-name.read.1.now)
-      (sym c.in_ok-push-2.ensures.items)
+      (sym c.in_ok-push.ensures.items)
       (so_far_more (λ goes. goes) c.loop-behind.invariant.so_far (without_place c.in-Some.ensures.taken)
       c.in-Ok-name.ensures.taken);
   shorter = omega (arith, c.in-Ok-name.ensures.shorter, c.in-Some.ensures.shorter);

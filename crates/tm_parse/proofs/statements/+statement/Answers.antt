@@ -23,7 +23,7 @@ stmts-loop-sort-preserved t c =
     record {
       so_far = subst (λ (ss : List StmtTree).
           StmtsSoFar c.args.text.now c.args.depth ss c.args.tokens.now c.in-Ok.read.1.now)
-          (sym (ap stmt_trees c.in_ok-push.ensures.items ∙ map_push stmt_tree c.loop-sort.stmts.items
+          (sym (ap stmt_trees c.in_ok-push_stmt.ensures ∙ map_push stmt_tree c.loop-sort.stmts.items
           c.in-Ok.read.0))
           (stmts_next c.in-Some.sort (search rules) c.loop-sort.invariant.so_far c.in-Ok.ensures.taken);
       shorter = omega (arith, c.in-Ok.ensures.shorter);
@@ -103,7 +103,7 @@ else_from-returns-in-Err-if_from-clause-refused t c =
 
 pub else_from-returns-clause-taken : goal.else_from-returns-clause-taken
 else_from-returns-clause-taken t c =
-    rw (c.in_ok-push.ensures.items ∙ ap (λ ss. ss ++ c.in-Ok-if_from.read.0 ∷ []) c.new-branch.ensures.items)
+    rw c.in_ok-branch.ensures.items
     (taken_else_if (search rules) c.in-Ok.ensures.taken c.in-Ok-if_from.ensures.taken)
 
 pub while_stmt-returns-in-Err-clause-refused : goal.while_stmt-returns-in-Err-clause-refused

@@ -19,8 +19,7 @@ pub loop-behind-init : goal.loop-behind-init
 loop-behind-init c = record {
   so_far = subst (λ (es : List ExprTree).
       SoFar sign.Comma (AnExpr c.args.text.now 0 c.args.depth) (GoesExpr 0) es c.args.tokens.now c.in-Ok.read.1.now)
-      (sym (ap expr_trees (c.in_ok-push.ensures.items
-      ∙ ap (λ es. es ++ c.in-Ok.read.0 ∷ []) c.new-exprs.ensures.items)))
+      (sym (ap expr_trees c.in_ok-exprs.ensures.items))
       (so_far_one (listed_exprs c.args.text.now c.args.depth).comma c.in-Ok.ensures.taken);
   shorter = omega (arith, c.in-Ok.ensures.shorter);
 }
@@ -35,7 +34,7 @@ loop-behind-preserved c = record {
   so_far = subst (λ (es : List ExprTree).
       SoFar sign.Comma (AnExpr c.args.text.now 0 c.args.depth) (GoesExpr 0) es c.args.tokens.now
       c.in-Ok-expr.read.1.now)
-      (sym (ap expr_trees c.in_ok-push-2.ensures.items ∙ map_push expr_tree c.loop-behind.exprs.items
+      (sym (ap expr_trees c.in_ok-push.ensures.items ∙ map_push expr_tree c.loop-behind.exprs.items
       c.in-Ok-expr.read.0))
       (so_far_more (listed_exprs c.args.text.now c.args.depth).comma c.loop-behind.invariant.so_far
       (without_place c.in-Some.ensures.taken) c.in-Ok-expr.ensures.taken);
