@@ -31,8 +31,8 @@ use std::alloc::{AllocError, Global};
 /// `region` and `goals` or `levels`, and any other key last; each part before its own parts, and its shape before its
 /// range. `Memory` is want of memory.
 ///
-/// Time and memory are linear in the length of the text. Measured, not proved: a certificate of 16 MiB is made, written
-/// and read within a second, in 20 times its length of memory.
+/// Time and memory are linear in the length of the text, unless entries are picked whose hashes collide. Measured, not
+/// proved: a certificate of 16 MiB is made, written and read within a second, in 20 times its length of memory.
 #[tactic(auto, unfolding(crate::specs::Judge::judge_text))]
 pub fn read_shaped(alloc: Global, shape: CertShape, text: &[u8]) -> Result<Cert, ReadCertError>
     ensures ok { IfOk result (IsCertText shape text.now) }

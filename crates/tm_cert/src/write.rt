@@ -68,7 +68,7 @@ fn first_members(alloc: Global, bits: u32) -> Result<Map<String, Value>, AllocEr
     with(alloc, members, "format", Ok(Value::from(2u32)))
 }
 
-/// The members of an object and one more. What memory lacked for stays an error, so a caller hands on one result.
+/// The members of an object, and one more. It takes results, so that a caller has no exit between two members.
 fn with(
     alloc: Global,
     members: Result<Map<String, Value>, AllocError>,
