@@ -6,46 +6,52 @@ use Rattle.std.proofs.lemmas.Bool.Decides.{nat_tests}
 use Rattle.std.proofs.lemmas.List.Sums.{prefix_len-le-length, list_all-from_AllPass}
 use Rattle.std.proofs.Math.Numerals.{one-add}
 use Rattle.tm_lex.specs.declared.class.Class.TheVariants.{Letter}
-use Rattle.tm_lex.specs.declared.word.TheConstants.{WORDS}
 use Rattle.tm_lex.specs.Class.{class_of}
 use Rattle.tm_lex.specs.Front.{IsFirstPiece}
+use Rattle.tm_lex.specs.Words.{first_byte, words_from}
 use Rattle.tm_lex.proofs.Classes.{AtMost, first_from_at_most, begins, letter_is, length-le-prefix_len, AllPass-prefix}
 use Rattle.tm_syntax.specs.declared.token.Word.{Word}
 use Rattle.tm_syntax.specs.declared.token.Word.TheVariants as word
 use Rattle.tm_syntax.specs.declared.token.TokenKind.TheVariants as token
 use Rattle.tm_syntax.specs.Tokens.{IsWordLike, word_text, begins_name, continues_name}
 
--- where a reserved word stands in the code's table
-pub word_place : (w : Word) → (k : ℕ) × (k < 29) × (get_or WORDS k word.Typedef ≡ w)
+-- where a reserved word stands among those that begin as it does
+word_place : (w : Word) → (k : ℕ) × (k < length (words_from (first_byte w)))
+    × (get_or (words_from (first_byte w)) k word.Typedef ≡ w)
 word_place word.Typedef = (0, lit< tt, refl)
-word_place word.Enum = (1, lit< tt, refl)
-word_place word.Template = (2, lit< tt, refl)
-word_place word.EndTemplate = (3, lit< tt, refl)
-word_place word.Instance = (4, lit< tt, refl)
-word_place word.Bool = (5, lit< tt, refl)
-word_place word.Uint = (6, lit< tt, refl)
-word_place word.Goal = (7, lit< tt, refl)
-word_place word.Fair = (8, lit< tt, refl)
-word_place word.Lazy = (9, lit< tt, refl)
-word_place word.Process = (10, lit< tt, refl)
-word_place word.Task = (11, lit< tt, refl)
-word_place word.Controllable = (12, lit< tt, refl)
-word_place word.Uncontrollable = (13, lit< tt, refl)
-word_place word.Procedure = (14, lit< tt, refl)
-word_place word.Void = (15, lit< tt, refl)
-word_place word.Return = (16, lit< tt, refl)
-word_place word.If = (17, lit< tt, refl)
-word_place word.Else = (18, lit< tt, refl)
-word_place word.While = (19, lit< tt, refl)
-word_place word.Forever = (20, lit< tt, refl)
-word_place word.Choice = (21, lit< tt, refl)
-word_place word.Or = (22, lit< tt, refl)
-word_place word.Assert = (23, lit< tt, refl)
-word_place word.Assume = (24, lit< tt, refl)
-word_place word.Pause = (25, lit< tt, refl)
-word_place word.Wait = (26, lit< tt, refl)
-word_place word.True = (27, lit< tt, refl)
-word_place word.False = (28, lit< tt, refl)
+word_place word.Enum = (0, lit< tt, refl)
+word_place word.Template = (1, lit< tt, refl)
+word_place word.EndTemplate = (1, lit< tt, refl)
+word_place word.Instance = (0, lit< tt, refl)
+word_place word.Bool = (0, lit< tt, refl)
+word_place word.Uint = (0, lit< tt, refl)
+word_place word.Goal = (0, lit< tt, refl)
+word_place word.Fair = (0, lit< tt, refl)
+word_place word.Lazy = (0, lit< tt, refl)
+word_place word.Process = (0, lit< tt, refl)
+word_place word.Task = (2, lit< tt, refl)
+word_place word.Controllable = (0, lit< tt, refl)
+word_place word.Uncontrollable = (1, lit< tt, refl)
+word_place word.Procedure = (1, lit< tt, refl)
+word_place word.Void = (0, lit< tt, refl)
+word_place word.Return = (0, lit< tt, refl)
+word_place word.If = (1, lit< tt, refl)
+word_place word.Else = (2, lit< tt, refl)
+word_place word.While = (0, lit< tt, refl)
+word_place word.Forever = (1, lit< tt, refl)
+word_place word.Choice = (1, lit< tt, refl)
+word_place word.Or = (0, lit< tt, refl)
+word_place word.Assert = (0, lit< tt, refl)
+word_place word.Assume = (1, lit< tt, refl)
+word_place word.Pause = (2, lit< tt, refl)
+word_place word.Wait = (1, lit< tt, refl)
+word_place word.True = (3, lit< tt, refl)
+word_place word.False = (2, lit< tt, refl)
+
+-- where it stands among those that begin as a text does which spells it
+pub spelled_place : (w : Word) (text : List ℕ) → text ≡ word_text w →
+    (k : ℕ) × (k < length (words_from (get_or text 0 0))) × (get_or (words_from (get_or text 0 0)) k word.Typedef ≡ w)
+spelled_place w text spelled = rw spelled (word_place w)
 
 -- the bytes of a reserved word go on a name
 word_continues : (w : Word) → list_all continues_name (word_text w) ≡ true

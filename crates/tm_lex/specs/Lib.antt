@@ -1,3 +1,4 @@
 pub mod Answer
 pub mod Class
 pub mod Front
+pub mod Words

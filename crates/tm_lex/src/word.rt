@@ -6,42 +6,11 @@ ghost use Rattle.tm_syntax.specs.declared.token.Word.{Word};
 ghost use Rattle.tm_syntax.specs.Tokens.{continues_name, word_text};
 ghost use Rattle.tm_lex.specs.Class.{class_of};
 ghost use Rattle.tm_lex.specs.Front.{IsFirstPiece};
+ghost use Rattle.tm_lex.specs.Words.{words_from};
 
 use crate::class::Class;
 use crate::piece::Piece;
 use tm_syntax::token::{TokenKind, Word};
-
-const WORDS: [Word; 29] = [
-    Word::Typedef,
-    Word::Enum,
-    Word::Template,
-    Word::EndTemplate,
-    Word::Instance,
-    Word::Bool,
-    Word::Uint,
-    Word::Goal,
-    Word::Fair,
-    Word::Lazy,
-    Word::Process,
-    Word::Task,
-    Word::Controllable,
-    Word::Uncontrollable,
-    Word::Procedure,
-    Word::Void,
-    Word::Return,
-    Word::If,
-    Word::Else,
-    Word::While,
-    Word::Forever,
-    Word::Choice,
-    Word::Or,
-    Word::Assert,
-    Word::Assume,
-    Word::Pause,
-    Word::Wait,
-    Word::True,
-    Word::False,
-];
 
 /// The name or the reserved word at the front of bytes that begin with a letter or `_`.
 pub fn word_or_name(bytes: &[u8]) -> Piece
@@ -80,12 +49,37 @@ fn continues_name(byte: u8) -> bool
 fn word_of(text: &[u8]) -> Option<Word>
     ensures { MatchOption result ((w : Word) → text.now ≢ word_text w) (λ w. text.now ≡ word_text w) }
 {
-    for word in WORDS {
-        if text == spelling_of(word) {
-            return Some(word);
+    let first = text.first()?;
+    for word in words_from(*first) {
+        if text == spelling_of(*word) {
+            return Some(*word);
         }
     }
     None
+}
+
+/// The reserved words that begin with a byte.
+fn words_from(first: u8) -> &'static [Word]
+    ensures { result.now ≡ words_from first }
+{
+    match first {
+        b'a' => &[Word::Assert, Word::Assume],
+        b'b' => &[Word::Bool],
+        b'c' => &[Word::Controllable, Word::Choice],
+        b'e' => &[Word::Enum, Word::EndTemplate, Word::Else],
+        b'f' => &[Word::Fair, Word::Forever, Word::False],
+        b'g' => &[Word::Goal],
+        b'i' => &[Word::Instance, Word::If],
+        b'l' => &[Word::Lazy],
+        b'o' => &[Word::Or],
+        b'p' => &[Word::Process, Word::Procedure, Word::Pause],
+        b'r' => &[Word::Return],
+        b't' => &[Word::Typedef, Word::Template, Word::Task, Word::True],
+        b'u' => &[Word::Uint, Word::Uncontrollable],
+        b'v' => &[Word::Void],
+        b'w' => &[Word::While, Word::Wait],
+        _ => &[],
+    }
 }
 
 fn spelling_of(word: Word) -> &'static [u8]
