@@ -165,9 +165,17 @@ fn second<'a>(
         (IsLeft sort (then_part (truth_tree test) ∷ part_trees parts.old) (Some (truth_tree operand)))
         (tokens_of spots.now)) }
 {
-    let rest = need_sign(spots, Sign::Colon)?;
-    parts.push(Part::Else(test, number_of(operand)))?;
-    Ok((None, rest))
+    match need_sign(spots, Sign::Colon) {
+        Ok(rest) => {
+            parts.push(Part::Else(test, number_of(operand)))?;
+            Ok((None, rest))
+        }
+        Err(stop) => {
+            drop(test);
+            drop(operand);
+            Err(stop)
+        }
+    }
 }
 
 /// Reads the parenthesis that closes a part.
@@ -183,8 +191,14 @@ fn close(alloc: Global, part: Part, operand: Truth, spots: &[Spot]) -> Step<'_>
     ensures refused { IfErr result (λ e. (root : Sort) (ps : List PartTree) → FitParts root (part_tree part ∷ ps)
         → IsRefused (IsLeft root (part_tree part ∷ ps) (Some (truth_tree operand))) (tokens_of spots.now) e) }
 {
-    let rest = need_sign(spots, Sign::CloseParenthesis)?;
-    Ok((Some(closed(alloc, part, operand)?), rest))
+    match need_sign(spots, Sign::CloseParenthesis) {
+        Ok(rest) => Ok((Some(closed(alloc, part, operand)?), rest)),
+        Err(stop) => {
+            drop(part);
+            drop(operand);
+            Err(stop)
+        }
+    }
 }
 
 /// Reads the operator behind the first operand in parentheses.
@@ -207,9 +221,11 @@ fn operator<'a>(
         (IsLeft sort (first_part ∷ part_trees parts.old) (Some (truth_tree operand))) (tokens_of spots.now)) }
 {
     let Some((token, rest)) = parted(spots) else {
+        drop(operand);
         return Err(Stop::Unexpected(spots));
     };
     let Some(sign) = sign_in(token) else {
+        drop(operand);
         return Err(Stop::Unexpected(spots));
     };
     if let Sign::Shifting(op) = sign {

@@ -1,6 +1,22 @@
 //! Reads the C text of a driver: the blocks that it is over a design, or its first fault.
 #![tactic(auto)]
 
+/// A value in its box; where memory is wanting, the function says so, and drops the trees that it holds.
+///
+/// `?` would do so, too, at a multiple of the cost of the proof: it takes the trees apart in place.
+macro_rules! boxed {
+    ($alloc:expr, $value:expr $(, $held:ident)*) => {
+        match Box::new($alloc, $value) {
+            Ok(boxed) => boxed,
+            Err(failed) => {
+                drop(failed);
+                $(drop($held);)*
+                return Err(AllocError);
+            }
+        }
+    };
+}
+
 mod bad;
 pub mod call;
 pub mod expression;

@@ -65,7 +65,10 @@ pub fn number_in(operand: Truth) -> Option<Num64>
 {
     match operand {
         Truth::Num(a) => Some(a),
-        _ => None,
+        other => {
+            drop(other);
+            None
+        }
     }
 }
 
@@ -100,22 +103,22 @@ pub fn closed(alloc: Global, part: Part, operand: Truth) -> Result<Truth, AllocE
 fn complement(alloc: Global, a: Num64) -> Result<Truth, AllocError>
     ensures { IfOk result (λ t. truth_tree t ≡ trees.num (trees.complement (num_tree a))) }
 {
-    let a = Box::new(alloc, a).map_err(|_| AllocError)?;
+    let a = boxed!(alloc, a);
     Ok(Truth::Num(Num64::Not(a)))
 }
 
 fn negation(alloc: Global, truth: Truth) -> Result<Truth, AllocError>
     ensures { IfOk result (λ t. truth_tree t ≡ trees.negation (truth_tree truth)) }
 {
-    let truth = Box::new(alloc, truth).map_err(|_| AllocError)?;
+    let truth = boxed!(alloc, truth);
     Ok(Truth::Not(truth))
 }
 
 fn binary(alloc: Global, op: NumOperator, a: Num64, b: Num64) -> Result<Truth, AllocError>
     ensures { IfOk result (λ t. truth_tree t ≡ trees.num (trees.binary op (num_tree a) (num_tree b))) }
 {
-    let a = Box::new(alloc, a).map_err(|_| AllocError)?;
-    let b = Box::new(alloc, b).map_err(|_| AllocError)?;
+    let a = boxed!(alloc, a, b);
+    let b = boxed!(alloc, b, a);
     Ok(Truth::Num(Num64::Binary(op, a, b)))
 }
 
@@ -123,7 +126,7 @@ fn binary(alloc: Global, op: NumOperator, a: Num64, b: Num64) -> Result<Truth, A
 pub fn shifted(alloc: Global, op: ShiftOperator, a: Num64, by: u8) -> Result<Truth, AllocError>
     ensures { IfOk result (λ t. truth_tree t ≡ trees.num (trees.shift op (num_tree a) by)) }
 {
-    let a = Box::new(alloc, a).map_err(|_| AllocError)?;
+    let a = boxed!(alloc, a);
     Ok(Truth::Num(Num64::Shift(op, a, by)))
 }
 
@@ -131,16 +134,16 @@ fn conditional(alloc: Global, test: Truth, a: Num64, b: Num64) -> Result<Truth, 
     ensures { IfOk result (λ t.
         truth_tree t ≡ trees.num (trees.conditional (truth_tree test) (num_tree a) (num_tree b))) }
 {
-    let test = Box::new(alloc, test).map_err(|_| AllocError)?;
-    let a = Box::new(alloc, a).map_err(|_| AllocError)?;
-    let b = Box::new(alloc, b).map_err(|_| AllocError)?;
+    let test = boxed!(alloc, test, a, b);
+    let a = boxed!(alloc, a, test, b);
+    let b = boxed!(alloc, b, test, a);
     Ok(Truth::Num(Num64::Cond(test, a, b)))
 }
 
 fn join(alloc: Global, op: Junction, left: Truth, right: Truth) -> Result<Truth, AllocError>
     ensures { IfOk result (λ t. truth_tree t ≡ trees.join op (truth_tree left) (truth_tree right)) }
 {
-    let left = Box::new(alloc, left).map_err(|_| AllocError)?;
-    let right = Box::new(alloc, right).map_err(|_| AllocError)?;
+    let left = boxed!(alloc, left, right);
+    let right = boxed!(alloc, right, left);
     Ok(Truth::Join(op, left, right))
 }

@@ -193,8 +193,13 @@ fn test(alloc: Global, spots: &[Spot]) -> Read<'_, Statement>
 {
     let rest = need_sign(spots, Sign::OpenParenthesis)?;
     let (truth, rest) = truth(alloc, rest)?;
-    let (labels, rest) = row(alloc, &BRANCHES, rest)?;
-    Ok((Statement::Test(truth, labels[0], labels[1]), rest))
+    match row(alloc, &BRANCHES, rest) {
+        Ok((labels, rest)) => Ok((Statement::Test(truth, labels[0], labels[1]), rest)),
+        Err(stop) => {
+            drop(truth);
+            Err(stop)
+        }
+    }
 }
 
 /// A call, behind its task.

@@ -75,17 +75,25 @@ impl Game {
         ensures of { IfOk result (λ g. (d : DesignTree) → CanStart d terms (flat_terms flat) → IsOf d g) }
     {
         let mut bits = TermBits::new(alloc);
-        let mut dd = manager(alloc, &flat, &terms, &order)?;
-        let start = prepare(alloc, &flat, terms, &order)?;
-        let made = start.encoding.game(
+        let mut dd = given!(
+            manager(alloc, &flat, &terms, &order),
+            bits,
+            flat,
+            terms,
+            order
+        );
+        let start = given!(prepare(alloc, &flat, terms, &order), dd, bits, flat, order);
+        let steps = start.encoding.game(
             &flat,
             &start.places,
             &start.stutter,
             &start.idle,
             &mut bits,
             &mut dd,
-        )?;
-        let kept = kept_ids(&start.encoding, &flat, &made, &mut bits, &mut dd)?;
+        );
+        let made = given!(steps, start, dd, bits, flat, order);
+        let ids = kept_ids(&start.encoding, &flat, &made, &mut bits, &mut dd);
+        let kept = given!(ids, made, start, dd, bits, flat, order);
         Ok(Game {
             flat,
             order,

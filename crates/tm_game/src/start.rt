@@ -51,10 +51,25 @@ pub(crate) fn prepare(
 {
     let numbers = flat.widths.len() - BITS;
     let first = numbers - 1 - flat.processes.len();
-    let levels = input_levels(alloc, order, &flat.widths[..numbers])?;
-    let places = place_terms(alloc, &mut terms, &flat.magic, first)?;
-    let stutter = pass_terms(alloc, &mut terms, numbers, 0)?;
-    let idle = pass_terms(alloc, &mut terms, numbers, 1)?;
+    let levels = given!(input_levels(alloc, order, &flat.widths[..numbers]), terms);
+    let places = given!(
+        place_terms(alloc, &mut terms, &flat.magic, first),
+        levels,
+        terms
+    );
+    let stutter = given!(
+        pass_terms(alloc, &mut terms, numbers, 0),
+        places,
+        levels,
+        terms
+    );
+    let idle = given!(
+        pass_terms(alloc, &mut terms, numbers, 1),
+        stutter,
+        places,
+        levels,
+        terms
+    );
     Ok(Start {
         encoding: Encoding {
             alloc,

@@ -16,11 +16,11 @@ returns-in_err-truth-clause-refused c =
     c.in_ok-rest.ensures.taken c.in_err-truth.ensures.refused in
     search rules
 
-pub returns-in_err-labels-clause-refused : goal.returns-in_err-labels-clause-refused
-returns-in_err-labels-clause-refused c =
+pub returns-in-Err-clause-refused : goal.returns-in-Err-clause-refused
+returns-in-Err-clause-refused c =
     let h = branches_refused (truth_tree c.in_ok-truth.truth) (tokens_of c.args.spots.now)
     (tokens_of c.in_ok-rest.rest.now) (tokens_of c.in_ok-truth.rest.now) _ c.in_ok-rest.ensures.taken
     c.in_ok-truth.ensures.taken
     (refused_row BRANCHES (test_of (truth_tree c.in_ok-truth.truth)) (tokens_of c.in_ok-truth.rest.now) _
-    c.in_err-labels.ensures.refused) in
+    c.in-Err.ensures.refused) in
     search rules

@@ -124,13 +124,13 @@ returns c =
     start_is c.requires.design.0 c.args.terms (flat_terms c.args.flat.now) c.requires.design.1 c.args.order.now _
     (Extends-trans c.args.terms c.place_terms.new.terms c.pass_terms-2.new.terms c.place_terms.ensures.earlier passed)
     c.requires.order (ap (λ n. n - 128) (sym count)) first refl
-    (c.in_ok-levels.ensures
+    (c.in-Ok.ensures
     ∙ ap (λ (ws : List ℕ). input_levels c.args.order.now (take (c.len-numbers.result - 128) ws)) c.deref.ensures.value)
     (places_kept c.place_terms.new.terms c.pass_terms-2.new.terms passed (flat_terms c.args.flat.now).magic
-    (c.len-numbers.result - 128 - 1 - c.len.result) c.in_ok-places.places.items
+    (c.len-numbers.result - 128 - 1 - c.len.result) c.in-Ok-place_terms.given.items
     (subst (λ (rows : List (Vec Bool Global)).
     ArePlaces c.place_terms.new.terms (flags_of rows) (c.len-numbers.result - 128 - 1 - c.len.result)
-    c.in_ok-places.places.items) c.deref-2.ensures.value c.in_ok-places.ensures.places))
+    c.in-Ok-place_terms.given.items) c.deref-2.ensures.value c.in-Ok-place_terms.ensures.places))
     (passing_kept c.pass_terms.new.terms c.pass_terms-2.new.terms c.pass_terms-2.ensures.earlier
-    (c.len-numbers.result - 128) 0 c.in_ok-stutter.stutter.items c.in_ok-stutter.ensures.terms)
-    c.in_ok-idle.ensures.terms
+    (c.len-numbers.result - 128) 0 c.in-Ok-pass_terms.given.items c.in-Ok-pass_terms.ensures.terms)
+    c.in-Ok-pass_terms-2.ensures.terms

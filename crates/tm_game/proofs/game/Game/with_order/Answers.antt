@@ -31,46 +31,46 @@ pub prepare-requires-clause-order : goal.prepare-requires-clause-order
 prepare-requires-clause-order c =
     subst (IsOrder (state_bits_in (flat_terms c.args.flat))) (sym c.deref-2.ensures.value) c.requires.order
 
-pub game-requires-clause-terms : goal.game-requires-clause-terms
-game-requires-clause-terms c = c.in_ok-start.ensures.terms
+pub game-steps-requires-clause-terms : goal.game-steps-requires-clause-terms
+game-steps-requires-clause-terms c = c.in-Ok-prepare.ensures.terms
 
-pub game-requires-clause-places : goal.game-requires-clause-places
-game-requires-clause-places c =
+pub game-steps-requires-clause-places : goal.game-steps-requires-clause-places
+game-steps-requires-clause-places c =
     subst
-    (ArePlaces c.in_ok-start.start.encoding.terms (flat_terms c.args.flat).magic c.in_ok-start.start.encoding.first)
-    (sym c.deref-3.ensures.value) c.in_ok-start.ensures.places_are
+    (ArePlaces c.in-Ok-prepare.given.encoding.terms (flat_terms c.args.flat).magic c.in-Ok-prepare.given.encoding.first)
+    (sym c.deref-3.ensures.value) c.in-Ok-prepare.ensures.places_are
 
-pub game-requires-clause-stutter : goal.game-requires-clause-stutter
-game-requires-clause-stutter c =
-    subst (ArePassing c.in_ok-start.start.encoding.terms c.in_ok-start.start.encoding.numbers 0)
-    (sym c.deref-4.ensures.value) c.in_ok-start.ensures.stutter_is
+pub game-steps-requires-clause-stutter : goal.game-steps-requires-clause-stutter
+game-steps-requires-clause-stutter c =
+    subst (ArePassing c.in-Ok-prepare.given.encoding.terms c.in-Ok-prepare.given.encoding.numbers 0)
+    (sym c.deref-4.ensures.value) c.in-Ok-prepare.ensures.stutter_is
 
-pub game-requires-clause-idle : goal.game-requires-clause-idle
-game-requires-clause-idle c =
-    subst (ArePassing c.in_ok-start.start.encoding.terms c.in_ok-start.start.encoding.numbers 1)
-    (sym c.deref-5.ensures.value) c.in_ok-start.ensures.idle_is
+pub game-steps-requires-clause-idle : goal.game-steps-requires-clause-idle
+game-steps-requires-clause-idle c =
+    subst (ArePassing c.in-Ok-prepare.given.encoding.terms c.in-Ok-prepare.given.encoding.numbers 1)
+    (sym c.deref-5.ensures.value) c.in-Ok-prepare.ensures.idle_is
 
-pub game-requires-clause-ready : goal.game-requires-clause-ready
-game-requires-clause-ready c =
-    subst (λ (made : Made). IsReady (setting_of c.in_ok-start.start.encoding) c.in_ok-dd.dd.table made)
-    (sym c.new-bits.ensures) (c.in_ok-start.ensures.ready c.in_ok-dd.dd.table
+pub game-steps-requires-clause-ready : goal.game-steps-requires-clause-ready
+game-steps-requires-clause-ready c =
+    subst (λ (made : Made). IsReady (setting_of c.in-Ok-prepare.given.encoding) c.in-Ok.given.table made)
+    (sym c.new-bits.ensures) (c.in-Ok-prepare.ensures.ready c.in-Ok.given.table
     (omega (
       arith,
-      c.in_ok-dd.ensures.levels,
-      c.in_ok-start.ensures.shape.count,
+      c.in-Ok.ensures.levels,
+      c.in-Ok-prepare.ensures.shape.count,
       ap length c.deref.ensures.value,
       ap length c.deref-2.ensures.value,
     )))
 
 pub returns-clause-goals : goal.returns-clause-goals
-returns-clause-goals c = c.in_ok-kept.ensures.kept.goals_are.long
+returns-clause-goals c = c.in-Ok-ids.ensures.kept.goals_are.long
 
 pub returns-clause-fairs : goal.returns-clause-fairs
-returns-clause-fairs c = c.in_ok-kept.ensures.kept.fairs_are.long
+returns-clause-fairs c = c.in-Ok-ids.ensures.kept.fairs_are.long
 
 pub returns-clause-of : goal.returns-clause-of
 returns-clause-of c = λ d can. record {
-  flat = flat_kept c.args.terms c.in_ok-start.start.encoding.terms c.in_ok-start.ensures.earlier d
+  flat = flat_kept c.args.terms c.in-Ok-prepare.given.encoding.terms c.in-Ok-prepare.ensures.earlier d
       (flat_terms c.args.flat) can.flat;
   room = can.room;
   small = can.small;
@@ -79,24 +79,24 @@ returns-clause-of c = λ d can. record {
 
 pub invariant_of-result : goal.invariant_of-result
 invariant_of-result c = record {
-  shape = subst (IsShape (setting_of c.in_ok-start.start.encoding) (flat_terms c.args.flat)) c.deref-2.ensures.value
-      c.in_ok-start.ensures.shape;
-  terms = c.in_ok-start.ensures.terms;
+  shape = subst (IsShape (setting_of c.in-Ok-prepare.given.encoding) (flat_terms c.args.flat)) c.deref-2.ensures.value
+      c.in-Ok-prepare.ensures.shape;
+  terms = c.in-Ok-prepare.ensures.terms;
   levels = omega (
     arith,
-    c.in_ok-dd.ensures.levels,
+    c.in-Ok.ensures.levels,
     ap length c.deref.ensures.value,
-    c.game.ensures.earlier.same_levels,
-    c.kept_ids.ensures.earlier.same_levels,
+    c.game-steps.ensures.earlier.same_levels,
+    c.kept_ids-ids.ensures.earlier.same_levels,
   );
-  rises = RanksRise-Extends c.game.new.dd.table c.kept_ids.new.dd.table c.kept_ids.ensures.earlier
+  rises = RanksRise-Extends c.game-steps.new.dd.table c.kept_ids-ids.new.dd.table c.kept_ids-ids.ensures.earlier
       (length c.args.order.items)
-      (RanksRise-Extends c.in_ok-dd.dd.table c.game.new.dd.table c.game.ensures.earlier (length c.args.order.items)
-      (subst (λ (o : List ℕ). RanksRise (length o) c.in_ok-dd.dd.table) c.deref.ensures.value
-      c.in_ok-dd.ensures.rises));
-  ready = c.kept_ids.ensures.ready;
-  steps = made_kept c.game.new.dd.table c.kept_ids.new.dd.table c.kept_ids.ensures.earlier
-      (setting_of c.in_ok-start.start.encoding) (flat_terms c.args.flat) c.in_ok-made.made c.in_ok-made.ensures.game;
-  answers = c.new.ensures c.kept_ids.new.dd.table (game_of c.kept_ids.new.dd.table c.in_ok-made.made.steps);
-  kept = c.in_ok-kept.ensures.kept;
+      (RanksRise-Extends c.in-Ok.given.table c.game-steps.new.dd.table c.game-steps.ensures.earlier (length c.args.order.items)
+      (subst (λ (o : List ℕ). RanksRise (length o) c.in-Ok.given.table) c.deref.ensures.value
+      c.in-Ok.ensures.rises));
+  ready = c.kept_ids-ids.ensures.ready;
+  steps = made_kept c.game-steps.new.dd.table c.kept_ids-ids.new.dd.table c.kept_ids-ids.ensures.earlier
+      (setting_of c.in-Ok-prepare.given.encoding) (flat_terms c.args.flat) c.in-Ok-steps.given c.in-Ok-steps.ensures.game;
+  answers = c.new.ensures c.kept_ids-ids.new.dd.table (game_of c.kept_ids-ids.new.dd.table c.in-Ok-steps.given.steps);
+  kept = c.in-Ok-ids.ensures.kept;
 }
