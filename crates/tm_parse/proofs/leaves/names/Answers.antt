@@ -1,4 +1,4 @@
-use Rattle.std.proofs.Common.{refl, arith, rules, sym, ap, ◌∙◌, subst, [], ◌∷◌, ◌++◌, List}
+use Rattle.std.proofs.Common.{refl, arith, sym, subst, List}
 use Rattle.tm_syntax.specs.declared.tree.Ident.{Ident}
 use Rattle.tm_syntax.specs.Grammar.Parts.{IsName}
 use Rattle.tm_parse.specs.Reading.{Nothing}

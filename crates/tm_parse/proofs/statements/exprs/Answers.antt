@@ -1,4 +1,4 @@
-use Rattle.std.proofs.Common.{refl, arith, rules, sym, ap, ◌∙◌, subst, [], ◌∷◌, ◌++◌, List}
+use Rattle.std.proofs.Common.{refl, arith, sym, ap, ◌∙◌, subst, List}
 use Rattle.std.proofs.lemmas.List.{map_push}
 use Rattle.tm_syntax.specs.declared.token.Sign.TheVariants as sign
 use Rattle.tm_syntax.specs.Tree.{ExprTree}
