@@ -1,6 +1,6 @@
 use Rattle.test_game.proofs.answer_by_machine.Goals as goal
 
-pub answer_by_game-requires : goal.answer_by_game-requires
-answer_by_game-requires c at = record {
-  pooled = (_, record { of = at.ensures.of; pool = at.ensures.pool });
+pub answer_by_game-found-requires : goal.answer_by_game-found-requires
+answer_by_game-found-requires c = record {
+  pooled = (_, record { of = c.in-Ok.ensures.of; pool = c.in-Ok.ensures.pool });
 }
