@@ -1,5 +1,5 @@
 //! Names: of items of a specification, and of files.
-ghost use Rattle.std.specs.Prelude.{◌≡◌, IfOk, Some, nat_eq, refl};
+ghost use Rattle.std.specs.Prelude.{◌≡◌, [], IfOk, Some, nat_eq, refl};
 ghost use Rattle.std.specs.Hash as fed;
 ghost use Rattle.std.specs.Ordering.{nat_cmp};
 ghost use Rattle.std.specs.Cmp.Lexicographic.{pointwise, slice_cmp, nat_list_eq_equiv, nat_list_cmp_total, texts_ties, texts_po};
@@ -36,6 +36,15 @@ impl Name {
         Ok(Name {
             bytes: SmallVec::from_slice(alloc, bytes)?,
         })
+    }
+
+    /// The name of no bytes, which takes no memory.
+    pub fn empty(alloc: Global) -> Name
+        ensures { result ≡ [] }
+    {
+        Name {
+            bytes: Vec::new(alloc),
+        }
     }
 
     /// The bytes of the name.

@@ -105,9 +105,21 @@ fn flatten_by(alloc: Global, tables: &Tables<'_>, terms: &mut Terms) -> Result<F
     requires terms { AreOver tables.now terms.old }
     ensures { IfOk result (MakesSuch terms.old terms.new (IsWhole (design_tree tables.now))) }
 {
-    let locations = locate(alloc, tables)?;
-    let cells = find_cells(alloc, tables)?;
-    flatten_in(alloc, tables, &cells, locations.as_slice(), terms)
+    let locations = match locate(alloc, tables) {
+        Ok(locations) => locations,
+        Err(error) => return Err(error),
+    };
+    let cells = match find_cells(alloc, tables) {
+        Ok(cells) => cells,
+        Err(error) => {
+            drop(locations);
+            return Err(error);
+        }
+    };
+    let flat = flatten_in(alloc, tables, &cells, locations.as_slice(), terms);
+    drop(cells);
+    drop(locations);
+    flat
 }
 
 /// A design of a text as guarded updates over terms of its `inputs`: for each process and location, and for each
@@ -130,6 +142,11 @@ pub fn flatten(alloc: Global, design: &Design, terms: &mut Terms) -> Result<Flat
     ensures earlier { IfOk result (λ _. Extends terms.old terms.new) }
     ensures sound { IfOk result (λ _. IsSound terms.new) }
 {
-    let tables = Tables::new(alloc, design)?;
-    flatten_by(alloc, &tables, terms)
+    let tables = match Tables::new(alloc, design) {
+        Ok(tables) => tables,
+        Err(error) => return Err(error),
+    };
+    let flat = flatten_by(alloc, &tables, terms);
+    drop(tables);
+    flat
 }

@@ -39,9 +39,21 @@ fn inputs_by(alloc: Global, tables: &Tables<'_>) -> Result<Vec<u8>, AllocError>
     requires { IsRunnable tables.now }
     ensures { IfOk result (λ widths. widths.items ≡ input_widths (design_tree tables.now)) }
 {
-    let locations = locate(alloc, tables)?;
-    let cells = find_cells(alloc, tables)?;
-    inputs_in(alloc, tables, &cells, locations.as_slice())
+    let locations = match locate(alloc, tables) {
+        Ok(locations) => locations,
+        Err(error) => return Err(error),
+    };
+    let cells = match find_cells(alloc, tables) {
+        Ok(cells) => cells,
+        Err(error) => {
+            drop(locations);
+            return Err(error);
+        }
+    };
+    let widths = inputs_in(alloc, tables, &cells, locations.as_slice());
+    drop(cells);
+    drop(locations);
+    widths
 }
 
 /// The widths of the inputs of the terms of a design of a text, each 1 to 64: those of its variables, of the locations
@@ -53,7 +65,12 @@ pub fn inputs(alloc: Global, design: &Design) -> Result<Vec<u8>, AllocError>
     ensures widths { IfOk result (λ widths. widths.items ≡ input_widths (design_tree design.now)) }
     ensures in_range { IfOk result (λ widths. All IsWidth widths.items) }
 {
-    let tables = Tables::new(alloc, design)?;
+    let tables = match Tables::new(alloc, design) {
+        Ok(tables) => tables,
+        Err(error) => return Err(error),
+    };
     sound_designs_of_texts_are_markable();
-    inputs_by(alloc, &tables)
+    let widths = inputs_by(alloc, &tables);
+    drop(tables);
+    widths
 }

@@ -71,17 +71,25 @@ impl<'s> Machine<'s> {
     pub fn new(alloc: Global, tables: &'s Tables<'s>) -> Result<Machine<'s>, AllocError>
         ensures { IfOk result (λ m. m ≡ tables.now) }
     {
-        let locations = locate(alloc, tables)?;
+        let locations = match locate(alloc, tables) {
+            Ok(locations) => locations,
+            Err(error) => return Err(error),
+        };
         let design = tables.design;
         let scopes = &tables.scopes;
         let order = tables.order.as_slice();
-        let runner = Runner::new(alloc, design, scopes, &tables.pausing, order)?;
-        Ok(Machine {
-            design,
-            scopes,
-            runner,
-            locations,
-        })
+        match Runner::new(alloc, design, scopes, &tables.pausing, order) {
+            Ok(runner) => Ok(Machine {
+                design,
+                scopes,
+                runner,
+                locations,
+            }),
+            Err(error) => {
+                drop(locations);
+                Err(error)
+            }
+        }
     }
 
     /// The design.

@@ -66,6 +66,49 @@ fn pausing_of(alloc: Global, scopes: &Scopes, order: &[Member]) -> Result<TaskSe
     Ok(tasks)
 }
 
+// The tasks of a text in an order in which each stands behind all that it calls, and those that may pause.
+fn ordered_calls(alloc: Global, scopes: &Scopes) -> Result<(Vec<Member>, TaskSet), AllocError>
+    requires { (m : numbered.Member) → ¬ Reaches (spec_tree scopes.now) m m }
+    ensures ordered { IfOk result (λ calls. IsCallOrder (spec_tree scopes.now) calls.0.items) }
+    ensures covers { IfOk result (λ calls. CoversTasks (spec_tree scopes.now) calls.0.items) }
+    ensures short { IfOk result (λ calls. length calls.0.items ≤ call_depth (spec_tree scopes.now)) }
+    ensures pausing { IfOk result (λ calls. ArePausing (spec_tree scopes.now) calls.1) }
+{
+    let order = match task_order(alloc, scopes) {
+        Ok(order) => order,
+        Err(error) => return Err(error),
+    };
+    match pausing_of(alloc, scopes, order.as_slice()) {
+        Ok(pausing) => Ok((order, pausing)),
+        Err(error) => Err(error),
+    }
+}
+
+// The tables of a design, given those of the names of its text.
+fn with_scopes<'d>(
+    alloc: Global,
+    design: &'d Design,
+    scopes: Scopes<'d>,
+) -> Result<Tables<'d>, AllocError>
+    requires sound { IsSound (design_tree design.now) }
+    requires read { IsOfText (spec_tree design.now.spec) }
+    requires scopes { scopes ≡ design.now.spec }
+    ensures { IfOk result (λ t. t ≡ design.now) }
+{
+    match ordered_calls(alloc, &scopes) {
+        Ok((order, pausing)) => Ok(Tables {
+            design,
+            scopes,
+            order,
+            pausing,
+        }),
+        Err(error) => {
+            drop(scopes);
+            Err(error)
+        }
+    }
+}
+
 impl<'d> Tables<'d> {
     /// The tables of the design of a text that keeps its facts, in time linear in the text. `AllocError` is want of
     /// memory.
@@ -74,15 +117,10 @@ impl<'d> Tables<'d> {
         requires read { IsOfText (spec_tree design.now.spec) }
         ensures { IfOk result (λ t. t ≡ design.now) }
     {
-        let scopes = Scopes::new(alloc, &design.spec)?;
-        let order = task_order(alloc, &scopes)?;
-        let pausing = pausing_of(alloc, &scopes, order.as_slice())?;
-        Ok(Tables {
-            design,
-            scopes,
-            order,
-            pausing,
-        })
+        match Scopes::new(alloc, &design.spec) {
+            Ok(scopes) => with_scopes(alloc, design, scopes),
+            Err(error) => Err(error),
+        }
     }
 
     /// The design.

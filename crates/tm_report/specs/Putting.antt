@@ -15,7 +15,7 @@ IsSinkFailure out after (WriteFault name) = (name ≡ []) × HasFailedPut out af
 
 -- the failure of a refused `put`
 abbrev pub IsFailureOf : SinkError → Failure → Type 0
-IsFailureOf error Memory = Unit {0}
+IsFailureOf error Memory = error ≡ sink.Memory
 IsFailureOf error (WriteFault name) = (name ≡ []) × (error ≡ sink.Failed)
 IsFailureOf error (ReadFault name) = ⊥
 

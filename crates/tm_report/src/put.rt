@@ -13,10 +13,7 @@ pub fn failure_of(alloc: Global, error: SinkError) -> Failure
     ensures { IsFailureOf error result }
 {
     match error {
-        SinkError::Failed => match Name::from_bytes(alloc, &[]) {
-            Ok(name) => Failure::WriteFault(name),
-            Err(_) => Failure::Memory,
-        },
+        SinkError::Failed => Failure::WriteFault(Name::empty(alloc)),
         SinkError::Memory => Failure::Memory,
     }
 }

@@ -1,9 +1,9 @@
 //! The steps that moves make.
-ghost use Rattle.std.specs.Prelude.{◌≡◌, ◌<◌, ◌+◌, IfOk, length, slice_index, slice_set};
+ghost use Rattle.std.specs.Prelude.{◌≡◌, ◌<◌, ◌+◌, [], IfOk, length, slice_index, slice_set};
 ghost use Rattle.tm_syntax.specs.Design.{DesignTree};
 ghost use Rattle.tm_syntax.specs.Design.View.{design_tree};
 ghost use Rattle.tm_scope.specs.Cells.{CellTables};
-ghost use Rattle.tm_sem.specs.Step.{Comes, IsState, LeadsToState, Step};
+ghost use Rattle.tm_sem.specs.Step.{Comes, IsState, LeadsToState, Step, memory_of};
 ghost use Rattle.tm_sem.specs.Value as run;
 ghost use Rattle.tm_sem.specs.declared.state.Outcome.TheVariants as outcomes;
 ghost use Rattle.tm_plain_exprs.specs.Kept.{Keeps};
@@ -17,6 +17,18 @@ use tm_plain_bodies::Course;
 use tm_plain_exprs::Store;
 use tm_scope::{BodyName, CellNumber, SiteBody};
 use tm_sem::state::{Move, Outcome, State};
+
+// The beginning of what a move does at a state, with these choices.
+pub(crate) fn begin(alloc: Global, state: &State, choices: &[u64]) -> Result<Course, AllocError>
+    ensures keeps { IfOk result (λ c. (x : CellTables) → Keeps x c.store (memory_of state.now)) }
+    ensures trail { IfOk result (λ c. c.trail ≡ []) }
+    ensures choices { IfOk result (λ c. c.choices ≡ choices.now) }
+{
+    match Vec::from_slice(alloc, state.values.as_slice()) {
+        Ok(values) => Course::new(alloc, values, choices),
+        Err(error) => Err(error),
+    }
+}
 
 // The values of the state variables, of which a memory has so many.
 fn values_of(alloc: Global, store: &Store, count: usize) -> Result<Vec<u64>, AllocError>
@@ -86,6 +98,26 @@ fn places_after(
     Ok(places)
 }
 
+// The state in which a run has left the variables of a state, with a process of which this is the location now.
+fn moved(
+    alloc: Global,
+    state: &State,
+    course: &Course,
+    process: usize,
+    place: u32,
+    last: u32,
+) -> Result<Outcome, AllocError>
+    ensures { (x : CellTables) (m : run.Memory) → Keeps x course.now.store m
+        → length m.values ≡ length state.now.values
+        → IfOk result (λ o. o ≡ outcomes.Next
+        (record { values = m.values; places = slice_set state.now.places process place; last = last })) }
+{
+    match places_after(alloc, state, process, place) {
+        Ok(places) => left_state(alloc, course, state.values.len(), places, last),
+        Err(error) => Err(error),
+    }
+}
+
 impl<'s> Machine<'s> {
     // What a process does from its location.
     fn move_process(
@@ -103,15 +135,30 @@ impl<'s> Machine<'s> {
     {
         let number = process as usize;
         prove!(number < self.locations.len());
-        let values = Vec::from_slice(alloc, state.values.as_slice())?;
-        let mut course = Course::new(alloc, values, choices)?;
-        match self.perform_rest(number, place_of(state, number), &mut course)? {
-            End::At(place) => {
-                let places = places_after(alloc, state, number, place as u32)?;
-                left_state(alloc, &course, state.values.len(), places, last)
+        let mut course = match begin(alloc, state, choices) {
+            Ok(course) => course,
+            Err(error) => return Err(error),
+        };
+        match self.perform_rest(number, place_of(state, number), &mut course) {
+            Ok(end) => match end {
+                End::At(place) => {
+                    let outcome = moved(alloc, state, &course, number, place as u32, last);
+                    drop(course);
+                    outcome
+                }
+                End::Failed => {
+                    drop(course);
+                    Ok(Outcome::Error)
+                }
+                End::Blocked => {
+                    drop(course);
+                    Ok(Outcome::NoOutcome)
+                }
+            },
+            Err(error) => {
+                drop(course);
+                Err(error)
             }
-            End::Failed => Ok(Outcome::Error),
-            End::Blocked => Ok(Outcome::NoOutcome),
         }
     }
 

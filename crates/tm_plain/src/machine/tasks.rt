@@ -18,11 +18,12 @@ ghost use Rattle.tm_plain.specs.Ends.{HaltsSo, Leads, driver_work};
 ghost use Rattle.tm_plain.specs.Tasks.{IsDriverTask, IsFoundTask};
 
 use crate::machine::Machine;
-use crate::machine::moves::left_state;
+use crate::machine::moves::{begin, left_state};
 use std::alloc::{AllocError, Global};
 use tm_plain_bodies::{Course, Frame, Halt};
 use tm_scope::{BodyName, SiteBody};
 use tm_sem::state::{Outcome, State};
+use tm_syntax::design::Design;
 use tm_syntax::tree::TaskDef;
 
 /// A controllable task, with the body of an instance in which it is done.
@@ -98,17 +99,21 @@ fn give(
     Ok(())
 }
 
-impl<'s> Machine<'s> {
-    // The task of a number of an instance.
-    fn task_def(&self, instance: u32, index: usize) -> Option<&'s TaskDef>
-        ensures { option_map (λ task. task.now) result
-            ≡ task_at (body_of self.now (record { instance = instance; body = Task index })) }
-    {
-        let node = self.design.instances.get(instance as usize)?;
-        let template = self.design.spec.templates.get(node.template as usize)?;
-        template.tasks.get(index)
+// The task of a number of an instance of a design.
+fn task_def(design: &Design, instance: u32, index: usize) -> Option<&TaskDef>
+    ensures { option_map (λ task. task.now) result
+        ≡ task_at (body_of design.now (record { instance = instance; body = Task index })) }
+{
+    match design.instances.get(instance as usize) {
+        Some(node) => match design.spec.templates.get(node.template as usize) {
+            Some(template) => template.tasks.get(index),
+            None => None,
+        },
+        None => None,
     }
+}
 
+impl<'s> Machine<'s> {
     // The controllable task of a number.
     pub(crate) fn controllable(&self, number: u32) -> Option<DriverTask<'_>>
         ensures found { IfSome result (λ k. IsDriverTask self.now number k.frame k.task.now) }
@@ -116,7 +121,7 @@ impl<'s> Machine<'s> {
     {
         let item = self.design.tasks.get(number as usize)?;
         let index = item.index? as usize;
-        let task = self.task_def(item.instance, index)?;
+        let task = task_def(self.design, item.instance, index)?;
         let at = SiteBody {
             instance: item.instance,
             body: BodyName::Task(index),
@@ -178,12 +183,23 @@ impl<'s> Machine<'s> {
             → IsDriverTask self.now number called.now.frame called.now.task.now
             → IfOk result (Step (design_tree self.now) state.now (moves.Call number args.now) choices.now) }
     {
-        let values = Vec::from_slice(alloc, state.values.as_slice())?;
-        let mut course = Course::new(alloc, values, choices)?;
-        give(alloc, called, &mut course, args)?;
-        let done = self
-            .runner
-            .perform_body(&called.frame, &mut course, &called.task.body);
-        called_outcome(alloc, state, &course, done)
+        let mut course = match begin(alloc, state, choices) {
+            Ok(course) => course,
+            Err(error) => return Err(error),
+        };
+        match give(alloc, called, &mut course, args) {
+            Ok(()) => {
+                let done = self
+                    .runner
+                    .perform_body(&called.frame, &mut course, &called.task.body);
+                let outcome = called_outcome(alloc, state, &course, done);
+                drop(course);
+                outcome
+            }
+            Err(error) => {
+                drop(course);
+                Err(error)
+            }
+        }
     }
 }

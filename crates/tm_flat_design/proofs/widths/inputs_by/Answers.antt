@@ -3,8 +3,8 @@ use Rattle.tm_locations.specs.declared.table.Locations.{Locations}
 use Rattle.tm_plain.specs.Machine.{AreLocated}
 use Rattle.tm_flat_design.proofs.widths.inputs_by.Goals as goal
 
-pub inputs_in-requires-clause-located : goal.inputs_in-requires-clause-located
-inputs_in-requires-clause-located c =
+pub inputs_in-widths-requires-clause-located : goal.inputs_in-widths-requires-clause-located
+inputs_in-widths-requires-clause-located c =
     let d = c.args.tables.now in
     subst (λ (all : List Locations). AreLocated d (length d.processes.items) all) (sym c.as_slice.ensures.value)
-    c.in_ok-locations.ensures
+    c.in-Ok.ensures

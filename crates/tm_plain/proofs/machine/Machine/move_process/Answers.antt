@@ -1,9 +1,7 @@
-use Rattle.std.proofs.Common.{◌≡◌, List, ℕ, length, sym, ap, ◌∙◌, subst, arith}
+use Rattle.std.proofs.Common.{refl, subst, arith}
 use Rattle.std.specs.Prelude.{slice_index}
 use Rattle.std.proofs.lemmas.Result.{IfOk-weaker}
 use Rattle.tm_syntax.specs.Design.View.{design_tree}
-use Rattle.tm_sem.specs.declared.state.Outcome.TheVariants.{Next}
-use Rattle.tm_sem.specs.State.{StateData}
 use Rattle.tm_plain_bodies.specs.Tables.{tables_of}
 use Rattle.tm_plain.specs.declared.machine.rests.End.TheVariants as end
 use Rattle.tm_plain.specs.Machine.{IsRunnable}
@@ -16,12 +14,10 @@ overflow_cast-place c =
     let d = c.args.self.now in
     let s = c.args.state.now in
     let p = c.args.process in
-    let values : c.in_ok-values.values.items ≡ s.values =
-    c.in_ok-values.ensures.items ∙ c.as_slice.ensures.value ∙ ap (λ (s : StateData). s.values) c.state.view_is in
-    let ends = rest_ends d s p c.place_of.result c.in_ok-course.course.store c.perform_rest.new.course.store
-    c.in_ok-course.course.choices c.args.choices.now c.in_ok-values.values.items c.in_ok-place.field-0
-    (end.At c.in-At.place) c.in_ok-place.ensures c.in-At.is (c.in_ok-course.ensures.keeps (tables_of d)) values
-    c.place_of.ensures c.in_ok-course.ensures.choices in
+    let ends = rest_ends d s p c.place_of.result c.in-Ok.course.store c.perform_rest.new.course.store
+    c.in-Ok.course.choices c.args.choices.now s.values c.in-Ok-perform_rest.end
+    (end.At c.in-At.place) c.in-Ok-perform_rest.ensures c.in-At.is (c.in-Ok.ensures.keeps (tables_of d)) refl
+    c.place_of.ensures c.in-Ok.ensures.choices in
     let few = (places_are_few d (subst IsRunnable c.self.view_is c.self.invariant.1)).places p in
     let within = arrives_within (design_tree d) s p (slice_index s.places p) c.args.last ends.0 c.in-At.place ends.2
     ends.4 in
@@ -33,45 +29,35 @@ returns-in-At c =
     let s = c.args.state.now in
     let p = c.args.process in
     let place = slice_index s.places p in
-    let values : c.in_ok-values.values.items ≡ s.values =
-    c.in_ok-values.ensures.items ∙ c.as_slice.ensures.value ∙ ap (λ (s : StateData). s.values) c.state.view_is in
-    let ends = rest_ends d s p c.place_of.result c.in_ok-course.course.store c.perform_rest.new.course.store
-    c.in_ok-course.course.choices c.args.choices.now c.in_ok-values.values.items c.in_ok-place.field-0
-    (end.At c.in-At.place) c.in_ok-place.ensures c.in-At.is (c.in_ok-course.ensures.keeps (tables_of d)) values
-    c.place_of.ensures c.in_ok-course.ensures.choices in
-    let count : c.len-in-At.result ≡ length s.values =
-    c.len-in-At.ensures ∙ c.state.inside.values.ok.0 ∙ ap (λ (s : StateData). length s.values) c.state.view_is in
+    let ends = rest_ends d s p c.place_of.result c.in-Ok.course.store c.perform_rest.new.course.store
+    c.in-Ok.course.choices c.args.choices.now s.values c.in-Ok-perform_rest.end
+    (end.At c.in-At.place) c.in-Ok-perform_rest.ensures c.in-At.is (c.in-Ok.ensures.keeps (tables_of d)) refl
+    c.place_of.ensures c.in-Ok.ensures.choices in
     let counted = arrives_counted (design_tree d) s p place c.args.last c.args.choices.now ends.0 c.in-At.place ends.2
     ends.3 ends.4 in
-    IfOk-weaker c.left_state.result _ _
+    IfOk-weaker c.moved-outcome.result _ _
     (λ o is. moves_to (design_tree d) s p place c.args.last c.args.choices.now ends.0 c.in-At.place ends.2 ends.3
-    ends.4 o
-    (is ∙ ap (λ (places : List ℕ). Next (record { values = ends.0.values; places = places; last = c.args.last }))
-    c.in_ok-places-in-At.ensures))
-    (c.left_state.ensures (tables_of d) ends.0 ends.1 (counted ∙ sym count))
+    ends.4 o is)
+    (c.moved-outcome.ensures (tables_of d) ends.0 ends.1 counted)
 
 pub returns-in-Failed : goal.returns-in-Failed
 returns-in-Failed c =
     let d = c.args.self.now in
     let s = c.args.state.now in
     let p = c.args.process in
-    let values : c.in_ok-values.values.items ≡ s.values =
-    c.in_ok-values.ensures.items ∙ c.as_slice.ensures.value ∙ ap (λ (s : StateData). s.values) c.state.view_is in
     moves_into_error (design_tree d) s p (slice_index s.places p) c.args.last c.args.choices.now
-    (rest_ends d s p c.place_of.result c.in_ok-course.course.store c.perform_rest.new.course.store
-    c.in_ok-course.course.choices c.args.choices.now c.in_ok-values.values.items c.in_ok-place.field-0 end.Failed
-    c.in_ok-place.ensures c.in-Failed.is (c.in_ok-course.ensures.keeps (tables_of d)) values c.place_of.ensures
-    c.in_ok-course.ensures.choices)
+    (rest_ends d s p c.place_of.result c.in-Ok.course.store c.perform_rest.new.course.store
+    c.in-Ok.course.choices c.args.choices.now s.values c.in-Ok-perform_rest.end end.Failed
+    c.in-Ok-perform_rest.ensures c.in-Failed.is (c.in-Ok.ensures.keeps (tables_of d)) refl c.place_of.ensures
+    c.in-Ok.ensures.choices)
 
-pub returns : goal.returns
-returns c =
+pub returns-in-Blocked : goal.returns-in-Blocked
+returns-in-Blocked c =
     let d = c.args.self.now in
     let s = c.args.state.now in
     let p = c.args.process in
-    let values : c.in_ok-values.values.items ≡ s.values =
-    c.in_ok-values.ensures.items ∙ c.as_slice.ensures.value ∙ ap (λ (s : StateData). s.values) c.state.view_is in
     moves_nowhere (design_tree d) s p (slice_index s.places p) c.args.last c.args.choices.now
-    (rest_ends d s p c.place_of.result c.in_ok-course.course.store c.perform_rest.new.course.store
-    c.in_ok-course.course.choices c.args.choices.now c.in_ok-values.values.items c.in_ok-place.field-0 end.Blocked
-    c.in_ok-place.ensures c.in-Blocked.is (c.in_ok-course.ensures.keeps (tables_of d)) values c.place_of.ensures
-    c.in_ok-course.ensures.choices)
+    (rest_ends d s p c.place_of.result c.in-Ok.course.store c.perform_rest.new.course.store
+    c.in-Ok.course.choices c.args.choices.now s.values c.in-Ok-perform_rest.end end.Blocked
+    c.in-Ok-perform_rest.ensures c.in-Blocked.is (c.in-Ok.ensures.keeps (tables_of d)) refl c.place_of.ensures
+    c.in-Ok.ensures.choices)

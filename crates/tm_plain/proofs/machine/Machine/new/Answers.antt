@@ -22,9 +22,9 @@ new-requires c =
 
 pub invariant_of-result : goal.invariant_of-result
 invariant_of-result c = (
-  c.in_ok-runner.ensures,
+  c.in-Ok-new.ensures,
   c.tables.invariant.runnable,
-  subst (λ (d : Design). AreLocated d (length d.processes.items) c.in_ok-locations.locations.items)
-      (sym c.tables.view_is) c.in_ok-locations.ensures,
+  subst (λ (d : Design). AreLocated d (length d.processes.items) c.in-Ok.locations.items)
+      (sym c.tables.view_is) c.in-Ok.ensures,
   c.tables.invariant.text,
 )
