@@ -61,14 +61,21 @@ fn count_atoms(
 {
     let instances = parts.instances.as_slice();
     let vars = parts.vars.as_slice();
-    let cells = Cells::new(alloc, scopes.spec(), scopes, instances, vars, pausing)?;
+    let cells = match Cells::new(alloc, scopes.spec(), scopes, instances, vars, pausing) {
+        Ok(cells) => cells,
+        Err(error) => return Err(error),
+    };
     let conditions = Conditions {
         goals: parts.items.goals.as_slice(),
         fairs: parts.items.fairs.as_slice(),
         processes: parts.items.processes.as_slice(),
         tasks: parts.items.tasks.as_slice(),
     };
-    let atoms = list_atoms(alloc, &cells, scopes, instances, conditions)?;
+    let listed = list_atoms(alloc, &cells, scopes, instances, conditions);
+    drop(cells);
     joined_designs_lead_by_text();
-    Ok(atoms.len())
+    match listed {
+        Ok(atoms) => Ok(atoms.len()),
+        Err(error) => Err(error),
+    }
 }

@@ -16,7 +16,7 @@ use crate::atoms::with_few_atoms;
 use crate::calls::call_order_of;
 use crate::faults::template_cycle;
 use crate::parts::{Parts, list_parts, pausing_of};
-use std::alloc::Global;
+use std::alloc::{AllocError, Global};
 use tm_limits::{TemplateOrder, first_limit, template_order};
 use tm_scope::Scopes;
 use tm_syntax::design::Design;
@@ -61,11 +61,26 @@ fn parts_of(alloc: Global, spec: &Spec) -> Result<Parts, FrontError>
     ensures ok { IfOk result (HasSoundParts (spec_tree spec.now)) }
     ensures faulty { IfErr result (IsMemoryOr (HasTreeFault (spec_tree spec.now))) }
 {
-    let scopes = Scopes::new(alloc, spec)?;
-    match template_order(alloc, &scopes)? {
+    let scopes = match Scopes::new(alloc, spec) {
+        Ok(scopes) => scopes,
+        Err(AllocError) => return Err(FrontError::Memory),
+    };
+    let parts = parts_in(alloc, &scopes);
+    drop(scopes);
+    parts
+}
+
+// The same, by the scopes of the specification.
+fn parts_in(alloc: Global, scopes: &Scopes) -> Result<Parts, FrontError>
+    requires typed { IsTyped (spec_tree scopes.now) }
+    requires short { IsOfShortText (spec_tree scopes.now) }
+    ensures ok { IfOk result (HasSoundParts (spec_tree scopes.now)) }
+    ensures faulty { IfErr result (IsMemoryOr (HasTreeFault (spec_tree scopes.now))) }
+{
+    match template_order(alloc, scopes)? {
         TemplateOrder::Cyclic(name) => Err(FrontError::Faulty(template_cycle(alloc, name)?)),
         TemplateOrder::Ordered(graph, order) => {
-            ordered_parts(alloc, &scopes, graph.as_slice(), order.as_slice())
+            ordered_parts(alloc, scopes, graph.as_slice(), order.as_slice())
         }
     }
 }

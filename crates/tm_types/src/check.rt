@@ -40,7 +40,9 @@ fn first_fault(alloc: Global, spec: &Spec) -> Result<Option<Faulty>, AllocError>
     ensures { IfOk result (IsFirstOf type_kinds (spec_tree spec.now)) }
 {
     let scopes = TextScopes::new(alloc, spec);
-    fault_by_scopes(alloc, spec, &scopes)
+    let found = fault_by_scopes(alloc, spec, &scopes);
+    drop(scopes);
+    found
 }
 
 // The fault of a specification, given its scopes where memory sufficed for them.
@@ -55,7 +57,9 @@ fn fault_by_scopes(
     match scopes {
         Ok(scopes) => {
             let tables = Scopes::new(alloc, spec);
-            fault_by_tables(alloc, spec, scopes, &tables)
+            let found = fault_by_tables(alloc, spec, scopes, &tables);
+            drop(tables);
+            found
         }
         Err(error) => Err(*error),
     }
@@ -75,7 +79,9 @@ fn fault_by_tables(
     match tables {
         Ok(tables) => {
             let names = TextNames::new(alloc, spec, tables, scopes);
-            fault_by_names(alloc, spec, scopes, tables, &names)
+            let found = fault_by_names(alloc, spec, scopes, tables, &names);
+            drop(names);
+            found
         }
         Err(error) => Err(*error),
     }

@@ -76,5 +76,7 @@ pub(crate) fn first_looping<'a>(
     ensures none { IfOk result (λ r. IfNone r (IsFree (spec_tree spec.now) kind.CallCycle)) }
 {
     let looping = given!(looping_tasks(alloc, scopes));
-    Ok(first_in_templates(&looping, spec.templates.as_slice()))
+    let first = first_in_templates(&looping, spec.templates.as_slice());
+    drop(looping);
+    Ok(first)
 }

@@ -213,7 +213,9 @@ fn loop_fault(
     ensures { IfOk result (IsFirstOf (kind.LoopWithoutLocation ∷ []) (spec_tree spec.now)) }
 {
     let crossing = given!(crossing_tasks(alloc, scopes, order));
-    let first = given!(first_endless_loop(alloc, scopes, spec, &crossing));
+    let found = first_endless_loop(alloc, scopes, spec, &crossing);
+    drop(crossing);
+    let first = given!(found);
     Ok(placed(FaultKind::LoopWithoutLocation, first))
 }
 
@@ -231,7 +233,9 @@ fn location_fault(
     ensures { IfOk result (IsFirstOf (kind.LocationInAtomic ∷ []) (spec_tree spec.now)) }
 {
     let pausing = given!(pausing_tasks(alloc, scopes, order));
-    let first = given!(first_atomic_location(alloc, scopes, spec, &pausing));
+    let found = first_atomic_location(alloc, scopes, spec, &pausing);
+    drop(pausing);
+    let first = given!(found);
     Ok(placed(FaultKind::LocationInAtomic, first))
 }
 

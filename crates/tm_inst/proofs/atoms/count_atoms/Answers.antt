@@ -5,13 +5,13 @@ use Rattle.tm_scope.specs.Cells.{CellTables, HasCells}
 use Rattle.tm_inst.specs.Inner.Parts.{parts_tree}
 use Rattle.tm_inst.proofs.atoms.count_atoms.Goals as goal
 
-pub returns : goal.returns
-returns c =
+pub returns-in-Ok-listed : goal.returns-in-Ok-listed
+returns-in-Ok-listed c =
     let d : DesignTree = parts_tree (spec_tree c.args.scopes.now) c.args.parts.now in
     let typed = c.requires.typed in
     c.len.ensures
-    ∙ c.in_ok-atoms.ensures.count d
-    (subst (λ (x : CellTables). HasCells x d) (sym c.in_ok-cells.ensures) (record {
+    ∙ c.in-Ok-listed.ensures.count d
+    (subst (λ (x : CellTables). HasCells x d) (sym c.in-Ok.ensures) (record {
       text = ap spec_tree (sym c.spec.ensures);
       instances = ap (map instance_node) (sym c.as_slice-instances.ensures.value);
       vars = sym c.as_slice-vars.ensures.value;

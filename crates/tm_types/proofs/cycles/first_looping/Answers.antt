@@ -17,8 +17,8 @@ returns-clause-first c =
     let looping : List Member = c.in-Ok.given in
     looping_found (spec_tree c.args.spec.now) looping
     (subst (λ (s : Spec). (m : Member) → (is_in looping m ≡ true) ↔ Reaches (spec_tree s) m m) c.requires
-    c.in-Ok.ensures) c.first_in_templates.result
-    (c.first_in_templates.ensures ∙ ap (λ ts. first_mark (flat_map (looping_mark looping)
+    c.in-Ok.ensures) c.first_in_templates-first.result
+    (c.first_in_templates-first.ensures ∙ ap (λ ts. first_mark (flat_map (looping_mark looping)
     (flat_map template_tasks (enumerate_from 0 (map template_tree ts))))) c.as_slice.ensures.value)
 
 pub returns-clause-none : goal.returns-clause-none
@@ -26,6 +26,6 @@ returns-clause-none c =
     let looping : List Member = c.in-Ok.given in
     looping_none (spec_tree c.args.spec.now) looping
     (subst (λ (s : Spec). (m : Member) → (is_in looping m ≡ true) ↔ Reaches (spec_tree s) m m) c.requires
-    c.in-Ok.ensures) c.first_in_templates.result
-    (c.first_in_templates.ensures ∙ ap (λ ts. first_mark (flat_map (looping_mark looping)
+    c.in-Ok.ensures) c.first_in_templates-first.result
+    (c.first_in_templates-first.ensures ∙ ap (λ ts. first_mark (flat_map (looping_mark looping)
     (flat_map template_tasks (enumerate_from 0 (map template_tree ts))))) c.as_slice.ensures.value)
