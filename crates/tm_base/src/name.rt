@@ -43,7 +43,7 @@ impl Name {
         ensures { result ≡ [] }
     {
         Name {
-            bytes: Vec::new(alloc),
+            bytes: SmallVec::new(alloc),
         }
     }
 
