@@ -1,5 +1,5 @@
 -- What changes of levels make of a function, node by node.
-use Rattle.std.proofs.Common.{◌≡◌, ◌≢◌, ℕ, ◌<◌, ◌≤◌, Bool, true, false, eqb, ◌||◌, if◌then◌else◌, Option, Some, None, refl, sym, ap, subst, ◌∙◌, arith}
+use Rattle.std.proofs.Common.{◌≡◌, ◌≢◌, ◌⊎◌, inl, inr, ℕ, ◌<◌, ◌≤◌, Bool, true, false, eqb, ◌||◌, if◌then◌else◌, Option, Some, None, refl, sym, ap, subst, ◌∙◌, arith}
 use Rattle.std.proofs.lemmas.Bool.{eqb-true, eqb-false, eq-eqb, ne_eqb}
 use Rattle.tm_dd.specs.declared.node.Node.{Node}
 use Rattle.tm_dd.specs.declared.node.NodeId.{NodeId}
@@ -7,11 +7,11 @@ use Rattle.tm_dd.specs.declared.node.TheConstants.{FALSE, TRUE}
 use Rattle.tm_dd.specs.NodeId.{IsConstant}
 use Rattle.tm_dd.specs.Reduced.{IsReduced, IsNode, Extends}
 use Rattle.tm_dd.specs.Table.{Table, Knows, depth_of, means, node_of, rank_of}
-use Rattle.tm_dd.proofs.CallerLaws.{means-FALSE, means-TRUE, rank_of-Extends}
-use Rattle.tm_dd.proofs.Ranks.{ranks_apart}
+use Rattle.tm_dd.proofs.CallerLaws.{depth_of-IsConstant, means-FALSE, means-TRUE, rank_of-Extends}
+use Rattle.tm_dd.proofs.Ranks.{rank_of-below, ranks_apart}
 use Rattle.tm_ddops.specs.declared.change.Change.{Change}
 use Rattle.tm_ddops.specs.declared.change.Change.TheVariants.{Becomes, Quantified}
-use Rattle.tm_ddops.specs.Changed.{IsChanged, IsDepth, KnowsParts, MayRead, Reads, branch_value}
+use Rattle.tm_ddops.specs.Changed.{IsChanged, IsDepth, IsSettled, KnowsParts, MayRead, Reads, branch_value}
 use Rattle.tm_ddops.specs.Manager.{IsFunction}
 use Rattle.tm_ddops.proofs.Facts.{knows-Extends}
 
@@ -48,6 +48,17 @@ changed_below s reduced changes f known parts depth deepest above = record {
   where
     stay : (k : ℕ) → depth_of s f ≤ rank_of s k → k < s.levels → changes k ≡ None
     stay k deep below = deepest.stay k below (omega (arith, above, deep))
+
+-- no level is as deep as a constant
+pub changed_constant : (s : Table) → IsReduced s → (changes : ℕ → Option Change) (f : NodeId) → IsConstant f → Knows s f →
+    KnowsParts s changes → IsChanged s changes f f
+changed_constant s reduced changes f constant known parts =
+    changed_below s reduced changes f known parts s.levels
+    (record {
+      within = omega arith;
+      stay = λ k below deep. absurd (omega (arith, rank_of-below s reduced.ranks k below, deep));
+    })
+    (omega (arith, depth_of-IsConstant s reduced f constant))
 
 -- changes that agree on all levels make the same of a function
 pub changed_alike : (s : Table) (c d : ℕ → Option Change) → ((k : ℕ) → k < s.levels → c k ≡ d k) → (f id : NodeId) →
@@ -162,6 +173,32 @@ module _ (s : Table) (reduced : IsReduced s) (changes : ℕ → Option Change) (
       (sym (ap changes (eqb-true k (node_of s f).level here) ∙ at)) tt)
       (λ apart. subst (Reads s v k (changes k))
       (sym (set-other w (node_of s f).level k b (eqb-false k (node_of s f).level apart))) (may k below))
+
+  -- where a constant takes the place of the level, one branch is left
+  pub changed_settled : (branch : NodeId) → IsSettled (changes (node_of s f).level) (node_of s f) branch → (id : NodeId) →
+      IsChanged s changes branch id → IsChanged s changes f id
+  changed_settled branch settled id x = elim settled [
+    | inl on ↦ by_branch true (λ v w may. reads TRUE on.0 v w may ∙ means-TRUE s v) (node_of s f).hi
+        (λ w h. f_true w h) (subst (λ b. IsChanged s changes b id) on.1 x)
+    | inr off ↦ by_branch false (λ v w may. reads FALSE off.0 v w may ∙ means-FALSE s v) (node_of s f).lo
+        (λ w h. f_false w h) (subst (λ b. IsChanged s changes b id) off.1 x)
+  ]
+    where
+      reads : (part : NodeId) → changes (node_of s f).level ≡ Some (Becomes part) → (v w : ℕ → Bool) →
+          MayRead s changes v w → w (node_of s f).level ≡ means s part v
+      reads part at v w may = subst (λ o. Reads s v (node_of s f).level o (w (node_of s f).level)) at
+          (may (node_of s f).level node.below)
+
+      by_branch : (b : Bool) → ((v w : ℕ → Bool) → MayRead s changes v w → w (node_of s f).level ≡ b) → (g : NodeId) →
+          ((w : ℕ → Bool) → w (node_of s f).level ≡ b → means s f w ≡ means s g w) → IsChanged s changes g id →
+          IsChanged s changes f id
+      by_branch b forced g same y = record {
+        operand = known;
+        known = y.known;
+        parts = y.parts;
+        some = λ v h. let r = y.some v h in (r.0, r.1, same r.0 (forced v r.0 r.1) ∙ r.2);
+        enough = λ v w may h. y.enough v w may (sym (same w (forced v w may)) ∙ h);
+      }
 
   module _ (lo : NodeId) (low : IsChanged s changes (node_of s f).lo lo) where
     -- where the first branch is true at a quantified level, so is the function

@@ -14,10 +14,11 @@ use Rattle.std.specs.Map.Iter.{TakesFirst}
 use Rattle.std.specs.Prelude.{◌↔◌, IfOk, Option, Result, Some, Ok, Err}
 use Rattle.lru.proofs.Splits.{Contains-head, Contains-tail, Contains-cons, Contains-nil}
 use Rattle.tm_dd.specs.declared.node.NodeId.{NodeId}
+use Rattle.tm_dd.specs.declared.node.TheConstants.{FALSE}
 use Rattle.tm_dd.specs.NodeId.{number_of, IsConstant}
 use Rattle.tm_dd.specs.Reduced.{IsReduced, IsNode}
 use Rattle.tm_dd.specs.Table.{Table, Knows, depth_of, level_of, means, node_of, rank_of}
-use Rattle.tm_dd.proofs.CallerLaws.{depth_of-IsConstant}
+use Rattle.tm_dd.proofs.CallerLaws.{depth_of-IsConstant, means-FALSE}
 use Rattle.tm_dd.proofs.Ranks.{rank_of-below, ranks_apart}
 use Rattle.tm_ddops.specs.Reached.{Reaches, itself, through_lo, through_hi, IsInnerNodes}
 use Rattle.tm_ddops.specs.Support.{DependsOn, with_value}
@@ -110,6 +111,15 @@ module _ (s : Table) (reduced : IsReduced s) where
             (λ v. agrees-true (means s f v) (means s g v) (everywhere v))))
         | inr somewhere ↦ (somewhere.0, agrees-false (means s f somewhere.0) (means s g somewhere.0) somewhere.1)
       ]
+
+  -- what is not false is true somewhere
+  pub somewhere : (f : NodeId) → Knows s f → f ≢ FALSE → (v : ℕ → Bool) × (means s f v ≡ true)
+  somewhere f known differ =
+      let apart = tell_apart f FALSE known (omega arith) differ in (
+        apart.0,
+        by_value (means s f apart.0) (λ on. on)
+            (λ off. absurd (apart.1 (off ∙ sym (means-FALSE s apart.0)))),
+      )
 
   -- ---- nodes
 

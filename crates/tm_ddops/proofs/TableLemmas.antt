@@ -1,15 +1,18 @@
 -- What holds of the tables that walks leave, after one more walk.
-use Rattle.std.proofs.Common.{◌≡◌, ℕ, ◌<◌, ◌≤◌, Bool, true, false, eqb, List, [], length, Option, Some, get_or, refl, sym, ap, subst, ◌∙◌, arith}
+use Rattle.std.proofs.Common.{◌≡◌, ℕ, ◌<◌, ◌≤◌, Bool, true, false, eqb, List, [], ◌∷◌, ◌++◌, length, Option, Some, get_or, refl, sym, ap, subst, ◌∙◌, arith}
 use Rattle.std.proofs.lemmas.Bool.{eqb-true, eqb-false}
+use Rattle.std.proofs.lemmas.List.{get_or_push, length_push}
 use Rattle.tm_dd.specs.declared.node.NodeId.{NodeId}
 use Rattle.tm_dd.specs.Reduced.{Extends}
 use Rattle.tm_dd.specs.Table.{Table}
 use Rattle.tm_dd.proofs.CallerLaws.{rank_of-Extends}
 use Rattle.tm_ddops.specs.declared.change.Change.{Change}
 use Rattle.tm_ddops.specs.declared.tables.Tables.{Tables}
-use Rattle.tm_ddops.specs.declared.quantifiers.Quantifiers.{Quantifiers}
-use Rattle.tm_ddops.specs.Changed.{IsChanged, IsDepth, change_of}
-use Rattle.tm_ddops.specs.Inner.Quantifiers.{AreQuantifiers, HasNumber, quantified}
+use Rattle.tm_ddops.specs.declared.plans.Plan.{Plan}
+use Rattle.tm_ddops.specs.declared.plans.Quantifier.{Quantifier}
+use Rattle.tm_ddops.specs.declared.plans.Substitution.{Substitution}
+use Rattle.tm_ddops.specs.Changed.{IsChanged, IsDepth, KnowsParts, change_at, change_of}
+use Rattle.tm_ddops.specs.Inner.Plans.{AreQuantifiers, AreSubstitutions, HasNumber, IsPlan, quantified, substituting}
 use Rattle.tm_ddops.specs.Inner.Memo.{AreChoices}
 use Rattle.tm_ddops.specs.Inner.Tables.{AreTrue, AreVisits, IsTrueVisit, numbered}
 use Rattle.tm_ddops.specs.Inner.Visited.{AreChanged, SameElsewhere, Visited, found_under}
@@ -35,21 +38,33 @@ IsDepth-Extends s t e changes depth x = record {
       x.stay k (omega (arith, below, e.same_levels)) (omega (arith, deep, rank_of-Extends s t e k));
 }
 
-pub AreQuantifiers-Extends : (s t : Table) → Extends s t → (lists : List (List (ℕ × Change))) (q : Quantifiers) →
-    AreQuantifiers s lists q → AreQuantifiers t lists q
-AreQuantifiers-Extends s t e lists q are k d within =
-    let x = are k d within in
-    record {
-      number = x.number;
-      deep = IsDepth-Extends s t e (change_of (quantified (get_or q.list.items k d).levels.items))
-          (get_or q.list.items k d).depth x.deep;
-    }
+IsPlan-Extends : (s t : Table) → Extends s t → (lists : List (List (ℕ × Change))) (changes : List (ℕ × Change))
+    (p : Plan) → IsPlan s lists changes p → IsPlan t lists changes p
+IsPlan-Extends s t e lists changes p x = record {
+  number = x.number;
+  deep = IsDepth-Extends s t e (change_of changes) p.depth x.deep;
+  count = x.count ∙ sym e.same_levels;
+  alike = λ k below. x.alike k (omega (arith, below, e.same_levels));
+}
+
+pub AreQuantifiers-Extends : (s t : Table) → Extends s t → (lists : List (List (ℕ × Change))) (kept : List Quantifier) →
+    AreQuantifiers s lists kept → AreQuantifiers t lists kept
+AreQuantifiers-Extends s t e lists kept are k d within =
+    let x = get_or kept k d in
+    IsPlan-Extends s t e lists (quantified x.levels.items) x.plan (are k d within)
+
+pub AreSubstitutions-Extends : (s t : Table) → Extends s t → (lists : List (List (ℕ × Change)))
+    (kept : List Substitution) → AreSubstitutions s lists kept → AreSubstitutions t lists kept
+AreSubstitutions-Extends s t e lists kept are k d within =
+    let x = get_or kept k d in
+    IsPlan-Extends s t e lists (substituting x.parts.items) x.plan (are k d within)
 
 pub AreTrue-Extends : (s t : Table) → Extends s t → (tables : Tables) → AreTrue s tables → AreTrue t tables
 AreTrue-Extends s t e tables are = record {
   choices = AreChoices-Extends s t e tables.walks.choices are.choices;
   visits = AreVisits-Extends s t e tables.changes.keys tables.walks.found are.visits;
-  quantifiers = AreQuantifiers-Extends s t e tables.changes.keys tables.quantifiers are.quantifiers;
+  quantifiers = AreQuantifiers-Extends s t e tables.changes.keys tables.quantifiers.items are.quantifiers;
+  substitutions = AreSubstitutions-Extends s t e tables.changes.keys tables.substitutions.items are.substitutions;
 }
 
 -- ---- more numbered changes
@@ -71,25 +86,33 @@ module _ (s : Table) (lists more : List (List (ℕ × Change))) (grows : length 
     same = kept n x.within ∙ x.same;
   }
 
-  pub quantifiers_later : (q : Quantifiers) → AreQuantifiers s lists q → AreQuantifiers s more q
-  quantifiers_later q are k d within =
-      let x = are k d within in
-      record {
-        number = number_later (quantified (get_or q.list.items k d).levels.items) (get_or q.list.items k d).number
-            x.number;
-        deep = x.deep;
-      }
+  plan_later : (changes : List (ℕ × Change)) (p : Plan) → IsPlan s lists changes p → IsPlan s more changes p
+  plan_later changes p x = record
+      { number = number_later changes p.number x.number; deep = x.deep; count = x.count; alike = x.alike }
+
+  pub quantifiers_later : (kept : List Quantifier) → AreQuantifiers s lists kept → AreQuantifiers s more kept
+  quantifiers_later kept are k d within =
+      let x = get_or kept k d in
+      plan_later (quantified x.levels.items) x.plan (are k d within)
+
+  pub substitutions_later : (kept : List Substitution) → AreSubstitutions s lists kept → AreSubstitutions s more kept
+  substitutions_later kept are k d within =
+      let x = get_or kept k d in
+      plan_later (substituting x.parts.items) x.plan (are k d within)
 
 -- the entries are true after changes got a number
 pub AreTrue-numbered : (s : Table) (old new : Tables) → length old.changes.keys ≤ length new.changes.keys
     → ((n : ℕ) → n < length old.changes.keys → get_or new.changes.keys n [] ≡ get_or old.changes.keys n [])
-    → new.walks ≡ old.walks → new.quantifiers ≡ old.quantifiers → AreTrue s old → AreTrue s new
-AreTrue-numbered s old new grows kept walks quantifiers are = record {
+    → new.walks ≡ old.walks → new.quantifiers ≡ old.quantifiers → new.substitutions ≡ old.substitutions
+    → AreTrue s old → AreTrue s new
+AreTrue-numbered s old new grows kept walks quantifiers substitutions are = record {
   choices = subst (λ w. AreChoices s w.choices) (sym walks) are.choices;
   visits = visits_later s old.changes.keys new.changes.keys grows kept new.walks.found
       (subst (λ w. AreVisits s old.changes.keys w.found) (sym walks) are.visits);
-  quantifiers = subst (AreQuantifiers s new.changes.keys) (sym quantifiers)
-      (quantifiers_later s old.changes.keys new.changes.keys grows kept old.quantifiers are.quantifiers);
+  quantifiers = subst (λ q. AreQuantifiers s new.changes.keys q.items) (sym quantifiers)
+      (quantifiers_later s old.changes.keys new.changes.keys grows kept old.quantifiers.items are.quantifiers);
+  substitutions = subst (λ q. AreSubstitutions s new.changes.keys q.items) (sym substitutions)
+      (substitutions_later s old.changes.keys new.changes.keys grows kept old.substitutions.items are.substitutions);
 }
 
 -- ---- a walk under the changes of a number
@@ -118,3 +141,45 @@ module _ (s : Table) (lists : List (List (ℕ × Change))) (number : ℕ) (table
       by_number false apart =
           IsTrueVisit-Extends s t e lists k f id
           (are k f id (sym (others k f (eqb-false k number apart)) ∙ h))
+
+-- ---- a walk under the changes of a plan
+
+module _ (s : Table) (lists : List (List (ℕ × Change))) (changes : List (ℕ × Change)) (p : Plan)
+    (plan : IsPlan s lists changes p) where
+  by_number : (k : ℕ) → k < s.levels → change_at p.by_level.items k ≡ numbered lists p.number k
+  by_number k below = plan.alike k below ∙ ap (λ l. change_of l k) (sym plan.number.same)
+
+  -- what the walk asks for
+  pub plan_depth : IsDepth s (change_at p.by_level.items) p.depth
+  plan_depth = record {
+    within = plan.deep.within;
+    stay = λ k below deep. plan.alike k below ∙ plan.deep.stay k below deep;
+  }
+
+  pub plan_parts : KnowsParts s (change_of changes) → KnowsParts s (change_at p.by_level.items)
+  plan_parts known k below part h = known k below part (sym (plan.alike k below) ∙ h)
+
+  pub plan_found : (m : Visited) → AreVisits s lists m → AreChanged s (change_at p.by_level.items) p.number m
+  plan_found m are = visits_of_number s lists p.number (change_at p.by_level.items) by_number m are
+
+  -- what it answers
+  module _ (t : Table) (e : Extends s t) where
+    pub plan_visits : (m n : Visited) → AreVisits s lists m → AreChanged t (change_at p.by_level.items) p.number n →
+        SameElsewhere p.number m n → AreVisits t lists n
+    plan_visits m n are changed others =
+        visits_after s lists p.number (change_at p.by_level.items) by_number t e plan.number.within m n are changed others
+
+    pub plan_answer : (f id : NodeId) → IsChanged t (change_at p.by_level.items) f id →
+        IsChanged t (change_of changes) f id
+    plan_answer f id x = changed_alike t (change_at p.by_level.items) (change_of changes)
+        (λ k below. plan.alike k (omega (arith, below, e.same_levels))) f id x
+
+-- ---- lists
+
+-- what is put behind a list is the last
+pub pushed : {A : Type 0} (xs ys : List A) (x : A) (n : ℕ) → ys ≡ xs ++ x ∷ [] → length xs ≡ n →
+    (n < length ys) × ((d : A) → get_or ys n d ≡ x)
+pushed xs ys x n same long = (
+  omega (arith, ap length same, length_push xs x, long),
+  (λ d. ap (λ l. get_or l n d) same ∙ get_or_push xs x d n long),
+)

@@ -1,7 +1,9 @@
 -- What changes of levels make of a function.
-use Rattle.std.specs.Prelude.{◌≡◌, ℕ, ◌==◌, ◌<◌, ◌≤◌, Bool, true, ◌||◌, List, Option, Some, None, slice_index_or, if◌then◌else◌}
+use Rattle.std.specs.Prelude.{◌≡◌, ℕ, ◌==◌, ◌<◌, ◌≤◌, ◌⊎◌, Bool, true, ◌||◌, List, Option, Some, None, slice_index_or, if◌then◌else◌}
 use Rattle.std.specs.Map.{lookup}
+use Rattle.tm_dd.specs.declared.node.Node.{Node}
 use Rattle.tm_dd.specs.declared.node.NodeId.{NodeId}
+use Rattle.tm_dd.specs.declared.node.TheConstants.{FALSE, TRUE}
 use Rattle.tm_dd.specs.Table.{Table, Knows, means, rank_of}
 use Rattle.tm_ddops.specs.declared.change.Change.{Change}
 use Rattle.tm_ddops.specs.declared.change.Change.TheVariants.{Becomes, Quantified}
@@ -46,6 +48,11 @@ pub record IsChanged (s : Table) (changes : ℕ → Option Change) (f id : NodeI
 abbrev pub branch_value : Table → Change → NodeId → NodeId → (ℕ → Bool) → Bool
 branch_value s (Becomes part) lo hi v = if means s part v then means s hi v else means s lo v
 branch_value s Quantified lo hi v = means s lo v || means s hi v
+
+-- the branch of a node that is left where a constant takes the place of its level
+abbrev pub IsSettled : Option Change → Node → NodeId → Type 0
+IsSettled change node branch =
+    ((change ≡ Some (Becomes TRUE)) × (branch ≡ node.hi)) ⊎ ((change ≡ Some (Becomes FALSE)) × (branch ≡ node.lo))
 
 -- the first of two changes that is there
 abbrev pub first_of : Option Change → Option Change → Option Change

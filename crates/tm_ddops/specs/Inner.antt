@@ -2,6 +2,6 @@
 pub mod Found
 pub mod Hashed
 pub mod Memo
-pub mod Quantifiers
+pub mod Plans
 pub mod Tables
 pub mod Visited

@@ -7,7 +7,6 @@ ghost use Rattle.tm_ddops.specs.Manager.{Grows, IsFunction, IsManager, IsResult,
 ghost use Rattle.tm_ddops.specs.Operation.{substituted};
 ghost use Rattle.tm_ddops.specs.declared.operation.Operation.TheVariants as operation;
 
-use crate::change::Changes;
 use crate::manager::Manager;
 use crate::operation::{Operation, Parts};
 use std::alloc::AllocError;
@@ -35,7 +34,22 @@ impl Manager {
         Ok(answer)
     }
 
-    // The same, by a walk. It remembers nothing.
+    /// The same. It remembers no result, so where none is asked for again it takes less.
+    pub fn compose_once(&mut self, f: NodeId, parts: &[(u32, NodeId)]) -> Result<NodeId, AllocError>
+        requires known { Knows self.old.table f }
+        requires parts { (g : Id) → Contains (map (λ p. p.1) parts.now) g → Knows self.old.table g }
+
+        ensures manager { IsManager self.new }
+        ensures extends { Extends self.old.table self.new.table }
+        ensures results { self.new.results ≡ self.old.results }
+        ensures answer { IfOk result (λ id.
+            IsFunction self.new.table id (λ v.
+            means self.new.table f (substituted self.new.table parts.now v))) }
+    {
+        self.composed(f, parts)
+    }
+
+    // The same, as the result of an operation.
     fn composed(&mut self, f: NodeId, parts: &[(u32, NodeId)]) -> Result<NodeId, AllocError>
         requires known { Knows self.old.table f }
         requires parts { (g : Id) → Contains (map (λ p. p.1) parts.now) g → Knows self.old.table g }
@@ -45,7 +59,6 @@ impl Manager {
         ensures results { self.new.results ≡ self.old.results }
         ensures answer { IfOk result (IsResult self.new.table (operation.Compose f parts.now)) }
     {
-        let changes = Changes::from_parts(self.alloc, parts)?;
-        self.rewrite(f, changes)
+        self.rewrite(f, parts)
     }
 }

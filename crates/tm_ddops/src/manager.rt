@@ -9,13 +9,12 @@ ghost use Rattle.tm_ddops.specs.Changed.{IsChanged, KnowsParts, change_of};
 ghost use Rattle.tm_ddops.specs.Choice.{choice_value, KnowsChoice};
 ghost use Rattle.tm_ddops.specs.Manager.{Grows, IsFunction, IsManager, IsResult, Remembers, most_results};
 ghost use Rattle.tm_ddops.specs.Inner.Memo.{HasOpen};
-ghost use Rattle.tm_ddops.specs.Inner.Quantifiers.{quantified};
+ghost use Rattle.tm_ddops.specs.Inner.Plans.{quantified, substituting};
 ghost use Rattle.tm_ddops.specs.Operation.{operands, operation_value};
 ghost use Rattle.tm_dd.specs.declared.node.NodeId.{NodeId as Id};
 ghost use Rattle.tm_ddops.specs.declared.choice.Choice.{Choice as Met};
 
 use crate::cache::{Cache, recall, remember};
-use crate::change::Changes;
 use crate::choice::Choice;
 use crate::operation::Operation;
 use crate::tables::Tables;
@@ -227,11 +226,15 @@ impl Manager {
             IsFunction self.new.table id (λ v.
             if means self.new.table f v then means self.new.table g v else means self.new.table h v)) }
     {
+        prove!(self.cache.len() <= self.cache.cap().get());
         let choice = Choice {
             test: f,
             if_true: g,
             if_false: h,
         };
+        if let Some(known) = choice.shortcut() {
+            return Ok(known);
+        }
         self.tables.limit(self.alloc);
         walk(
             &mut self.store,
@@ -241,18 +244,22 @@ impl Manager {
         )
     }
 
-    // What the changes make of `f`, by a walk. It remembers nothing.
-    pub(crate) fn rewrite(&mut self, f: NodeId, changes: Changes) -> Result<NodeId, AllocError>
+    // The function `f` with the parts' functions in the places of their levels. It remembers nothing.
+    pub(crate) fn rewrite(
+        &mut self,
+        f: NodeId,
+        parts: &[(u32, NodeId)],
+    ) -> Result<NodeId, AllocError>
         requires known { Knows self.old.table f }
-        requires parts { KnowsParts self.old.table (change_of changes) }
+        requires parts { KnowsParts self.old.table (change_of (substituting parts.now)) }
 
         ensures manager { IsManager self.new }
         ensures extends { Extends self.old.table self.new.table }
         ensures results { self.new.results ≡ self.old.results }
-        ensures answer { IfOk result (IsChanged self.new.table (change_of changes) f) }
+        ensures answer { IfOk result (IsChanged self.new.table (change_of (substituting parts.now)) f) }
     {
         self.tables.limit(self.alloc);
-        self.tables.rewrite(self.alloc, &mut self.store, f, changes)
+        self.tables.rewrite(self.alloc, &mut self.store, f, parts)
     }
 
     // What is left of `f` where levels may have any value. It remembers nothing.

@@ -6,7 +6,14 @@ ghost use Rattle.tm_ddops.specs.Reached.{HasSize, IsClosed, IsGathered, IsInnerN
 use crate::manager::Manager;
 use std::alloc::{AllocError, Global};
 use std::collections::HashSet;
-use tm_dd::{NodeId, Store};
+use std::hash::BuildHasherDefault;
+use tm_dd::{NodeId, NumberHasher, Store};
+
+/// For how many ids there is room from the start: many functions reach fewer.
+const ROOM: usize = 512;
+
+/// Ids of inner nodes.
+pub(crate) type Inner = HashSet<NodeId, BuildHasherDefault<NumberHasher>>;
 
 impl Manager {
     /// How many ids of inner nodes are reached from `f`.
@@ -20,22 +27,18 @@ impl Manager {
 }
 
 /// The ids of inner nodes that are reached from `f`.
-pub(crate) fn inner_nodes(
-    alloc: Global,
-    store: &Store,
-    f: NodeId,
-) -> Result<HashSet<NodeId>, AllocError>
+pub(crate) fn inner_nodes(alloc: Global, store: &Store, f: NodeId) -> Result<Inner, AllocError>
     requires { Knows store.now f }
     ensures { IfOk result (λ inner. IsInnerNodes store.now f inner.keys) }
 {
-    let mut inner = HashSet::new(alloc);
+    let mut inner = HashSet::with_capacity_and_hasher(alloc, ROOM, BuildHasherDefault::new())?;
     gather(store, f, &mut inner)?;
     prove!(inner.len() < usize::MAX);
     Ok(inner)
 }
 
 /// Adds the ids of inner nodes that are reached from `f`.
-fn gather(store: &Store, f: NodeId, inner: &mut HashSet<NodeId>) -> Result<(), AllocError>
+fn gather(store: &Store, f: NodeId, inner: &mut Inner) -> Result<(), AllocError>
     requires known { Knows store.now f }
     requires closed { IsClosed store.now inner.old.keys }
     ensures { OnOk result (IsGathered store.now f inner.old.keys inner.new.keys) }

@@ -1,10 +1,10 @@
 //! The walk behind quantification and substitution: what changes of levels make of a function, each node once.
-ghost use Rattle.std.specs.Prelude.{◌≡◌, ◌<◌, ◌≤◌, Some, length, IfOk, IsTrue, if◌then◌else◌};
+ghost use Rattle.std.specs.Prelude.{◌≡◌, ◌<◌, ◌≤◌, Some, length, IfOk, IfSome, IsTrue, if◌then◌else◌};
 ghost use Rattle.tm_dd.specs.NodeId.{IsConstant};
 ghost use Rattle.tm_dd.specs.Reduced.{Extends, IsReduced};
 ghost use Rattle.tm_dd.specs.Table.{Knows, level_of, means, node_of};
 ghost use Rattle.tm_dd.specs.declared.node.NodeId.{NodeId as Id};
-ghost use Rattle.tm_ddops.specs.Changed.{IsChanged, IsDepth, KnowsParts, branch_value, change_at};
+ghost use Rattle.tm_ddops.specs.Changed.{IsChanged, IsDepth, IsSettled, KnowsParts, branch_value, change_at};
 ghost use Rattle.tm_ddops.specs.Manager.{IsFunction};
 ghost use Rattle.tm_ddops.specs.Inner.Memo.{AreChoices};
 ghost use Rattle.tm_ddops.specs.Inner.Visited.{AreChanged, SameElsewhere};
@@ -17,7 +17,7 @@ use std::alloc::{AllocError, Global};
 use std::collections::HashMap;
 use std::hash::{BuildHasherDefault, Hash, Hasher};
 use tm_base::Steps;
-use tm_dd::{FALSE, NodeId, NumberHasher, Store, TRUE, mixed};
+use tm_dd::{FALSE, Node, NodeId, NumberHasher, Store, TRUE, mixed};
 
 /// A function that a walk met, under changes of this number.
 #[derive(Clone, Copy, PartialEq, Eq)]
@@ -81,6 +81,9 @@ impl Walks {
             return Ok(*known);
         }
         let node = store.node(f);
+        if let Some(branch) = settled(changes, node) {
+            return self.rewrite(store, branch, number, changes, depth);
+        }
         let lo = self.rewrite(store, node.lo, number, changes, depth)?;
         if lo == TRUE && is_quantified(changes, node.level) {
             return self.found_true(store, f, number, changes);
@@ -267,6 +270,31 @@ impl Walks {
             if_false,
         };
         choose(store, choice, &mut self.choices, &mut Steps::new(()))
+    }
+}
+
+/// The branch that is left of a node where a constant takes the place of its level.
+fn settled(changes: &[Option<Change>], node: Node) -> Option<NodeId>
+    requires { node.level < length changes.now }
+    ensures { IfSome result (IsSettled (change_at changes.now node.level) node) }
+{
+    match changes[node.level as usize] {
+        Some(Change::Becomes(part)) => branch_by(part, node),
+        Some(Change::Quantified) => None,
+        None => None,
+    }
+}
+
+/// The branch of a node that a function picks, if it is constant.
+fn branch_by(part: NodeId, node: Node) -> Option<NodeId>
+    ensures { IfSome result (IsSettled (Some (variant.Becomes part)) node) }
+{
+    if part == TRUE {
+        Some(node.hi)
+    } else if part == FALSE {
+        Some(node.lo)
+    } else {
+        None
     }
 }
 

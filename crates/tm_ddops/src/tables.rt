@@ -2,14 +2,16 @@
 ghost use Rattle.std.specs.Prelude.{◌≡◌, ◌<◌, ◌≤◌, ℕ, [], IfOk, length, slice_index_or};
 ghost use Rattle.tm_dd.specs.Reduced.{Extends, IsReduced};
 ghost use Rattle.tm_dd.specs.Table.{Table, Knows};
-ghost use Rattle.tm_ddops.specs.Changed.{IsChanged, IsDepth, KnowsParts, change_of};
+ghost use Rattle.tm_ddops.specs.Changed.{IsChanged, KnowsParts, change_of};
 ghost use Rattle.tm_ddops.specs.Inner.Memo.{AreChoices};
-ghost use Rattle.tm_ddops.specs.Inner.Quantifiers.{IsQuantifier, quantified};
-ghost use Rattle.tm_ddops.specs.Inner.Tables.{AreTrue, numbered};
+ghost use Rattle.tm_ddops.specs.Inner.Plans.{HasLevels, HasParts, IsPlan, quantified, substituting};
+ghost use Rattle.tm_ddops.specs.Inner.Tables.{AreTrue};
 
 use crate::change::{Changes, by_level, depth};
-use crate::quantifiers::Quantifiers;
-use crate::rewrite::{Visit, Walks};
+use crate::plans::{
+    Plan, Quantifier, Substitution, find_levels, find_parts, keep_levels, keep_parts,
+};
+use crate::rewrite::Walks;
 use crate::walk::Memo;
 use indexmap::IndexSet;
 use std::alloc::{AllocError, Global};
@@ -35,7 +37,9 @@ pub struct Tables {
     pub(crate) changes: IndexSet<Changes, BuildHasherDefault<NumberHasher>>,
     // How many levels the changes of the set have together.
     pub(crate) levels: usize,
-    pub(crate) quantifiers: Quantifiers,
+    // The last lists of levels and the last substitutions that were asked for.
+    pub(crate) quantifiers: Vec<Quantifier>,
+    pub(crate) substitutions: Vec<Substitution>,
 }
 
 impl Tables {
@@ -50,9 +54,8 @@ impl Tables {
             },
             changes: IndexSet::with_hasher(alloc, BuildHasherDefault::new()),
             levels: 0,
-            quantifiers: Quantifiers {
-                list: Vec::new(alloc),
-            },
+            quantifiers: Vec::new(alloc),
+            substitutions: Vec::new(alloc),
         }
     }
 
@@ -73,30 +76,28 @@ impl Tables {
         }
     }
 
-    /// What the changes make of `f`.
+    /// The function `f` with the parts' functions in the places of their levels, all at once.
     pub(crate) fn rewrite(
         &mut self,
         alloc: Global,
         store: &mut Store,
         f: NodeId,
-        changes: Changes,
+        parts: &[(u32, NodeId)],
     ) -> Result<NodeId, AllocError>
         requires reduced { IsReduced store.old }
         requires known { Knows store.old f }
-        requires parts { KnowsParts store.old (change_of changes) }
+        requires parts { KnowsParts store.old (change_of (substituting parts.now)) }
         requires tables { AreTrue store.old self.old }
 
         ensures extends { Extends store.old store.new }
         ensures reduced { IsReduced store.new }
         ensures tables { AreTrue store.new self.new }
-        ensures answer { IfOk result (IsChanged store.new (change_of changes) f) }
+        ensures answer { IfOk result (IsChanged store.new (change_of (substituting parts.now)) f) }
     {
-        let depth = depth(store, changes.as_slice());
-        if depth <= store.depth(f) {
-            return Ok(f);
-        }
-        let number = self.number(changes)?;
-        self.changed(alloc, store, f, number, depth)
+        let place = self.substitution(alloc, store, parts)?;
+        let plan = &self.substitutions[place].plan;
+        self.walks
+            .rewrite(store, f, plan.number, &plan.by_level, plan.depth)
     }
 
     /// What is left of `f` where levels may have any value.
@@ -116,89 +117,67 @@ impl Tables {
         ensures tables { AreTrue store.new self.new }
         ensures answer { IfOk result (IsChanged store.new (change_of (quantified levels.now)) f) }
     {
-        let (number, depth) = self.quantifier(alloc, store, levels)?;
-        if depth <= store.depth(f) {
+        if f.is_constant() {
             return Ok(f);
         }
-        self.changed(alloc, store, f, number, depth)
+        let place = self.quantifier(alloc, store, levels)?;
+        let plan = &self.quantifiers[place].plan;
+        self.walks
+            .rewrite(store, f, plan.number, &plan.by_level, plan.depth)
     }
 
-    // The number of the changes under which levels may have any value, and how deep the levels stand.
+    // The place of parts among those that are kept.
+    fn substitution(
+        &mut self,
+        alloc: Global,
+        store: &Store,
+        parts: &[(u32, NodeId)],
+    ) -> Result<usize, AllocError>
+        requires tables { AreTrue store.now self.old }
+        ensures tables { AreTrue store.now self.new }
+        ensures there { IfOk result (HasParts self.new.substitutions.items parts.now) }
+    {
+        if let Some(place) = find_parts(&self.substitutions, parts) {
+            return Ok(place);
+        }
+        let changes = Changes::from_parts(alloc, parts)?;
+        let plan = self.plan(alloc, store, changes)?;
+        keep_parts(alloc, &mut self.substitutions, parts, plan)
+    }
+
+    // The place of levels among those that are kept.
     fn quantifier(
         &mut self,
         alloc: Global,
         store: &Store,
         levels: &[u32],
-    ) -> Result<(usize, u32), AllocError>
+    ) -> Result<usize, AllocError>
         requires tables { AreTrue store.now self.old }
         ensures tables { AreTrue store.now self.new }
-        ensures quantifier { IfOk result (λ r. IsQuantifier store.now self.new.changes.keys levels.now r.0 r.1) }
+        ensures there { IfOk result (HasLevels self.new.quantifiers.items levels.now) }
     {
-        if let Some(known) = self.quantifiers.find(levels) {
-            return Ok(known);
+        if let Some(place) = find_levels(&self.quantifiers, levels) {
+            return Ok(place);
         }
         let changes = Changes::from_levels(alloc, levels)?;
+        let plan = self.plan(alloc, store, changes)?;
+        keep_levels(alloc, &mut self.quantifiers, levels, plan)
+    }
+
+    // What a walk under changes needs.
+    fn plan(&mut self, alloc: Global, store: &Store, changes: Changes) -> Result<Plan, AllocError>
+        requires tables { AreTrue store.now self.old }
+        ensures tables { AreTrue store.now self.new }
+        ensures plan { IfOk result (IsPlan store.now self.new.changes.keys changes) }
+    {
         let depth = depth(store, changes.as_slice());
+        let by_level = by_level(alloc, store.levels(), changes.as_slice())?;
         let number = self.number(changes)?;
-        self.quantifiers.keep(alloc, levels, number, depth)?;
-        Ok((number, depth))
-    }
-
-    // What the changes of a number, none of which is as deep as `depth`, make of `f`.
-    fn changed(
-        &mut self,
-        alloc: Global,
-        store: &mut Store,
-        f: NodeId,
-        number: usize,
-        depth: u32,
-    ) -> Result<NodeId, AllocError>
-        requires reduced { IsReduced store.old }
-        requires known { Knows store.old f }
-        requires number { number < length self.old.changes.keys }
-        requires parts { KnowsParts store.old (numbered self.old.changes.keys number) }
-        requires depth { IsDepth store.old (numbered self.old.changes.keys number) depth }
-        requires tables { AreTrue store.old self.old }
-
-        ensures extends { Extends store.old store.new }
-        ensures reduced { IsReduced store.new }
-        ensures tables { AreTrue store.new self.new }
-        ensures answer { IfOk result (IsChanged store.new (numbered self.old.changes.keys number) f) }
-    {
-        let visit = Visit {
-            changes: number,
-            function: f,
-        };
-        if let Some(known) = self.walks.found.get(&visit) {
-            return Ok(*known);
-        }
-        self.walk(alloc, store, f, number, depth)
-    }
-
-    // The same, by a walk.
-    fn walk(
-        &mut self,
-        alloc: Global,
-        store: &mut Store,
-        f: NodeId,
-        number: usize,
-        depth: u32,
-    ) -> Result<NodeId, AllocError>
-        requires reduced { IsReduced store.old }
-        requires known { Knows store.old f }
-        requires number { number < length self.old.changes.keys }
-        requires parts { KnowsParts store.old (numbered self.old.changes.keys number) }
-        requires depth { IsDepth store.old (numbered self.old.changes.keys number) depth }
-        requires tables { AreTrue store.old self.old }
-
-        ensures extends { Extends store.old store.new }
-        ensures reduced { IsReduced store.new }
-        ensures tables { AreTrue store.new self.new }
-        ensures answer { IfOk result (IsChanged store.new (numbered self.old.changes.keys number) f) }
-    {
-        let changes = self.changes.as_slice()[number].as_slice();
-        let table = by_level(alloc, store.levels(), changes)?;
-        self.walks.rewrite(store, f, number, &table, depth)
+        Ok(Plan {
+            number,
+            depth,
+            by_level,
+        })
     }
 
     // The number of the changes, which are added to the set where they are not there.
@@ -210,6 +189,7 @@ impl Tables {
             slice_index_or self.new.changes.keys n [] ≡ slice_index_or self.old.changes.keys n [] }
         ensures walks { self.new.walks ≡ self.old.walks }
         ensures quantifiers { self.new.quantifiers ≡ self.old.quantifiers }
+        ensures substitutions { self.new.substitutions ≡ self.old.substitutions }
     {
         let levels = changes.as_slice().len();
         let (number, added) = self.changes.insert_full(changes)?;

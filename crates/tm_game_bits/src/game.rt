@@ -6,7 +6,6 @@ ghost use Rattle.tm_dd.specs.Table.{Knows, means};
 use crate::recent::Recent;
 use crate::step::StepDiagrams;
 use std::alloc::AllocError;
-use tm_base::Steps;
 use tm_dd::{FALSE, NodeId};
 use tm_ddops::Manager;
 
@@ -51,7 +50,7 @@ impl GameDiagrams {
             (means dd.old.table set) (step_of dd.old.table step.now))) }
     {
         let moves = step.good(dd, self.turn, set)?;
-        dd.and(self.valid, moves, &mut Steps::new(()))
+        dd.and_once(self.valid, moves)
     }
 
     /// The valid states from which no stutter or step of the environment errs or leaves the set. Every id keeps its
@@ -82,8 +81,8 @@ impl GameDiagrams {
             (IsCalmBelow dd.old.table (game_of dd.old.table self.now) (means dd.old.table set)
             self.now.environment.items 0)) }
     {
-        let stuttered = dd.compose(set, &self.stutter)?;
-        dd.and(self.valid, stuttered, &mut Steps::new(()))
+        let stuttered = dd.compose_once(set, &self.stutter)?;
+        dd.and_once(self.valid, stuttered)
     }
 
     /// The valid states from which the driver stays in the set: those of `calm` at which some allowed step of the
@@ -138,8 +137,8 @@ impl GameDiagrams {
     {
         let resting = self.calm(dd, set)?;
         let acting = self.acts(dd, set)?;
-        let settled = dd.or(self.turn.complement(), acting, &mut Steps::new(()))?;
-        dd.and(resting, settled, &mut Steps::new(()))
+        let settled = dd.or_once(self.turn.complement(), acting)?;
+        dd.and_once(resting, settled)
     }
 
     // Where some step of the driver, for some arguments, is allowed and for no choices errs or leaves the set.
@@ -177,6 +176,6 @@ impl GameDiagrams {
             (IsSetOf dd.new.table (Forced (game_of dd.old.table self.now) (means dd.old.table set))) }
     {
         let kept = self.cpre(dd, recent, set.complement())?;
-        dd.and(self.valid, kept.complement(), &mut Steps::new(()))
+        dd.and_once(self.valid, kept.complement())
     }
 }

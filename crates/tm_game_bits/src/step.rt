@@ -6,7 +6,6 @@ ghost use Rattle.tm_ddops.specs.Manager.{IsFunction};
 ghost use Rattle.tm_game_bits.specs.Functions.{leading_at};
 
 use std::alloc::AllocError;
-use tm_base::Steps;
 use tm_dd::NodeId;
 use tm_ddops::Manager;
 
@@ -51,9 +50,9 @@ impl StepDiagrams {
         ensures answer { IfOk result (λ id. IsFunction dd.new.table id
             (leading_at (step_of dd.old.table self.now) (means dd.old.table into))) }
     {
-        let lands = dd.compose(into, &self.next)?;
-        let ends = dd.or(self.error, lands, &mut Steps::new(()))?;
-        dd.and(self.legal, ends, &mut Steps::new(()))
+        let lands = dd.compose_once(into, &self.next)?;
+        let ends = dd.or_once(self.error, lands)?;
+        dd.and_once(self.legal, ends)
     }
 
     // Where no choices err or leave a set.
@@ -79,7 +78,7 @@ impl StepDiagrams {
             (IsSetOf dd.new.table (IsAllowed (means dd.old.table turn) (step_of dd.old.table self.now))) }
     {
         let outcomes = dd.exists(self.legal, &self.choices)?;
-        dd.and(turn, outcomes, &mut Steps::new(()))
+        dd.and_once(turn, outcomes)
     }
 
     // Where the driver can be picked, some choices have an outcome, and none err or leave a set.
@@ -99,7 +98,7 @@ impl StepDiagrams {
     {
         let permitted = self.allowed(dd, turn)?;
         let kept = self.keeps(dd, set)?;
-        dd.and(permitted, kept, &mut Steps::new(()))
+        dd.and_once(permitted, kept)
     }
 
     // Where that is so for some arguments.
@@ -139,7 +138,7 @@ impl StepDiagrams {
             ⊎ IsGoodForSome (means dd.old.table turn) (means dd.old.table set) v (step_of dd.old.table self.now))) }
     {
         let moves = self.good_for_some(dd, turn, set)?;
-        dd.or(other, moves, &mut Steps::new(()))
+        dd.or_once(other, moves)
     }
 
     // Where no choices err or leave a set, and a diagram holds.
@@ -158,6 +157,6 @@ impl StepDiagrams {
             × Keeps (step_of dd.old.table self.now) (means dd.old.table set) v)) }
     {
         let kept = self.keeps(dd, set)?;
-        dd.and(other, kept, &mut Steps::new(()))
+        dd.and_once(other, kept)
     }
 }

@@ -6,7 +6,7 @@ use Rattle.tm_ddops.specs.declared.change.Change.{Change}
 use Rattle.tm_ddops.specs.declared.tables.Tables.{Tables}
 use Rattle.tm_ddops.specs.Changed.{IsChanged, change_of}
 use Rattle.tm_ddops.specs.Inner.Memo.{AreChoices}
-use Rattle.tm_ddops.specs.Inner.Quantifiers.{AreQuantifiers}
+use Rattle.tm_ddops.specs.Inner.Plans.{AreQuantifiers, AreSubstitutions}
 use Rattle.tm_ddops.specs.Inner.Visited.{Visited, found_under}
 
 -- the changes of a number
@@ -27,4 +27,5 @@ AreVisits s lists m = (n : ℕ) (f id : NodeId) → found_under m n f ≡ Some i
 pub record AreTrue (s : Table) (t : Tables) : Type 0 where
   pub choices : AreChoices s t.walks.choices
   pub visits : AreVisits s t.changes.keys t.walks.found
-  pub quantifiers : AreQuantifiers s t.changes.keys t.quantifiers
+  pub quantifiers : AreQuantifiers s t.changes.keys t.quantifiers.items
+  pub substitutions : AreSubstitutions s t.changes.keys t.substitutions.items

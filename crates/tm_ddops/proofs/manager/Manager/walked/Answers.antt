@@ -3,7 +3,7 @@ use Rattle.tm_dd.specs.Table.{Knows}
 use Rattle.tm_ddops.specs.Layout.{diagrams_of}
 use Rattle.tm_ddops.specs.Manager.{Grows, IsManager, IsResult, Remembers}
 use Rattle.tm_ddops.proofs.Sound.{manager_extended, manager_remembers, result_of_choice}
-use Rattle.tm_ddops.proofs.TableLemmas.{AreQuantifiers-Extends, AreVisits-Extends}
+use Rattle.tm_ddops.proofs.TableLemmas.{AreQuantifiers-Extends, AreSubstitutions-Extends, AreVisits-Extends}
 use Rattle.tm_ddops.proofs.manager.Manager.walked.Goals as goal
 use Rattle.tm_ddops.proofs.manager.Manager.walked.Goals.{In_ok-answer, In_ok-remember}
 use Rattle.tm_ddops.proofs.manager.Manager.walked.Given.{Over}
@@ -23,8 +23,11 @@ invariant_of-self g c = record {
         c.limit.new.self.changes.keys c.limit.new.self.walks.found
         (c.limit.ensures c.self.inside.store c.self.invariant.tables).visits;
     quantifiers = AreQuantifiers-Extends c.self.inside.store c.walk.new.store c.walk.ensures.extends
-        c.limit.new.self.changes.keys c.limit.new.self.quantifiers
+        c.limit.new.self.changes.keys c.limit.new.self.quantifiers.items
         (c.limit.ensures c.self.inside.store c.self.invariant.tables).quantifiers;
+    substitutions = AreSubstitutions-Extends c.self.inside.store c.walk.new.store c.walk.ensures.extends
+        c.limit.new.self.changes.keys c.limit.new.self.substitutions.items
+        (c.limit.ensures c.self.inside.store c.self.invariant.tables).substitutions;
   };
 }
 
@@ -44,8 +47,11 @@ invariant_of-self-in_err-remember g c = record {
         c.limit.new.self.changes.keys c.limit.new.self.walks.found
         (c.limit.ensures c.self.inside.store c.self.invariant.tables).visits;
     quantifiers = AreQuantifiers-Extends c.self.inside.store c.walk.new.store c.walk.ensures.extends
-        c.limit.new.self.changes.keys c.limit.new.self.quantifiers
+        c.limit.new.self.changes.keys c.limit.new.self.quantifiers.items
         (c.limit.ensures c.self.inside.store c.self.invariant.tables).quantifiers;
+    substitutions = AreSubstitutions-Extends c.self.inside.store c.walk.new.store c.walk.ensures.extends
+        c.limit.new.self.changes.keys c.limit.new.self.substitutions.items
+        (c.limit.ensures c.self.inside.store c.self.invariant.tables).substitutions;
   };
 }
 
@@ -81,8 +87,11 @@ invariant_of-self-2 g c =
             c.limit.new.self.changes.keys c.limit.new.self.walks.found
             (c.limit.ensures c.self.inside.store c.self.invariant.tables).visits;
         quantifiers = AreQuantifiers-Extends c.self.inside.store c.walk.new.store c.walk.ensures.extends
-            c.limit.new.self.changes.keys c.limit.new.self.quantifiers
+            c.limit.new.self.changes.keys c.limit.new.self.quantifiers.items
             (c.limit.ensures c.self.inside.store c.self.invariant.tables).quantifiers;
+        substitutions = AreSubstitutions-Extends c.self.inside.store c.walk.new.store c.walk.ensures.extends
+            c.limit.new.self.changes.keys c.limit.new.self.substitutions.items
+            (c.limit.ensures c.self.inside.store c.self.invariant.tables).substitutions;
       };
     }
 

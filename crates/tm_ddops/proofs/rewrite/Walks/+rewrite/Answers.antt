@@ -1,7 +1,9 @@
 use Rattle.std.proofs.Common.{sym, subst, ◌∙◌, arith}
+use Rattle.std.proofs.lemmas.Result.{IfOk-weaker}
 use Rattle.tm_dd.proofs.CallerLaws.{Extends-trans, depth_of-IsConstant}
-use Rattle.tm_ddops.specs.Changed.{IsChanged, change_at}
-use Rattle.tm_ddops.proofs.Changing.{IsChanged-Extends, IsDepth-Extends, changed_below}
+use Rattle.tm_dd.specs.declared.node.Node.{Node}
+use Rattle.tm_ddops.specs.Changed.{IsChanged, IsSettled, change_at}
+use Rattle.tm_ddops.proofs.Changing.{IsChanged-Extends, IsDepth-Extends, changed_below, changed_settled}
 use Rattle.tm_ddops.proofs.Facts.{knows-Extends}
 use Rattle.tm_ddops.proofs.rewrite.Walks.+rewrite.Goals as goal
 
@@ -13,12 +15,33 @@ returns-then-depth-clause-answer t c =
 pub returns-in-Some-clause-answer : goal.returns-in-Some-clause-answer
 returns-in-Some-clause-answer t c = c.requires.found c.args.f c.in-Some.known.now (sym c.in-Some.ensures.value)
 
+pub returns-in-Some-settled-clause-answer : goal.returns-in-Some-settled-clause-answer
+returns-in-Some-settled-clause-answer t c =
+    let s = c.args.store.now in
+    let u = c.rewrite.new.store in
+    let e = c.rewrite.ensures.extends in
+    let same = c.node-node.ensures.value ∙ sym (e.same_node c.args.f c.requires.known) in
+    IfOk-weaker c.rewrite.result _ _
+    (λ id x. changed_settled u c.rewrite.ensures.reduced (change_at c.args.changes.now) c.args.f
+    (knows-Extends s u e c.args.f c.requires.known)
+    (λ constant. omega (
+      arith,
+      depth_of-IsConstant s c.requires.reduced c.args.f constant,
+      c.requires.depth.within,
+      c.if-depth.false,
+      c.depth.ensures.value,
+    ))
+    c.in-Some-settled.branch
+    (subst (λ (n : Node). IsSettled (change_at c.args.changes.now n.level) n c.in-Some-settled.branch) same
+    c.in-Some-settled.ensures) id x)
+    c.rewrite.ensures.answer
+
 pub rewrite_node-requires-clause-lo : goal.rewrite_node-requires-clause-lo
 rewrite_node-requires-clause-lo t c =
-    let whole = Extends-trans _ _ _ c.rewrite.ensures.extends c.rewrite-2.ensures.extends in
-    subst (λ n. IsChanged c.rewrite-2.new.store (change_at c.args.changes.now) n.lo c.in_ok-lo.lo)
+    let whole = Extends-trans _ _ _ c.rewrite-2.ensures.extends c.rewrite-3.ensures.extends in
+    subst (λ n. IsChanged c.rewrite-3.new.store (change_at c.args.changes.now) n.lo c.in_ok-lo.lo)
     (c.node-node.ensures.value ∙ sym (whole.same_node c.args.f c.requires.known))
-    (IsChanged-Extends c.rewrite.new.store c.rewrite-2.new.store c.rewrite-2.ensures.extends
+    (IsChanged-Extends c.rewrite-2.new.store c.rewrite-3.new.store c.rewrite-3.ensures.extends
     (change_at c.args.changes.now) c.node-node.result.lo c.in_ok-lo.lo c.in_ok-lo.ensures.answer)
 
 pub node-node-requires-clause-inner : goal.node-node-requires-clause-inner
@@ -33,7 +56,7 @@ node-node-requires-clause-inner t c constant =
 
 pub rewrite_node-requires-clause-level : goal.rewrite_node-requires-clause-level
 rewrite_node-requires-clause-level t c =
-    let whole = Extends-trans _ _ _ c.rewrite.ensures.extends c.rewrite-2.ensures.extends in
+    let whole = Extends-trans _ _ _ c.rewrite-2.ensures.extends c.rewrite-3.ensures.extends in
     omega (
       arith,
       whole.same_level c.args.f c.requires.known,
@@ -42,22 +65,22 @@ rewrite_node-requires-clause-level t c =
       c.requires.changes,
     )
 
-pub rewrite-requires-2 : goal.rewrite-requires-2
-rewrite-requires-2 t c =
+pub rewrite-requires-3 : goal.rewrite-requires-3
+rewrite-requires-3 t c =
     let s = c.args.store.now in
-    let u = c.rewrite.new.store in
-    let e = c.rewrite.ensures.extends in
+    let u = c.rewrite-2.new.store in
+    let e = c.rewrite-2.ensures.extends in
     let node = c.node-node.ensures.is_node in (
       omega (arith, node.hi_smaller, c.decreases),
       (
-        c.rewrite.ensures.reduced,
+        c.rewrite-2.ensures.reduced,
         (
           knows-Extends s u e c.node-node.result.hi node.hi_known,
           (
             c.requires.changes ∙ sym e.same_levels,
             (
               IsDepth-Extends s u e (change_at c.args.changes.now) c.args.depth c.requires.depth,
-              (c.in_ok-lo.ensures.answer.parts, (c.rewrite.ensures.found, c.rewrite.ensures.choices)),
+              (c.in_ok-lo.ensures.answer.parts, (c.rewrite-2.ensures.found, c.rewrite-2.ensures.choices)),
             ),
           ),
         ),

@@ -1,31 +1,84 @@
-use Rattle.std.proofs.Common.{IfOk, sym, subst, arith}
-use Rattle.tm_ddops.specs.Changed.{IsChanged, IsDepth, KnowsParts, change_of}
-use Rattle.tm_ddops.specs.Inner.Quantifiers.{quantified}
+use Rattle.std.proofs.Common.{refl, length, get_or, ap, sym, subst, ◌∙◌}
+use Rattle.std.proofs.lemmas.Result.{IfOk-weaker}
+use Rattle.tm_ddops.specs.declared.plans.Quantifier.{Quantifier}
+use Rattle.tm_ddops.specs.Changed.{IsChanged, IsDepth, KnowsParts, change_at, change_of}
+use Rattle.tm_ddops.specs.Inner.Plans.{IsPlan, quantified}
+use Rattle.tm_ddops.specs.Inner.Visited.{AreChanged}
 use Rattle.tm_ddops.proofs.ChangeLists.{knows_no_part}
-use Rattle.tm_ddops.proofs.Changing.{changed_below}
+use Rattle.tm_ddops.proofs.Changing.{changed_constant}
+use Rattle.tm_ddops.proofs.TableLemmas.{AreQuantifiers-Extends, AreSubstitutions-Extends, plan_answer, plan_depth, plan_found, plan_parts, plan_visits}
 use Rattle.tm_ddops.proofs.tables.Tables.exists.Goals as goal
+use Rattle.tm_ddops.proofs.tables.Tables.exists.Goals.{After-deref}
 
-pub returns-then-depth-clause-answer : goal.returns-then-depth-clause-answer
-returns-then-depth-clause-answer c =
-    changed_below c.args.store.now c.requires.reduced (change_of (quantified c.args.levels.now)) c.args.f
-    c.requires.known (knows_no_part c.args.store.now c.args.levels.now)
-    c.in_ok-number.depth c.in_ok-number.ensures.quantifier.deep
-    (omega (arith, c.if-depth.true, c.depth.ensures.value))
+-- the plan is that of the levels
+plan : (c : After-deref) → IsPlan c.args.store.now c.quantifier.new.self.changes.keys (quantified c.args.levels.now)
+    c.index.result.now.plan
+plan c =
+    let q : Quantifier = c.index.result.now in
+    let there = c.in_ok-place.ensures.there in
+    let lists = c.quantifier.new.self.changes.keys in
+    let kept = c.quantifier.new.self.quantifiers.items in
+    subst (λ (k : Quantifier). IsPlan c.args.store.now lists (quantified c.args.levels.now) k.plan) (sym c.index.ensures)
+    (subst (λ l. IsPlan c.args.store.now lists (quantified l) (get_or kept c.in_ok-place.place q).plan) (there.same q)
+    (c.quantifier.ensures.tables.quantifiers c.in_ok-place.place q there.within))
 
-pub changed-requires-clause-parts : goal.changed-requires-clause-parts
-changed-requires-clause-parts c =
-    subst (λ l. KnowsParts c.args.store.now (change_of l)) (sym c.in_ok-number.ensures.quantifier.number.same)
-    (knows_no_part c.args.store.now c.args.levels.now)
+pub returns-then-is_constant-clause-answer : goal.returns-then-is_constant-clause-answer
+returns-then-is_constant-clause-answer c =
+    changed_constant c.args.store.now c.requires.reduced (change_of (quantified c.args.levels.now)) c.args.f
+    (c.if-is_constant.ensures.0 refl) c.requires.known (knows_no_part c.args.store.now c.args.levels.now)
 
-pub changed-requires-clause-depth : goal.changed-requires-clause-depth
-changed-requires-clause-depth c =
-    subst (λ l. IsDepth c.args.store.now (change_of l) c.in_ok-number.depth)
-    (sym c.in_ok-number.ensures.quantifier.number.same) c.in_ok-number.ensures.quantifier.deep
+pub rewrite-requires-clause-changes : goal.rewrite-requires-clause-changes
+rewrite-requires-clause-changes c =
+    ap length c.deref.ensures.value ∙ (plan (goal.at.rewrite-requires-clause-changes c).After-deref).count
 
-pub changed-requires-clause-number : goal.changed-requires-clause-number
-changed-requires-clause-number c = c.in_ok-number.ensures.quantifier.number.within
+pub rewrite-requires-clause-depth : goal.rewrite-requires-clause-depth
+rewrite-requires-clause-depth c =
+    let p = c.index.result.now.plan in
+    subst (λ xs. IsDepth c.args.store.now (change_at xs) p.depth) (sym c.deref.ensures.value)
+    (plan_depth c.args.store.now c.quantifier.new.self.changes.keys (quantified c.args.levels.now) p
+    (plan (goal.at.rewrite-requires-clause-depth c).After-deref))
+
+pub rewrite-requires-clause-parts : goal.rewrite-requires-clause-parts
+rewrite-requires-clause-parts c =
+    let p = c.index.result.now.plan in
+    subst (λ xs. KnowsParts c.args.store.now (change_at xs)) (sym c.deref.ensures.value)
+    (plan_parts c.args.store.now c.quantifier.new.self.changes.keys (quantified c.args.levels.now) p
+    (plan (goal.at.rewrite-requires-clause-parts c).After-deref) (knows_no_part c.args.store.now c.args.levels.now))
+
+pub rewrite-requires-clause-found : goal.rewrite-requires-clause-found
+rewrite-requires-clause-found c =
+    let p = c.index.result.now.plan in
+    let found = c.quantifier.new.self.walks.found in
+    subst (λ xs. AreChanged c.args.store.now (change_at xs) p.number found) (sym c.deref.ensures.value)
+    (plan_found c.args.store.now c.quantifier.new.self.changes.keys (quantified c.args.levels.now) p
+    (plan (goal.at.rewrite-requires-clause-found c).After-deref) found c.quantifier.ensures.tables.visits)
+
+pub returns-clause-tables : goal.returns-clause-tables
+returns-clause-tables c =
+    let s = c.args.store.now in
+    let t = c.rewrite.new.store in
+    let e = c.rewrite.ensures.extends in
+    let made = c.quantifier.new.self in
+    let p = c.index.result.now.plan in
+    record {
+      choices = c.rewrite.ensures.choices;
+      visits = plan_visits s made.changes.keys (quantified c.args.levels.now) p
+          (plan (goal.at.returns-clause-tables c).After-deref) t e made.walks.found c.rewrite.new.self.found
+          c.quantifier.ensures.tables.visits
+          (subst (λ xs. AreChanged t (change_at xs) p.number c.rewrite.new.self.found) c.deref.ensures.value
+          c.rewrite.ensures.found)
+          c.rewrite.ensures.others;
+      quantifiers = AreQuantifiers-Extends s t e made.changes.keys made.quantifiers.items
+          c.quantifier.ensures.tables.quantifiers;
+      substitutions = AreSubstitutions-Extends s t e made.changes.keys made.substitutions.items
+          c.quantifier.ensures.tables.substitutions;
+    }
 
 pub returns-clause-answer : goal.returns-clause-answer
 returns-clause-answer c =
-    subst (λ l. IfOk c.changed.result (IsChanged c.changed.new.store (change_of l) c.args.f))
-    c.in_ok-number.ensures.quantifier.number.same c.changed.ensures.answer
+    let t = c.rewrite.new.store in
+    IfOk-weaker c.rewrite.result _ _
+    (λ id x. plan_answer c.args.store.now c.quantifier.new.self.changes.keys (quantified c.args.levels.now)
+    c.index.result.now.plan (plan (goal.at.returns-clause-answer c).After-deref) t c.rewrite.ensures.extends
+    c.args.f id (subst (λ xs. IsChanged t (change_at xs) c.args.f id) c.deref.ensures.value x))
+    c.rewrite.ensures.answer

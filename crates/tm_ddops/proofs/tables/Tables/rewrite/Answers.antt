@@ -1,42 +1,77 @@
-use Rattle.std.proofs.Common.{IfOk, ◌∙◌, sym, subst, arith}
-use Rattle.tm_ddops.specs.Changed.{IsChanged, IsDepth, KnowsParts, change_of}
-use Rattle.tm_ddops.specs.Inner.Tables.{AreTrue}
-use Rattle.tm_ddops.proofs.Changing.{changed_below}
-use Rattle.tm_ddops.proofs.TableLemmas.{AreTrue-numbered}
+use Rattle.std.proofs.Common.{length, get_or, ap, sym, subst, ◌∙◌}
+use Rattle.std.proofs.lemmas.Result.{IfOk-weaker}
+use Rattle.tm_ddops.specs.declared.plans.Substitution.{Substitution}
+use Rattle.tm_ddops.specs.Changed.{IsChanged, IsDepth, KnowsParts, change_at}
+use Rattle.tm_ddops.specs.Inner.Plans.{IsPlan, substituting}
+use Rattle.tm_ddops.specs.Inner.Visited.{AreChanged}
+use Rattle.tm_ddops.proofs.TableLemmas.{AreQuantifiers-Extends, AreSubstitutions-Extends, plan_answer, plan_depth, plan_found, plan_parts, plan_visits}
 use Rattle.tm_ddops.proofs.tables.Tables.rewrite.Goals as goal
-use Rattle.tm_ddops.proofs.tables.Tables.rewrite.Goals.{After-number}
+use Rattle.tm_ddops.proofs.tables.Tables.rewrite.Goals.{After-deref}
 
--- the entries are true after the changes got their number
-tables : (c : After-number) → AreTrue c.args.store.now c.number.new.self
-tables c =
-    AreTrue-numbered c.args.store.now c.args.self.now c.number.new.self c.number.ensures.grows c.number.ensures.kept
-    c.number.ensures.walks c.number.ensures.quantifiers c.requires.tables
+-- the plan is that of the parts
+plan : (c : After-deref) → IsPlan c.args.store.now c.substitution.new.self.changes.keys (substituting c.args.parts.now)
+    c.index.result.now.plan
+plan c =
+    let q : Substitution = c.index.result.now in
+    let there = c.in_ok-place.ensures.there in
+    let lists = c.substitution.new.self.changes.keys in
+    let kept = c.substitution.new.self.substitutions.items in
+    subst (λ (k : Substitution). IsPlan c.args.store.now lists (substituting c.args.parts.now) k.plan) (sym c.index.ensures)
+    (subst (λ l. IsPlan c.args.store.now lists (substituting l) (get_or kept c.in_ok-place.place q).plan) (there.same q)
+    (c.substitution.ensures.tables.substitutions c.in_ok-place.place q there.within))
 
-pub returns-then-depth-clause-answer : goal.returns-then-depth-clause-answer
-returns-then-depth-clause-answer c =
-    changed_below c.args.store.now c.requires.reduced (change_of c.args.changes) c.args.f c.requires.known
-    c.requires.parts
-    c.depth-depth.result
-    (subst (λ l. IsDepth c.args.store.now (change_of l) c.depth-depth.result) c.as_slice.ensures
-    c.depth-depth.ensures.depth)
-    (omega (arith, c.if-depth.true, c.depth.ensures.value))
+pub rewrite-requires-clause-changes : goal.rewrite-requires-clause-changes
+rewrite-requires-clause-changes c =
+    ap length c.deref.ensures.value ∙ (plan (goal.at.rewrite-requires-clause-changes c).After-deref).count
 
-pub returns-in_err-number-clause-tables : goal.returns-in_err-number-clause-tables
-returns-in_err-number-clause-tables c = tables (goal.at.returns-in_err-number-clause-tables c).After-number
+pub rewrite-requires-clause-depth : goal.rewrite-requires-clause-depth
+rewrite-requires-clause-depth c =
+    let p = c.index.result.now.plan in
+    subst (λ xs. IsDepth c.args.store.now (change_at xs) p.depth) (sym c.deref.ensures.value)
+    (plan_depth c.args.store.now c.substitution.new.self.changes.keys (substituting c.args.parts.now) p
+    (plan (goal.at.rewrite-requires-clause-depth c).After-deref))
 
-pub changed-requires-clause-parts : goal.changed-requires-clause-parts
-changed-requires-clause-parts c =
-    subst (λ l. KnowsParts c.args.store.now (change_of l)) (sym c.in_ok-number.ensures.number) c.requires.parts
+pub rewrite-requires-clause-parts : goal.rewrite-requires-clause-parts
+rewrite-requires-clause-parts c =
+    let p = c.index.result.now.plan in
+    subst (λ xs. KnowsParts c.args.store.now (change_at xs)) (sym c.deref.ensures.value)
+    (plan_parts c.args.store.now c.substitution.new.self.changes.keys (substituting c.args.parts.now) p
+    (plan (goal.at.rewrite-requires-clause-parts c).After-deref) c.requires.parts)
 
-pub changed-requires-clause-depth : goal.changed-requires-clause-depth
-changed-requires-clause-depth c =
-    subst (λ l. IsDepth c.args.store.now (change_of l) c.depth-depth.result)
-    (c.as_slice.ensures ∙ sym c.in_ok-number.ensures.number) c.depth-depth.ensures.depth
+pub rewrite-requires-clause-found : goal.rewrite-requires-clause-found
+rewrite-requires-clause-found c =
+    let p = c.index.result.now.plan in
+    let found = c.substitution.new.self.walks.found in
+    subst (λ xs. AreChanged c.args.store.now (change_at xs) p.number found) (sym c.deref.ensures.value)
+    (plan_found c.args.store.now c.substitution.new.self.changes.keys (substituting c.args.parts.now) p
+    (plan (goal.at.rewrite-requires-clause-found c).After-deref) found c.substitution.ensures.tables.visits)
 
-pub changed-requires-clause-tables : goal.changed-requires-clause-tables
-changed-requires-clause-tables c = tables (goal.at.changed-requires-clause-tables c).After-number
+pub returns-clause-tables : goal.returns-clause-tables
+returns-clause-tables c =
+    let s = c.args.store.now in
+    let t = c.rewrite.new.store in
+    let e = c.rewrite.ensures.extends in
+    let made = c.substitution.new.self in
+    let p = c.index.result.now.plan in
+    record {
+      choices = c.rewrite.ensures.choices;
+      visits = plan_visits s made.changes.keys (substituting c.args.parts.now) p
+          (plan (goal.at.returns-clause-tables c).After-deref) t e made.walks.found c.rewrite.new.self.found
+          c.substitution.ensures.tables.visits
+          (subst (λ xs. AreChanged t (change_at xs) p.number c.rewrite.new.self.found) c.deref.ensures.value
+          c.rewrite.ensures.found)
+          c.rewrite.ensures.others;
+      quantifiers = AreQuantifiers-Extends s t e made.changes.keys made.quantifiers.items
+          c.substitution.ensures.tables.quantifiers;
+      substitutions = AreSubstitutions-Extends s t e made.changes.keys made.substitutions.items
+          c.substitution.ensures.tables.substitutions;
+    }
 
 pub returns-clause-answer : goal.returns-clause-answer
 returns-clause-answer c =
-    subst (λ l. IfOk c.changed.result (IsChanged c.changed.new.store (change_of l) c.args.f))
-    c.in_ok-number.ensures.number c.changed.ensures.answer
+    let t = c.rewrite.new.store in
+    IfOk-weaker c.rewrite.result _ _
+    (λ id x. plan_answer c.args.store.now c.substitution.new.self.changes.keys (substituting c.args.parts.now)
+    c.index.result.now.plan (plan (goal.at.returns-clause-answer c).After-deref) t c.rewrite.ensures.extends
+    c.args.f id (subst (λ xs. IsChanged t (change_at xs) c.args.f id) c.deref.ensures.value x))
+    c.rewrite.ensures.answer

@@ -8,19 +8,19 @@ use Rattle.tm_ddops.specs.Operation.{substituted}
 use Rattle.tm_game_bits.proofs.GameSets.{rests_is}
 use Rattle.tm_game_bits.proofs.game.GameDiagrams.rests.Goals as goal
 
-pub compose-requires-clause-parts : goal.compose-requires-clause-parts
-compose-requires-clause-parts c = λ g there.
+pub compose_once-requires-clause-parts : goal.compose_once-requires-clause-parts
+compose_once-requires-clause-parts c = λ g there.
     c.requires.game.stutter g
     (subst (λ (parts : List (ℕ × NodeId)). Contains (map (λ p. p.1) parts) g) c.deref.ensures.value there)
 
 pub returns-clause-answer : goal.returns-clause-answer
 returns-clause-answer c =
-    let t = c.compose.new.self.table in
+    let t = c.compose_once.new.self.table in
     let stuttered = subst (λ (parts : List (ℕ × NodeId)).
     IsFunction t c.in_ok-stuttered.stuttered (λ v. means t c.args.set (substituted t parts v)))
     c.deref.ensures.value c.in_ok-stuttered.ensures.answer in
-    IfOk-weaker c.and.result _ _
-    (λ id x. rests_is c.args.dd.now.table t c.and.new.self.table c.compose.ensures.grows.extends
-    c.and.ensures.grows.extends c.args.self.now c.requires.game c.args.set c.in_ok-stuttered.stuttered id c.requires.set
+    IfOk-weaker c.and_once.result _ _
+    (λ id x. rests_is c.args.dd.now.table t c.and_once.new.self.table c.compose_once.ensures.extends
+    c.and_once.ensures.extends c.args.self.now c.requires.game c.args.set c.in_ok-stuttered.stuttered id c.requires.set
     stuttered x)
-    c.and.ensures.answer
+    c.and_once.ensures.answer

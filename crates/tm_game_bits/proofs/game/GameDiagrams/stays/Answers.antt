@@ -12,13 +12,13 @@ acts-requires-clause-game c = KnowsGame-Extends _ _ c.calm.ensures.extends _ c.r
 
 pub returns-clause-answer : goal.returns-clause-answer
 returns-clause-answer c =
-    let w = c.or.new.self.table in
+    let w = c.or_once.new.self.table in
     let settled = subst (λ (f : NodeId).
     IsFunction w c.in_ok-settled.settled (λ v. means w f v || means w c.in_ok-acting.acting v))
     c.complement.ensures.value c.in_ok-settled.ensures.answer in
-    IfOk-weaker c.and.result _ _
-    (λ id x. stays_is c.args.dd.now.table c.calm.new.dd.table c.acts.new.dd.table w c.and.new.self.table
-    c.calm.ensures.extends c.acts.ensures.extends c.or.ensures.grows.extends c.and.ensures.grows.extends
+    IfOk-weaker c.and_once.result _ _
+    (λ id x. stays_is c.args.dd.now.table c.calm.new.dd.table c.acts.new.dd.table w c.and_once.new.self.table
+    c.calm.ensures.extends c.acts.ensures.extends c.or_once.ensures.extends c.and_once.ensures.extends
     c.args.self.now c.requires.game c.args.set c.in_ok-resting.resting c.in_ok-acting.acting
     c.in_ok-settled.settled id c.requires.set c.in_ok-resting.ensures.answer c.in_ok-acting.ensures.answer settled x)
-    c.and.ensures.answer
+    c.and_once.ensures.answer

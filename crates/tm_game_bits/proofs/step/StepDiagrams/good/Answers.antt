@@ -8,9 +8,9 @@ keeps-requires-clause-step c = KnowsStep-Extends _ _ c.allowed.ensures.extends _
 
 pub returns-clause-answer : goal.returns-clause-answer
 returns-clause-answer c =
-    IfOk-weaker c.and.result _ _
-    (λ id x. good_is c.args.dd.now.table c.allowed.new.dd.table c.keeps.new.dd.table c.and.new.self.table
-    c.allowed.ensures.extends c.keeps.ensures.extends c.and.ensures.grows.extends c.args.self.now c.requires.step
+    IfOk-weaker c.and_once.result _ _
+    (λ id x. good_is c.args.dd.now.table c.allowed.new.dd.table c.keeps.new.dd.table c.and_once.new.self.table
+    c.allowed.ensures.extends c.keeps.ensures.extends c.and_once.ensures.extends c.args.self.now c.requires.step
     c.args.turn c.args.set c.in_ok-permitted.permitted c.in_ok-kept.kept id c.requires.set
     c.in_ok-permitted.ensures.answer c.in_ok-kept.ensures.answer x)
-    c.and.ensures.answer
+    c.and_once.ensures.answer

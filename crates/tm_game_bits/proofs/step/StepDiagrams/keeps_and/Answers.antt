@@ -7,9 +7,9 @@ use Rattle.tm_game_bits.proofs.step.StepDiagrams.keeps_and.Goals as goal
 
 pub returns-clause-answer : goal.returns-clause-answer
 returns-clause-answer c =
-    IfOk-weaker c.and.result _ _
-    (λ id x. and_is c.args.dd.now.table c.keeps.new.dd.table c.and.new.self.table c.keeps.ensures.extends
-    c.and.ensures.grows.extends
+    IfOk-weaker c.and_once.result _ _
+    (λ id x. and_is c.args.dd.now.table c.keeps.new.dd.table c.and_once.new.self.table c.keeps.ensures.extends
+    c.and_once.ensures.extends
     (Keeps (step_of c.args.dd.now.table c.args.self.now) (means c.args.dd.now.table c.args.set))
     c.args.other c.in_ok-kept.kept id c.requires.other c.in_ok-kept.ensures.answer x)
-    c.and.ensures.answer
+    c.and_once.ensures.answer

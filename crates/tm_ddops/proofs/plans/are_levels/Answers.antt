@@ -1,6 +1,6 @@
 use Rattle.std.proofs.Common.{sym, ◌∙◌, arith}
 use Rattle.std.proofs.lemmas.List.{take_all, take_more_same}
-use Rattle.tm_ddops.proofs.quantifiers.are_same.Goals as goal
+use Rattle.tm_ddops.proofs.plans.are_levels.Goals as goal
 
 pub loop-place-preserved : goal.loop-place-preserved
 loop-place-preserved c =
