@@ -1,16 +1,18 @@
 -- A cell is narrowed by one predicate more.
-use Rattle.std.proofs.Common.{◌≡◌, Bool, true, false, not, ◌&&◌, List, [], ◌∷◌, ◌++◌, Some, length, refl, sym, ap, ◌∙◌, subst}
+use Rattle.std.proofs.Common.{◌≡◌, ◌≢◌, ℕ, true≢false, Bool, true, false, not, ◌&&◌, List, [], ◌∷◌, ◌++◌, Some, length, refl, sym, ap, ◌∙◌, subst}
 use Rattle.std.proofs.lemmas.Bool.{and_from, and_parts, not_from_false}
 use Rattle.std.proofs.lemmas.List.Elements.{All-pop, All-push}
 use Rattle.tm_abs.proofs.Splitting.{cell_back, cell_then}
 use Rattle.tm_abs.specs.Inner.Narrowed.{IsNarrowed}
 use Rattle.tm_abs.specs.Inner.Reading.{Tells}
 use Rattle.tm_dd.specs.declared.node.NodeId.{NodeId}
+use Rattle.tm_dd.specs.declared.node.TheConstants.{FALSE}
 use Rattle.tm_dd.specs.NodeId.{complement}
-use Rattle.tm_dd.specs.Reduced.{Extends}
-use Rattle.tm_dd.specs.Table.{Table, means}
-use Rattle.tm_dd.proofs.CallerLaws.{means-complement}
+use Rattle.tm_dd.specs.Reduced.{Extends, IsReduced}
+use Rattle.tm_dd.specs.Table.{Table, Knows, means}
+use Rattle.tm_dd.proofs.CallerLaws.{means-FALSE, means-complement}
 use Rattle.tm_ddops.specs.Manager.{IsFunction}
+use Rattle.tm_ddops.proofs.Supports.{somewhere}
 use Rattle.tm_flat_pool.specs.Cells.{SameCell}
 use Rattle.tm_flat_pool.specs.Predicates.{Predicate, predicate_holds}
 use Rattle.tm_game.specs.Game.{GameData}
@@ -39,6 +41,24 @@ module _ (d : DesignTree) (predicates : List Predicate) (p : Predicate) (t u : S
   cell_less same =
       All-pop (λ (q : Predicate). predicate_holds d t q ≡ predicate_holds d u q) (predicates ++ p ∷ []) predicates
       (Some p) refl same
+
+-- a function that is true at states alone and is not false is true at one
+pub some_state : (d : DesignTree) (order : List ℕ) → IsCoding d (coding_of d order) → (s : Table) → IsReduced s →
+    (id : NodeId) → Knows s id → ReadsState (length order) (means s id)
+    → ((v : Assignment) → means s id v ≡ true → IsState d (state_of d order v)) → id ≢ FALSE →
+    (t : StateData) × IsState d t × (means s id (assignment_of d order t) ≡ true)
+some_state d order coding s reduced id known reads valid differ =
+    let at = somewhere s reduced id known differ in
+    let t = state_of d order at.0 in (
+      t,
+      valid at.0 at.1,
+      reads (assignment_of d order t) at.0 (coding.one (assignment_of d order t) at.0 (coding.again at.0)) ∙ at.1,
+    )
+
+-- false is true at no state
+pub none_of_false : (s : Table) (id : NodeId) (v : Assignment) → id ≡ FALSE → means s id v ≡ true → ⊥
+none_of_false s id v same h = let off = ap (λ (f : NodeId). means s f v) same ∙ means-FALSE s v in
+    absurd (true≢false (sym h ∙ off))
 
 -- a state is narrowed down still when diagrams are added
 pub narrowed_kept : (d : DesignTree) (first : GameData) (s t : Table) → Extends s t → (set : NodeId)
@@ -217,5 +237,44 @@ module _ (d : DesignTree) (first : GameData) (coding : IsCoding d (coding_of d f
         all = λ v h.
             let less = cell_less d predicates p state (state_of d first.order v) h.1.0 in
             is.sought_is.all v (h.0, (less.0, h.1.1));
+      };
+    }
+
+-- any state that is sought will do
+pub sought_again : (d : DesignTree) (first : GameData) → IsCoding d (coding_of d first.order) → (s : Table) (set : NodeId)
+    (predicates : List Predicate) (state : StateData) (cell sought : NodeId) →
+    IsNarrowed d first s set predicates state cell sought → (t : StateData) → IsState d t
+    → means s sought (assignment_of d first.order t) ≡ true → IsNarrowed d first s set predicates t cell sought
+sought_again d first coding s set predicates state cell sought is t valid there =
+    let at = assignment_of d first.order t in
+    let inside = subst (λ (u : StateData). SameCell d predicates state u × (test_of d first set u ≡ true))
+    (coding.back t valid) (is.sought_is.only at there).1 in
+    record {
+      valid = valid;
+      there = inside.1;
+      cell_is = record {
+        known = is.cell_is.known;
+        only = λ v h.
+            let old = is.cell_is.only v h in (
+              old.0,
+              cell_then d predicates t state (state_of d first.order v)
+                  (cell_back d predicates state t inside.0) old.1,
+            );
+        all = λ v h. is.cell_is.all v
+            (h.0, cell_then d predicates state t (state_of d first.order v) inside.0 h.1);
+      };
+      sought_is = record {
+        known = is.sought_is.known;
+        only = λ v h.
+            let old = is.sought_is.only v h in (
+              old.0,
+              (
+                cell_then d predicates t state (state_of d first.order v)
+                    (cell_back d predicates state t inside.0) old.1.0,
+                old.1.1,
+              ),
+            );
+        all = λ v h. is.sought_is.all v
+            (h.0, (cell_then d predicates state t (state_of d first.order v) inside.0 h.1.0, h.1.1));
       };
     }

@@ -1,19 +1,22 @@
 -- The calls that look for a cut cell.
-use Rattle.std.proofs.Common.{◌≡◌, ℕ, ◌&&◌, List, [], sym, ap, ◌∙◌, subst}
+use Rattle.std.proofs.Common.{◌≡◌, ◌≢◌, ℕ, true, ◌&&◌, List, [], sym, ap, ◌∙◌, subst}
 use Rattle.tm_abs.proofs.Cutting.{cut_then, cut_valid, narrowed_none, none_cut}
+use Rattle.tm_abs.proofs.Narrowing.{none_of_false, some_state}
 use Rattle.tm_abs.proofs.Narrows.{both_kept}
 use Rattle.tm_abs.proofs.ValidParts.{both_set, complement_set}
 use Rattle.tm_abs.specs.Inner.Narrowed.{IsCutOff, IsNarrowed}
 use Rattle.tm_abs.specs.Split.{PartsAreOne}
 use Rattle.tm_abs.specs.Tracked.{IsPooled, tracked_of}
 use Rattle.tm_dd.specs.declared.node.NodeId.{NodeId}
+use Rattle.tm_dd.specs.declared.node.TheConstants.{FALSE}
 use Rattle.tm_dd.specs.NodeId.{complement}
+use Rattle.tm_dd.specs.Reduced.{IsReduced}
 use Rattle.tm_dd.specs.Table.{means}
 use Rattle.tm_dd.proofs.CallerLaws.{Knows-complement}
 use Rattle.tm_ddops.specs.Manager.{IsFunction}
 use Rattle.tm_flat_pool.specs.Cells.{IsInUpper}
 use Rattle.tm_game.proofs.Growing.{grows_then, known_kept, means_kept, of_kept, order_kept, set_kept, states_kept}
-use Rattle.tm_game.proofs.SetTests.{states_set}
+use Rattle.tm_game.proofs.SetTests.{coding_told, states_set}
 use Rattle.tm_game.specs.Game.{GameData, Grows, IsSet, IsStates}
 use Rattle.tm_game.specs.Least.{HoldsNowhere, test_of}
 use Rattle.tm_game.specs.Start.{state_bits_in}
@@ -21,7 +24,6 @@ use Rattle.tm_game_bits.proofs.Extended.{IsSetOf-Extends}
 use Rattle.tm_game_bits.specs.AssignedStates.{assignment_of, state_of}
 use Rattle.tm_game_bits.specs.Order.{IsOrder}
 use Rattle.tm_sem.specs.State.{StateData}
-use Rattle.tm_sem.specs.StateBits.{IsLeast}
 use Rattle.tm_sem.specs.Step.{IsState}
 use Rattle.tm_syntax.specs.Design.{DesignTree}
 
@@ -59,6 +61,19 @@ module _ (d : DesignTree) (g h k l : GameData) (gh : Grows g h) (hk : Grows h k)
       (IsInUpper d (tracked_of d numbers) (test_of d g c)) upper) (sym gk.order) (upper_at k hk)))
       (complement_set k c (set_kept g k gk c c_set)) cut_is
 
+  -- where what is cut off is false there is none
+  pub none_left : cut ≡ FALSE → HoldsNowhere d (test_of d k cut)
+  none_left same t h = none_of_false k.diagrams.table cut (assignment_of d k.order t) same h.1
+
+  -- and some state elsewhere
+  pub some_left : IsReduced l.diagrams.table → cut ≢ FALSE →
+      (t : StateData) × IsState d t × (test_of d l cut t ≡ true)
+  some_left reduced differ =
+      some_state d l.order (coding_told d l (of_kept g l gl d pooled.of) (order_kept g l gl order)) l.diagrams.table
+      reduced cut cut_now.known (set_kept k l kl cut cut_set).reads
+      (cut_valid d g l gl pooled.of order (tracked_of d numbers) c upper cut c_set
+      (upper_at l (grows_then h k l hk kl)) cut_now) differ
+
   test_now : (t : StateData) → test_of d l cut t ≡ test_of d k cut t
   test_now t =
       (λ i. means_kept k l kl cut cut_is.known i (assignment_of d l.order t))
@@ -71,16 +86,16 @@ module _ (d : DesignTree) (g h k l : GameData) (gh : Grows g h) (hk : Grows h k)
       (upper_at l (grows_then h k l hk kl)) cut_now (λ t there. nowhere t (there.0, sym (test_now t) ∙ there.1))
 
   -- one is
-  pub whole_narrowed : (state : StateData) → IsLeast d (test_of d k cut) state →
+  pub whole_narrowed : (state : StateData) → IsState d state × (test_of d l cut state ≡ true) →
       IsStates d g.order g.diagrams.table (λ s. Unit {0}) g.valid →
       IsNarrowed d l l.diagrams.table cut [] state l.valid cut
-  whole_narrowed state least valid_is =
+  whole_narrowed state here valid_is =
       narrowed_none d l (of_kept g l gl d pooled.of) (order_kept g l gl order) l.valid cut
       (subst (λ (id : NodeId). IsStates d l.order l.diagrams.table (λ s. Unit {0}) id) (sym gl.valid)
       (states_kept g l gl d (λ s. Unit {0}) g.valid valid_is))
       (set_kept k l kl cut cut_set)
       (cut_valid d g l gl pooled.of order (tracked_of d numbers) c upper cut c_set
-      (upper_at l (grows_then h k l hk kl)) cut_now) state least.here.0 (test_now state ∙ least.here.1)
+      (upper_at l (grows_then h k l hk kl)) cut_now) state here.0 here.1
 
   pub off_set : IsCutOff d l (tracked_of d numbers) (test_of d g c) cut
   off_set =

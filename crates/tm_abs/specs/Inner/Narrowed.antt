@@ -21,6 +21,11 @@ pub record IsNarrowed (d : DesignTree) (first : GameData) (s : Table) (set : Nod
   pub sought_is : IsStates d first.order s
       (λ t. SameCell d predicates state t × (test_of d first set t ≡ true)) sought
 
+-- the same of some state
+abbrev pub IsSought : DesignTree → GameData → Table → NodeId → List Predicate → NodeId → NodeId → Type 0
+IsSought d first s set predicates cell sought =
+    (state : StateData) × IsNarrowed d first s set predicates state cell sought
+
 -- a set has states alone whose cell meets a set that they are not in
 abbrev pub IsCutOff : DesignTree → GameData → List Predicate → (StateData → Bool) → NodeId → Type 0
 IsCutOff d g predicates set cut =

@@ -4,7 +4,7 @@ use Rattle.std.proofs.Math.Logic.{∥∥₁_elim}
 use Rattle.std.proofs.lemmas.List.{take_all, take_more}
 use Rattle.tm_abs.proofs.Tracking.{predicates_at-append}
 use Rattle.tm_abs.proofs.ValidParts.{in_pool_kept}
-use Rattle.tm_abs.specs.Inner.Narrowed.{IsNarrowed}
+use Rattle.tm_abs.specs.Inner.Narrowed.{IsSought}
 use Rattle.tm_abs.specs.Tracked.{tracked_of}
 use Rattle.tm_flat_pool.specs.Predicates.{Predicate, pool}
 use Rattle.tm_game.proofs.Growing.{grows_none, grows_then}
@@ -57,7 +57,7 @@ loop-number-preserved c =
     record {
       grows = grows_then g l c.narrow.new.game before.grows c.narrow.ensures.grows;
       narrowed = λ d first set pooled fg is.
-          subst (λ (ps : List Predicate). IsNarrowed d first t set ps found.state found.cell found.sought)
+          subst (λ (ps : List Predicate). IsSought d first t set ps found.cell found.sought)
           (sym (ap (tracked_of d) (take_more numbers index 0 below)
           ∙ predicates_at-append (pool d) (take index numbers) (slice_index_or numbers index 0 ∷ [])
           ∙ ap (λ (ks : List ℕ). tracked_of d (take index numbers) ++ tracked_of d (slice_index_or ks index 0 ∷ []))
@@ -73,5 +73,5 @@ returns-clause-narrowed c = λ d first set pooled fg is.
     let found = c.loop-number.found in
     let all = subst (λ (ks : List ℕ). length ks ≤ index) c.deref-number-items.ensures.value
     c.loop-number-test.false in
-    subst (λ (ks : List ℕ). IsNarrowed d first c.loop-number.game.diagrams.table set (tracked_of d ks) found.state
+    subst (λ (ks : List ℕ). IsSought d first c.loop-number.game.diagrams.table set (tracked_of d ks)
     found.cell found.sought) (take_all index numbers all) (c.loop-number.invariant.narrowed d first set pooled fg is)

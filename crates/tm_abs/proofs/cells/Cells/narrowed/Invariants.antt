@@ -1,5 +1,5 @@
 use Rattle.std.proofs.Common.{[], take}
-use Rattle.tm_abs.specs.Inner.Narrowed.{IsNarrowed}
+use Rattle.tm_abs.specs.Inner.Narrowed.{IsSought}
 use Rattle.tm_abs.specs.Tracked.{IsPooled, tracked_of}
 use Rattle.tm_dd.specs.declared.node.NodeId.{NodeId}
 use Rattle.tm_game.specs.Game.{GameData, Grows}
@@ -10,7 +10,7 @@ abbrev pub invariant-loop-number : goal.invariant-loop-number
 invariant-loop-number l = record {
   grows : Grows l.fn.game l.game;
   narrowed : (d : DesignTree) (first : GameData) (set : NodeId) → IsPooled d first → Grows first l.fn.game →
-      IsNarrowed d first l.fn.game.diagrams.table set [] l.fn.whole.state l.fn.whole.cell l.fn.whole.sought →
-      IsNarrowed d first l.game.diagrams.table set (tracked_of d (take l.number-index l.self.tracked.items))
-      l.found.state l.found.cell l.found.sought;
+      IsSought d first l.fn.game.diagrams.table set [] l.fn.whole.cell l.fn.whole.sought →
+      IsSought d first l.game.diagrams.table set (tracked_of d (take l.number-index l.self.tracked.items))
+      l.found.cell l.found.sought;
 }
