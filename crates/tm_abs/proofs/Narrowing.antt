@@ -241,8 +241,8 @@ module _ (d : DesignTree) (first : GameData) (coding : IsCoding d (coding_of d f
     }
 
 -- any state that is sought will do
-pub sought_again : (d : DesignTree) (first : GameData) → IsCoding d (coding_of d first.order) → (s : Table) (set : NodeId)
-    (predicates : List Predicate) (state : StateData) (cell sought : NodeId) →
+pub sought_again : (d : DesignTree) (first : GameData) → IsCoding d (coding_of d first.order) → (s : Table)
+    (set : NodeId) (predicates : List Predicate) (state : StateData) (cell sought : NodeId) →
     IsNarrowed d first s set predicates state cell sought → (t : StateData) → IsState d t
     → means s sought (assignment_of d first.order t) ≡ true → IsNarrowed d first s set predicates t cell sought
 sought_again d first coding s set predicates state cell sought is t valid there =

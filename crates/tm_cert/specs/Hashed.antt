@@ -9,5 +9,6 @@ abbrev pub entry_hash : Entry → fed.HashWrites
 entry_hash e = fed.u64 (mixed e.level e.lo e.hi)
 
 -- equal entries have one hash
-pub same_entry_hash : (a b : Entry) → IsTrue (are_same a.level a.lo a.hi b.level b.lo b.hi) → entry_hash a ≡ entry_hash b
+pub same_entry_hash : (a b : Entry) → IsTrue (are_same a.level a.lo a.hi b.level b.lo b.hi) →
+    entry_hash a ≡ entry_hash b
 same_entry_hash a b h = same_writes a.level a.lo a.hi b.level b.lo b.hi h

@@ -6,7 +6,8 @@ use Rattle.tm_cert.proofs.write.environment_value.Goals as goal
 pub returns : goal.returns
 unfolding environment_data
 returns c =
-    let levels : IfOk c.levels_value.result (λ v. view v ≡ list_data level_data c.args.cert.now.levels) = search rules in
+    let levels : IfOk c.levels_value.result (λ v. view v ≡ list_data level_data c.args.cert.now.levels) =
+    search rules in
     let nodes : IfOk c.nodes_value.result (λ v. view v ≡ list_data entry_data c.args.cert.now.nodes) = search rules in
     let order : IfOk c.order_value.result (λ v. view v ≡ list_data number_data c.args.cert.now.order) = search rules in
     c.object.ensures _

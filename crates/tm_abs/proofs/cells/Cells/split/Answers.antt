@@ -71,7 +71,8 @@ pair_with-requires c =
           let part = c.in_ok-upper.ensures.part d pooled in
           let valid = subst (λ (id : NodeId). IsStates d g.order g.diagrams.table (λ s. Unit {0}) id)
           c.valid-valid.ensures.value (c.valid-valid.ensures.states d pooled.of) in
-          let some = some_left d g h k k gh hk (grows_none k) pooled order numbers c.args.c upper cut c.requires.set part is
+          let some = some_left d g h k k gh hk (grows_none k) pooled order numbers c.args.c upper cut
+          c.requires.set part is
           (subst (λ (m : Diagrams). IsReduced m.table) c.manager.ensures c.store-store.ensures.manager.reduced)
           (ids_apart cut FALSE c.if-eq.ensures) in
           ∣ (
