@@ -67,11 +67,12 @@ impl Manager {
     {
         let store = Store::new(alloc, levels)?;
         let cache = empty_cache(alloc)?;
+        let tables = Tables::with_room(alloc)?;
         Ok(Manager {
             alloc,
             store,
             cache,
-            tables: Tables::new(alloc),
+            tables,
         })
     }
 
@@ -87,11 +88,12 @@ impl Manager {
     {
         let store = Store::arranged(alloc, levels, ranks)?;
         let cache = empty_cache(alloc)?;
+        let tables = Tables::with_room(alloc)?;
         Ok(Manager {
             alloc,
             store,
             cache,
-            tables: Tables::new(alloc),
+            tables,
         })
     }
 

@@ -71,8 +71,8 @@ fn are_levels(one: &[u32], other: &[u32]) -> bool
     if one.len() != other.len() {
         return false;
     }
-    for place in 0..one.len() {
-        if one[place] != other[place] {
+    for (level, counterpart) in one.iter().zip(other) {
+        if level != counterpart {
             return false;
         }
     }

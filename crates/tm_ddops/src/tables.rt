@@ -29,6 +29,9 @@ pub(crate) const MOST_CHOICES: usize = 16_384;
 /// For how many choices an emptied table keeps its room.
 pub(crate) const MOST_ROOM: usize = 65_536;
 
+/// For how many choices and how many visits new tables have room, so that small games make them grow no more.
+const FIRST_ROOM: usize = 1_024;
+
 /// What walks have found: the choices and the functions that they met. The number of changes is their place in the
 /// set.
 #[derive(Drop)]
@@ -57,6 +60,16 @@ impl Tables {
             quantifiers: Vec::new(alloc),
             substitutions: Vec::new(alloc),
         }
+    }
+
+    /// Tables that hold nothing, with room for the first walks.
+    pub(crate) fn with_room(alloc: Global) -> Result<Tables, AllocError>
+        ensures { IfOk result (λ tables. (s : Table) → AreTrue s tables) }
+    {
+        let mut tables = Tables::new(alloc);
+        tables.walks.choices.reserve(FIRST_ROOM)?;
+        tables.walks.found.reserve(FIRST_ROOM)?;
+        Ok(tables)
     }
 
     /// Drops the choices where there are more than `MOST_CHOICES`, and all entries where there are more than

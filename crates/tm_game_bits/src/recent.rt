@@ -21,7 +21,7 @@ pub(crate) struct Answer {
 /// `Manager::copy_roots` voids them.
 #[derive(Drop)]
 pub struct Recent {
-    // The one that was used last comes first.
+    // The one that was used last comes first. Behind one on the empty set come only such.
     answers: [Answer; ROOM],
 }
 
@@ -52,11 +52,15 @@ impl Recent {
             if answer.set == set {
                 return Some(answer.stays);
             }
+            if answer.set == FALSE {
+                return None;
+            }
         }
         None
     }
 
-    // Puts an answer in front. An older one on its set is dropped, or else the last one.
+    // Puts an answer in front. An older one on its set is dropped, or else the first one on the empty set, which needs
+    // none, or else the last one.
     pub(crate) fn note(&mut self, set: NodeId, stays: NodeId)
         ensures { (s : Table) (g : GameFunctions) → AreAnswers s g self.old → Knows s set →
             IsSetOf s (Stays g (means s set)) stays → AreAnswers s g self.new }
@@ -65,7 +69,7 @@ impl Recent {
         for place in 0..ROOM {
             let earlier = self.answers[place];
             self.answers[place] = carried;
-            if earlier.set == set {
+            if earlier.set == set || earlier.set == FALSE {
                 return;
             }
             carried = earlier;

@@ -6,7 +6,7 @@ invariant_of-result c = record {
   manager = manager_empty _ c.in_ok-store.ensures.reduced c.in_ok-cache.ensures.empty;
   room =
       c.in_ok-cache.ensures.room;
-  tables = c.new-2.ensures c.in_ok-store.store;
+  tables = c.in_ok-tables.ensures c.in_ok-store.store;
 }
 
 pub returns-clause-manager : goal.returns-clause-manager
