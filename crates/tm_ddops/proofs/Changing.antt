@@ -50,8 +50,8 @@ changed_below s reduced changes f known parts depth deepest above = record {
     stay k deep below = deepest.stay k below (omega (arith, above, deep))
 
 -- no level is as deep as a constant
-pub changed_constant : (s : Table) → IsReduced s → (changes : ℕ → Option Change) (f : NodeId) → IsConstant f → Knows s f →
-    KnowsParts s changes → IsChanged s changes f f
+pub changed_constant : (s : Table) → IsReduced s → (changes : ℕ → Option Change) (f : NodeId) → IsConstant f →
+    Knows s f → KnowsParts s changes → IsChanged s changes f f
 changed_constant s reduced changes f constant known parts =
     changed_below s reduced changes f known parts s.levels
     (record {
@@ -175,8 +175,8 @@ module _ (s : Table) (reduced : IsReduced s) (changes : ℕ → Option Change) (
       (sym (set-other w (node_of s f).level k b (eqb-false k (node_of s f).level apart))) (may k below))
 
   -- where a constant takes the place of the level, one branch is left
-  pub changed_settled : (branch : NodeId) → IsSettled (changes (node_of s f).level) (node_of s f) branch → (id : NodeId) →
-      IsChanged s changes branch id → IsChanged s changes f id
+  pub changed_settled : (branch : NodeId) → IsSettled (changes (node_of s f).level) (node_of s f) branch →
+      (id : NodeId) → IsChanged s changes branch id → IsChanged s changes f id
   changed_settled branch settled id x = elim settled [
     | inl on ↦ by_branch true (λ v w may. reads TRUE on.0 v w may ∙ means-TRUE s v) (node_of s f).hi
         (λ w h. f_true w h) (subst (λ b. IsChanged s changes b id) on.1 x)

@@ -167,7 +167,8 @@ module _ (s : Table) (lists : List (List (ℕ × Change))) (changes : List (ℕ 
     pub plan_visits : (m n : Visited) → AreVisits s lists m → AreChanged t (change_at p.by_level.items) p.number n →
         SameElsewhere p.number m n → AreVisits t lists n
     plan_visits m n are changed others =
-        visits_after s lists p.number (change_at p.by_level.items) by_number t e plan.number.within m n are changed others
+        visits_after s lists p.number (change_at p.by_level.items) by_number t e plan.number.within m n are changed
+        others
 
     pub plan_answer : (f id : NodeId) → IsChanged t (change_at p.by_level.items) f id →
         IsChanged t (change_of changes) f id

@@ -8,8 +8,8 @@ use crate::change::Change;
 use std::alloc::{AllocError, Global};
 use tm_dd::NodeId;
 
-/// How many lists of levels are kept at most: a game asks for those of choices and of arguments, and for some more where
-/// it is parted by predicates.
+/// How many lists of levels are kept at most: a game asks for those of choices and of arguments, and for some more
+/// where it is parted by predicates.
 const MOST_QUANTIFIERS: usize = 64;
 
 /// How many substitutions are kept at most: a game has one for each step.

@@ -8,10 +8,11 @@ ghost use Rattle.tm_syntax.specs.Tree.View.{expr_tree, stmt_trees, local_tree, b
 ghost use Rattle.tm_parse.specs.Reading.{Takes, IsRefused, AnyOf, Nothing};
 ghost use Rattle.tm_parse.specs.Commands.{GoesAt, GoesBody, ALocal, AreBody, AnAnswer, ABraced, AnAnswering, begins_name, begins_local};
 
+use crate::assignments::value;
 use crate::expressions::expr;
 use crate::leaves::{name, type_name};
 use crate::marks::{Read, first_kind, mark, need, open};
-use crate::statements::{stmts, value};
+use crate::statements::stmts;
 use std::alloc::Global;
 use tm_syntax::token::{Sign, Token, TokenKind, Word};
 use tm_syntax::tree::{Body, Expr, LocalDef, Stmt};

@@ -29,6 +29,7 @@ macro_rules! read {
     };
 }
 
+mod assignments;
 mod bodies;
 mod declarations;
 mod expressions;

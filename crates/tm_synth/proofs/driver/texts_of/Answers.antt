@@ -9,7 +9,8 @@ returns c =
     let bs = trees_of c.args.made.now.blocks in
     driver_found d bs c.args.made.now.cert c.in_ok-driver.driver.items c.in_ok-cert.cert.bytes.items
     c.in-Ok.ranks.items c.in_ok-cert.cert.nodes
-    (c.sound_designs_of_texts_are_regular.ensures c.args.design.now c.requires.shown.can.sound c.requires.shown.can.of_text)
+    (c.sound_designs_of_texts_are_regular.ensures c.args.design.now c.requires.shown.can.sound
+    c.requires.shown.can.of_text)
     c.requires.shown c.in_ok-driver.ensures.reads_so
     c.in_ok-driver.ensures.reads_only_so c.in_ok-cert.ensures
     c.in-Ok.ensures

@@ -18,7 +18,8 @@ plan c =
     let there = c.in_ok-place.ensures.there in
     let lists = c.quantifier.new.self.changes.keys in
     let kept = c.quantifier.new.self.quantifiers.items in
-    subst (λ (k : Quantifier). IsPlan c.args.store.now lists (quantified c.args.levels.now) k.plan) (sym c.index.ensures)
+    subst (λ (k : Quantifier). IsPlan c.args.store.now lists (quantified c.args.levels.now) k.plan)
+    (sym c.index.ensures)
     (subst (λ l. IsPlan c.args.store.now lists (quantified l) (get_or kept c.in_ok-place.place q).plan) (there.same q)
     (c.quantifier.ensures.tables.quantifiers c.in_ok-place.place q there.within))
 

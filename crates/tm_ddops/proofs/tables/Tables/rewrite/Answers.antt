@@ -16,7 +16,8 @@ plan c =
     let there = c.in_ok-place.ensures.there in
     let lists = c.substitution.new.self.changes.keys in
     let kept = c.substitution.new.self.substitutions.items in
-    subst (λ (k : Substitution). IsPlan c.args.store.now lists (substituting c.args.parts.now) k.plan) (sym c.index.ensures)
+    subst (λ (k : Substitution). IsPlan c.args.store.now lists (substituting c.args.parts.now) k.plan)
+    (sym c.index.ensures)
     (subst (λ l. IsPlan c.args.store.now lists (substituting l) (get_or kept c.in_ok-place.place q).plan) (there.same q)
     (c.substitution.ensures.tables.substitutions c.in_ok-place.place q there.within))
 

@@ -8,7 +8,7 @@ use Rattle.tm_parse.proofs.Lists.{SoFar, so_far_one, so_far_more, so_far_all, li
 use Rattle.tm_parse.proofs.Taking.{refused_so}
 use Rattle.tm_parse.proofs.Terminals.{without_place}
 use Rattle.tm_parse.proofs.Values.{listed_exprs}
-use Rattle.tm_parse.proofs.statements.exprs.Goals as goal
+use Rattle.tm_parse.proofs.assignments.exprs.Goals as goal
 
 pub returns-in-Err-clause-refused : goal.returns-in-Err-clause-refused
 returns-in-Err-clause-refused c =

@@ -2,7 +2,7 @@ use Rattle.std.proofs.Common.{is_some, ap, rules}
 use Rattle.tm_parse.specs.Operands.{AnExpr}
 use Rattle.tm_parse.proofs.Arguments.{taken_empty, taken_filled, no_arguments_opening, no_arguments_list, no_arguments_closing}
 use Rattle.tm_parse.proofs.Values.{listed_exprs}
-use Rattle.tm_parse.proofs.statements.arguments.Goals as goal
+use Rattle.tm_parse.proofs.assignments.arguments.Goals as goal
 use Rattle.std.proofs.Common.{◌+◌}
 
 pub returns-in-Err-clause-refused : goal.returns-in-Err-clause-refused

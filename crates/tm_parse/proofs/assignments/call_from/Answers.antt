@@ -1,7 +1,7 @@
 use Rattle.std.proofs.Common.{rules}
 use Rattle.tm_syntax.proofs.Views.{view-Call}
 use Rattle.tm_parse.proofs.Commands.{taken_call_stmt, no_call_stmt, no_call_stmt_end}
-use Rattle.tm_parse.proofs.statements.call_from.Goals as goal
+use Rattle.tm_parse.proofs.assignments.call_from.Goals as goal
 
 pub returns-in-Err-clause-refused : goal.returns-in-Err-clause-refused
 returns-in-Err-clause-refused c =

@@ -1,7 +1,7 @@
 use Rattle.std.proofs.Common.{rules}
 use Rattle.tm_parse.proofs.Commands.{taken_no_index, taken_index, no_index}
 use Rattle.tm_parse.proofs.Goes.{no_goes_bracket}
-use Rattle.tm_parse.proofs.statements.index.Goals as goal
+use Rattle.tm_parse.proofs.assignments.index.Goals as goal
 
 pub enclosed-requires-clause-closes : goal.enclosed-requires-clause-closes
 enclosed-requires-clause-closes c = no_goes_bracket 0

@@ -1,7 +1,7 @@
 use Rattle.std.proofs.Common.{rules}
 use Rattle.tm_parse.proofs.Commands.{taken_path_stmt, no_path_stmt_path, no_path_stmt_from}
 use Rattle.tm_parse.proofs.Taking.{ok_map, err_map}
-use Rattle.tm_parse.proofs.statements.path_stmt.Goals as goal
+use Rattle.tm_parse.proofs.assignments.path_stmt.Goals as goal
 
 pub returns-in-Err-clause-refused : goal.returns-in-Err-clause-refused
 returns-in-Err-clause-refused c =

@@ -1,7 +1,7 @@
 use Rattle.std.proofs.Common.{rules}
 use Rattle.tm_syntax.proofs.Views.{view-Assign}
 use Rattle.tm_parse.proofs.Commands.{taken_place_stmt, no_place_index, no_place_assign, no_place_value, no_place_end}
-use Rattle.tm_parse.proofs.statements.assignment_from.Goals as goal
+use Rattle.tm_parse.proofs.assignments.assignment_from.Goals as goal
 
 pub returns-in-Err-clause-refused : goal.returns-in-Err-clause-refused
 returns-in-Err-clause-refused c =

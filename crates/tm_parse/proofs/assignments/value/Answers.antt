@@ -1,7 +1,7 @@
 use Rattle.std.proofs.Common.{is_some, ap, rules}
 use Rattle.tm_parse.proofs.Taking.{ok_map, err_map}
 use Rattle.tm_parse.proofs.Values.{taken_star, taken_plain, no_plain, taken_named, no_named_path, no_named_from}
-use Rattle.tm_parse.proofs.statements.value.Goals as goal
+use Rattle.tm_parse.proofs.assignments.value.Goals as goal
 
 pub returns-in-Some-clause-taken : goal.returns-in-Some-clause-taken
 returns-in-Some-clause-taken c = taken_star c.in-Some.ensures.some c.in-Some.ensures.taken

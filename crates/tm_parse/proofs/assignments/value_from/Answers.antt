@@ -1,6 +1,6 @@
 use Rattle.std.proofs.Common.{rules}
 use Rattle.tm_parse.proofs.Values.{taken_call, no_call, taken_rest, no_rest_place, no_rest_from}
-use Rattle.tm_parse.proofs.statements.value_from.Goals as goal
+use Rattle.tm_parse.proofs.assignments.value_from.Goals as goal
 
 pub returns-in-Err-clause-refused : goal.returns-in-Err-clause-refused
 returns-in-Err-clause-refused c =

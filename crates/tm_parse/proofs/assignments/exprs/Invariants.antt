@@ -3,7 +3,7 @@ use Rattle.tm_syntax.specs.declared.token.Sign.TheVariants as sign
 use Rattle.tm_syntax.specs.Tree.View.{expr_trees}
 use Rattle.tm_parse.specs.Operands.{AnExpr, GoesExpr}
 use Rattle.tm_parse.proofs.Lists.{SoFar}
-use Rattle.tm_parse.proofs.statements.exprs.Given as goal
+use Rattle.tm_parse.proofs.assignments.exprs.Given as goal
 
 abbrev pub invariant-loop-behind : goal.invariant-loop-behind
 invariant-loop-behind l = record {
