@@ -107,7 +107,7 @@ impl Graph {
         self.entries.push(entry)?;
         let count = self.entries.len();
         if slot < self.slots.len() {
-            self.slots[slot] = count as u32;
+            self.slots[slot] = u32::try_from(count).unwrap_or(0);
         }
         Ok(count as u64 + 1)
     }

@@ -1,5 +1,5 @@
 //! The sets of a certificate as diagrams over the levels of another order.
-ghost use Rattle.std.specs.Prelude.{◌≡◌, ◌<◌, ℕ, All, Bool, IfOk, IfSome, List, if◌then◌else◌, length, slice_index_or};
+ghost use Rattle.std.specs.Prelude.{◌≡◌, ◌+◌, ◌<◌, ℕ, All, Bool, IfOk, IfSome, List, if◌then◌else◌, length, slice_index_or};
 ghost use Rattle.tm_cert.specs.declared.cert.Entry.{Entry as Node};
 ghost use Rattle.tm_cert.specs.Nodes.{ids_of};
 ghost use Rattle.tm_dd.specs.Reduced.{Extends, IsReduced};

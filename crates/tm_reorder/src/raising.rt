@@ -1,6 +1,6 @@
 //! Sets whose levels are put into another order, one after the other: each is raised to its place among those above it
 //! (after Rudell 1993). What an entry is for each value of that level is found for all entries in one pass.
-ghost use Rattle.std.specs.Prelude.{◌≡◌, ◌<◌, ◌^◌, ℕ, All, IfOk, List, length};
+ghost use Rattle.std.specs.Prelude.{◌≡◌, ◌+◌, ◌<◌, ◌^◌, ℕ, All, IfOk, List, length};
 ghost use Rattle.tm_cert.specs.declared.cert.Entry.{Entry as Node};
 ghost use Rattle.tm_cert.specs.Nodes.{ids_of};
 ghost use Rattle.tm_game_bits.specs.Order.{IsOrder};
@@ -205,12 +205,13 @@ pub(crate) fn all_raised(
         ids: Vec::from_slice(alloc, ids)?,
     };
     let mut lowest = 0;
-    for (index, rank) in ranks.iter().enumerate() {
-        let level = index as u32;
+    let mut level: u32 = 0;
+    for rank in ranks {
         if *rank < lowest && is_read(&sets.entries, level) {
             sets = raised(alloc, &sets.entries, &sets.ids, level, ranks)?;
         }
         lowest = lowest.max(*rank);
+        level = level.wrapping_add(1);
     }
     Ok(sets)
 }

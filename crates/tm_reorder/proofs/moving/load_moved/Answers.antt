@@ -39,14 +39,14 @@ index-requires c =
     c.loop-entry.dd.table c.loop-entry.ids.items c.loop-entry.invariant.first in
     omega arith
 
-pub branch-requires-clause-bit : goal.branch-requires-clause-bit
-branch-requires-clause-bit c =
+pub branch-dd-requires-clause-bit : goal.branch-dd-requires-clause-bit
+branch-dd-requires-clause-bit c =
     subst (Knows c.loop-entry.dd.table) (sym c.moved_bit-bit.ensures)
     (bit_known c.args.dd.now.table c.loop-entry.dd.table c.args.bits.now _ c.loop-entry.invariant.extends
     c.requires.bits)
 
-pub branch-requires-clause-hi : goal.branch-requires-clause-hi
-branch-requires-clause-hi c =
+pub branch-dd-requires-clause-hi : goal.branch-dd-requires-clause-hi
+branch-dd-requires-clause-hi c =
     let see = seen c.args.dd.now.table c.args.order.now c.args.bits.now in
     let at = slice_get-get_or c.args.nodes.now c.loop-entry.entry-index (record { level = 0; lo = 0; hi = 0 })
     c.loop-entry-test.true in
@@ -55,8 +55,8 @@ branch-requires-clause-hi c =
     (hi_read see c.args.nodes.now c.requires.nodes c.loop-entry.entry-index _ at
     c.loop-entry.dd.table c.loop-entry.ids.items c.loop-entry.invariant.first c.index-in-loop-entry.result.now c.index-in-loop-entry.ensures)
 
-pub branch-requires-clause-lo : goal.branch-requires-clause-lo
-branch-requires-clause-lo c =
+pub branch-dd-requires-clause-lo : goal.branch-dd-requires-clause-lo
+branch-dd-requires-clause-lo c =
     let see = seen c.args.dd.now.table c.args.order.now c.args.bits.now in
     let at = slice_get-get_or c.args.nodes.now c.loop-entry.entry-index (record { level = 0; lo = 0; hi = 0 })
     c.loop-entry-test.true in
@@ -68,13 +68,13 @@ branch-requires-clause-lo c =
 
 pub returns-in_err-id-clause-extends : goal.returns-in_err-id-clause-extends
 returns-in_err-id-clause-extends c =
-    Extends-trans c.args.dd.now.table c.loop-entry.dd.table c.branch.new.dd.table c.loop-entry.invariant.extends
-    c.branch.ensures.extends
+    Extends-trans c.args.dd.now.table c.loop-entry.dd.table c.branch-dd.new.dd.table c.loop-entry.invariant.extends
+    c.branch-dd.ensures.extends
 
 pub returns-in_err-push-3-clause-extends : goal.returns-in_err-push-3-clause-extends
 returns-in_err-push-3-clause-extends c =
-    Extends-trans c.args.dd.now.table c.loop-entry.dd.table c.branch.new.dd.table c.loop-entry.invariant.extends
-    c.branch.ensures.extends
+    Extends-trans c.args.dd.now.table c.loop-entry.dd.table c.branch-dd.new.dd.table c.loop-entry.invariant.extends
+    c.branch-dd.ensures.extends
 
 pub loop-entry-preserved : goal.loop-entry-preserved
 loop-entry-preserved c =
@@ -82,12 +82,12 @@ loop-entry-preserved c =
     let at = slice_get-get_or c.args.nodes.now c.loop-entry.entry-index (record { level = 0; lo = 0; hi = 0 })
     c.loop-entry-test.true in
     record {
-      extends = Extends-trans c.args.dd.now.table c.loop-entry.dd.table c.branch.new.dd.table
-          c.loop-entry.invariant.extends c.branch.ensures.extends;
+      extends = Extends-trans c.args.dd.now.table c.loop-entry.dd.table c.branch-dd.new.dd.table
+          c.loop-entry.invariant.extends c.branch-dd.ensures.extends;
       first = one_more see c.args.nodes.now c.requires.nodes c.loop-entry.entry-index _ at
-          c.loop-entry.dd.table c.loop-entry.ids.items c.loop-entry.invariant.first c.branch.new.dd.table
+          c.loop-entry.dd.table c.loop-entry.ids.items c.loop-entry.invariant.first c.branch-dd.new.dd.table
           c.moved_bit-bit.result c.index.result.now c.index-in-loop-entry.result.now c.in_ok-id.id
-          c.push-in-loop-entry.new.self.items c.branch.ensures.extends
+          c.push-in-loop-entry.new.self.items c.branch-dd.ensures.extends
           (lo_read see c.args.nodes.now c.requires.nodes c.loop-entry.entry-index _ at
           c.loop-entry.dd.table c.loop-entry.ids.items c.loop-entry.invariant.first c.index.result.now
           c.index.ensures)
