@@ -2,7 +2,7 @@
 use Rattle.std.proofs.Common.{◌≡◌, ◌⊎◌, inl, inr, ℕ, zero, suc, ◌+◌, ◌<◌, ◌≤◌, Bool, true, false, if◌then◌else◌, List, [], ◌∷◌, ◌++◌, length, fold, get_or, slice_get, Some, refl, sym, ap, ◌∙◌, subst, arith}
 use Rattle.std.specs.Prelude.{All}
 use Rattle.std.proofs.lemmas.List.{get_or_append_left, get_or_at, length_push, length-take-le}
-use Rattle.std.proofs.lemmas.Option.{get_or_from_slice_get, none-some, same_Some, slice_get_within}
+use Rattle.std.proofs.lemmas.Option.{get_or_from_slice_get, none-some, same_Some, slice_get-get_or, slice_get_within}
 use Rattle.tm_cert.specs.declared.cert.Entry.{Entry}
 use Rattle.tm_cert.specs.Nodes.{ids_of}
 use Rattle.tm_numbering.specs.Parts.{ArePairs}
@@ -49,15 +49,16 @@ holds_kept : (nodes : List Entry) (e : Entry) (id : ℕ) (v : ℕ → Bool) → 
 unfolding id_holds
 holds_kept nodes e id v below =
     ap (λ values. get_or values id false) (values_more nodes e v)
-    ∙ get_or_append_left (values_of nodes v) (entry_value v (values_of nodes v) e ∷ []) id false
+    ∙ get_or_append_left (values_of nodes v) (entry_value v (values_of nodes v) e ∷ []) false id
     (omega (arith, length_values nodes v, below))
 
 holds_last : (nodes : List Entry) (e : Entry) (v : ℕ → Bool) →
-    id_holds (nodes ++ e ∷ []) (length nodes + 2) v ≡ (if v e.level then id_holds nodes e.hi v else id_holds nodes e.lo v)
+    id_holds (nodes ++ e ∷ []) (length nodes + 2) v
+    ≡ (if v e.level then id_holds nodes e.hi v else id_holds nodes e.lo v)
 unfolding id_holds
 holds_last nodes e v =
     ap (λ values. get_or values (length nodes + 2) false) (values_more nodes e v)
-    ∙ get_or_at (values_of nodes v) (entry_value v (values_of nodes v) e) [] (length nodes + 2) false
+    ∙ get_or_at (values_of nodes v) (entry_value v (values_of nodes v) e) [] false (length nodes + 2)
     (length_values nodes v)
     ∙ picked (v e.level) (values_of nodes v) e.lo e.hi
 
@@ -235,18 +236,32 @@ parts_more old new level done parts later part items are last =
         subst (λ (n : ℕ). ArePart old new level n x) place
         (subst (λ (y : ℕ × ℕ). ArePart old new level (done + 2) y) p.1 last)
 
--- what the bit of one level chooses, and then that of another
-own_value : (b : Bool) {h l h1 h0 l1 l0 : Bool} → h ≡ (if b then h1 else h0) → l ≡ (if b then l1 else l0) →
-    (if b then h else l) ≡ (if b then h1 else l0)
-own_value true hi lo = hi
-own_value false hi lo = lo
+-- the parts that are read at a number
+pub part_at : (old new : List Entry) (level done : ℕ) (parts : List (ℕ × ℕ)) → AreParts old new level done parts →
+    (id : ℕ) → id < length parts → ArePart old new level id (get_or parts id (0, 0))
+part_at old new level done parts are id below =
+    are.each id (get_or parts id (0, 0)) (slice_get-get_or parts id (0, 0) below)
 
-other_value : (b c : Bool) {h l h1 h0 l1 l0 : Bool} → h ≡ (if b then h1 else h0) → l ≡ (if b then l1 else l0) →
-    (if c then h else l) ≡ (if b then (if c then h1 else l1) else (if c then h0 else l0))
-other_value true true hi lo = hi
-other_value true false hi lo = lo
-other_value false true hi lo = hi
-other_value false false hi lo = lo
+-- a set from its parts
+pub joined_told : (old one two : List Entry) (level id whole : ℕ) (part : ℕ × ℕ) → ArePart old one level id part →
+    IsBranchOf one two level part.0 part.1 whole → IsTold (λ v. v) old two id whole
+joined_told old one two level id whole part are made = record {
+  within = made.within;
+  same = λ v. made.holds v ∙ sym (are.holds v);
+}
+
+-- what the bit of one level chooses, and then that of another
+own_value : (b : Bool) {h l : Bool} (h1 h0 l1 l0 : Bool) → h ≡ (if b then h1 else h0) → l ≡ (if b then l1 else l0) →
+    (if b then h else l) ≡ (if b then h1 else l0)
+own_value true h1 h0 l1 l0 hi lo = hi
+own_value false h1 h0 l1 l0 hi lo = lo
+
+other_value : (b c : Bool) {h l : Bool} (h1 h0 l1 l0 : Bool) → h ≡ (if b then h1 else h0) →
+    l ≡ (if b then l1 else l0) → (if c then h else l) ≡ (if b then (if c then h1 else l1) else (if c then h0 else l0))
+other_value true true h1 h0 l1 l0 hi lo = hi
+other_value true false h1 h0 l1 l0 hi lo = lo
+other_value false true h1 h0 l1 l0 hi lo = hi
+other_value false false h1 h0 l1 l0 hi lo = lo
 
 -- the parts of an entry from those of its children
 module _ (old : List Entry) (level k : ℕ) (e : Entry) (branch : IsBranch old k e) where
@@ -259,7 +274,8 @@ module _ (old : List Entry) (level k : ℕ) (e : Entry) (branch : IsBranch old k
     holds = λ v.
         branch.holds v
         ∙ ap (λ (n : ℕ). if v n then id_holds old e.hi v else id_holds old e.lo v) same
-        ∙ own_value (v level) (hi_is.holds v) (lo_is.holds v);
+        ∙ own_value (v level) (id_holds new hi.1 v) (id_holds new hi.0 v) (id_holds new lo.1 v) (id_holds new lo.0 v)
+        (hi_is.holds v) (lo_is.holds v);
   }
 
   -- of another level the branches over one part of each child
@@ -272,11 +288,13 @@ module _ (old : List Entry) (level k : ℕ) (e : Entry) (branch : IsBranch old k
     on_within = on_is.within;
     holds = λ v.
         branch.holds v
-        ∙ other_value (v level) (v e.level) (hi_is.holds v) (lo_is.holds v)
+        ∙ other_value (v level) (v e.level) (id_holds one hi.1 v) (id_holds one hi.0 v) (id_holds one lo.1 v)
+        (id_holds one lo.0 v) (hi_is.holds v) (lo_is.holds v)
         ∙ same_branch (v level) (sym (on_here v)) (sym (off_here v));
   }
     where
-      off_here : (v : ℕ → Bool) → id_holds three off v ≡ (if v e.level then id_holds one hi.0 v else id_holds one lo.0 v)
+      off_here : (v : ℕ → Bool) →
+          id_holds three off v ≡ (if v e.level then id_holds one hi.0 v else id_holds one lo.0 v)
       off_here v = next.same off off_is.within v ∙ off_is.holds v
 
       on_here : (v : ℕ → Bool) → id_holds three on v ≡ (if v e.level then id_holds one hi.1 v else id_holds one lo.1 v)
@@ -285,7 +303,7 @@ module _ (old : List Entry) (level k : ℕ) (e : Entry) (branch : IsBranch old k
           ∙ same_branch (v e.level) (first.same hi.1 hi_is.on_within v) (first.same lo.1 lo_is.on_within v)
 
   -- the entry over its whole children
-  pub whole_told : (one two : List Entry) (lo hi whole : ℕ) → IsTold (λ v. v) old one e.lo lo →
+  whole_told : (one two : List Entry) (lo hi whole : ℕ) → IsTold (λ v. v) old one e.lo lo →
       IsTold (λ v. v) old one e.hi hi → IsBranchOf one two e.level lo hi whole →
       IsTold (λ v. v) old two (k + 2) whole
   whole_told one two lo hi whole lo_is hi_is made = record {
@@ -294,13 +312,16 @@ module _ (old : List Entry) (level k : ℕ) (e : Entry) (branch : IsBranch old k
         made.holds v ∙ same_branch (v e.level) (hi_is.same v) (lo_is.same v) ∙ sym (branch.holds v);
   }
 
--- ---- a set from its parts
-pub joined_told : (old one two : List Entry) (level id whole : ℕ) (part : ℕ × ℕ) → ArePart old one level id part →
-    IsBranchOf one two level part.0 part.1 whole → IsTold (λ v. v) old two id whole
-joined_told old one two level id whole part are made = record {
-  within = made.within;
-  same = λ v. made.holds v ∙ sym (are.holds v);
-}
+  pub kept_parts : (zeroth one two three : List Entry) (lo hi : ℕ × ℕ) (whole_lo whole_hi whole : ℕ) →
+      ArePart old zeroth level e.lo lo → ArePart old zeroth level e.hi hi → Keeps zeroth one → Keeps one two →
+      IsBranchOf zeroth one level lo.0 lo.1 whole_lo → IsBranchOf one two level hi.0 hi.1 whole_hi →
+      IsBranchOf two three e.level whole_lo whole_hi whole → ArePart old three level (k + 2) (whole, whole)
+  kept_parts zeroth one two three lo hi whole_lo whole_hi whole lo_is hi_is first next lo_made hi_made made =
+      whole_part old three level (k + 2) whole
+      (whole_told two three whole_lo whole_hi whole
+      (told_kept old one two e.lo whole_lo next (joined_told old zeroth one level e.lo whole_lo lo lo_is lo_made))
+      (joined_told old one two level e.hi whole_hi hi (part_kept old zeroth one level e.hi hi first hi_is) hi_made)
+      made)
 
 -- ---- sets that are raised
 pub raised_none : (nodes : List Entry) (ids : List ℕ) → AreBranches nodes → All (λ id. id < ids_of nodes) ids →

@@ -1,20 +1,21 @@
 -- The diagrams of entries over moved levels, one behind the other.
-use Rattle.std.proofs.Common.{◌≡◌, ◌⊎◌, inl, inr, ℕ, zero, suc, ◌+◌, ◌<◌, Bool, if◌then◌else◌, List, [], ◌∷◌, ◌++◌, length, take, get_or, slice_get, Some, refl, sym, ap, ◌∙◌, subst, arith}
+use Rattle.std.proofs.Common.{◌≡◌, ◌⊎◌, inl, inr, ℕ, zero, suc, ◌+◌, ◌<◌, Bool, true, false, if◌then◌else◌, List, [], ◌∷◌, ◌++◌, length, take, get_or, slice_get, Some, refl, sym, ap, ◌∙◌, subst, arith}
 use Rattle.std.proofs.lemmas.Bool.{cases_lt}
 use Rattle.std.proofs.lemmas.List.{get_or_past, length_push}
 use Rattle.std.proofs.lemmas.Option.{none-some, same_Some, slice_get-get_or, slice_get_read}
 use Rattle.tm_cert.specs.declared.cert.Entry.{Entry}
+use Rattle.tm_dd.specs.declared.node.Node.{Node}
 use Rattle.tm_dd.specs.declared.node.NodeId.{NodeId}
 use Rattle.tm_dd.specs.declared.node.TheConstants.{FALSE, TRUE}
-use Rattle.tm_dd.specs.Reduced.{Extends}
-use Rattle.tm_dd.specs.Table.{Table, Knows, means}
+use Rattle.tm_dd.specs.Reduced.{Extends, IsNode}
+use Rattle.tm_dd.specs.Table.{Table, Knows, depth_of, means, rank_of}
 use Rattle.tm_dd.proofs.CallerLaws.{Extends-refl, means-FALSE, means-TRUE}
 use Rattle.tm_ddops.specs.Manager.{IsFunction}
 use Rattle.tm_numbering.proofs.Items.{get_more}
 use Rattle.tm_verdict.specs.Sets.{id_holds}
 use Rattle.tm_verdict.proofs.Values.{always_holds, never_holds}
 use Rattle.tm_reorder.specs.Inner.Clamped.{AreBits}
-use Rattle.tm_reorder.specs.Inner.Moved.{AreFirstMoved, AreMoved, IsMoved, seen}
+use Rattle.tm_reorder.specs.Inner.Moved.{AreFirstMoved, AreMoved, IsMoved, IsValueAbove, seen}
 use Rattle.tm_reorder.specs.Inner.Raised.{AreBranches, IsBranch}
 
 -- ---- the bits of old levels
@@ -34,6 +35,55 @@ pub bit_seen : (s t : Table) (order : List ℕ) (bits : List NodeId) (level : �
 bit_seen s t order bits level grows known v =
     grows.same_meaning (get_or bits (get_or order level 0) FALSE)
     (bit_known s s bits (get_or order level 0) (Extends-refl s) known) v
+
+-- ---- one branch over a bit
+-- which of the two constants a bit chooses
+bit_value : (b : Bool) → (if b then true else false) ≡ b
+bit_value true = refl
+bit_value false = refl
+
+-- the node over the two constants is the value of its level
+pub value_above : (s : Table) (bit lo hi : NodeId) (n : Node) → IsNode s bit n → n.lo ≡ FALSE → n.hi ≡ TRUE →
+    rank_of s n.level < depth_of s lo → rank_of s n.level < depth_of s hi → IsValueAbove s bit lo hi n.level
+value_above s bit lo hi n node is_false is_true above_lo above_hi = record {
+  below = node.below;
+  lo_deeper = inr above_lo;
+  hi_deeper = inr above_hi;
+  value = λ v.
+      node.meaning v
+      ∙ (λ i. if v n.level then means s (is_true i) v else means s (is_false i) v)
+      ∙ (λ i. if v n.level then means-TRUE s v i else means-FALSE s v i)
+      ∙ bit_value (v n.level);
+}
+
+module _ (s t : Table) (bit lo hi id : NodeId) (grows : Extends s t) (lo_known : Knows s lo) (hi_known : Knows s hi)
+    where
+  abbrev IsChosen : Type 0
+  IsChosen = IsFunction t id (λ v. if means s bit v then means s hi v else means s lo v)
+
+  -- a node of the level whose value the bit is
+  pub chosen_by_level : (level : ℕ) → IsValueAbove s bit lo hi level →
+      IsFunction t id (λ v. if v level then means t hi v else means t lo v) → IsChosen
+  chosen_by_level level above is = record {
+    known = is.known;
+    meaning = λ v.
+        is.meaning v
+        ∙ (λ i.
+        if sym (above.value v) i then grows.same_meaning hi hi_known v i else grows.same_meaning lo lo_known v i);
+  }
+
+  -- a choice by the bit
+  pub chosen_by_bit : Knows s bit → IsFunction t id (λ v. if means t bit v then means t hi v else means t lo v) →
+      IsChosen
+  chosen_by_bit bit_is_known is = record {
+    known = is.known;
+    meaning = λ v.
+        is.meaning v
+        ∙ (λ i.
+        if grows.same_meaning bit bit_is_known v i
+        then grows.same_meaning hi hi_known v i
+        else grows.same_meaning lo lo_known v i);
+  }
 
 -- ---- the first entries
 module _ (see : (ℕ → Bool) → ℕ → Bool) (nodes : List Entry) where

@@ -1,9 +1,9 @@
 -- The ids of the sets of certificates, and diagrams for them.
-use Rattle.std.proofs.Common.{◌≡◌, ◌⊎◌, inl, inr, ℕ, zero, suc, ◌+◌, ◌<◌, Bool, List, [], ◌∷◌, ◌++◌, length, map, get_or, set, slice_get, take, Some, refl, sym, ap, ◌∙◌, subst, arith}
+use Rattle.std.proofs.Common.{◌≡◌, ◌⊎◌, inl, inr, ℕ, zero, suc, ◌+◌, ◌<◌, Bool, List, [], ◌∷◌, ◌++◌, length, map, get_or, replicate, set, slice_get, take, Some, refl, sym, ap, ◌∙◌, subst, arith}
 use Rattle.std.specs.Prelude.{All, Contains}
 use Rattle.std.specs.List.{flat_map}
 use Rattle.std.proofs.lemmas.Bool.{cases_eq}
-use Rattle.std.proofs.lemmas.List.{get_or-set_other, get_or-set_same, length-set}
+use Rattle.std.proofs.lemmas.List.{get_or-set_other, get_or-set_same, length-replicate, length-set, replicate_more}
 use Rattle.std.proofs.lemmas.List.Elements.{All-append, All-cons, All-map, Contains-append_left, Contains-append_right}
 use Rattle.std.proofs.lemmas.Option.{get_or_from_slice_get, none-some, same_Some, slice_get-get_or, slice_get_within}
 use Rattle.tm_cert.specs.declared.cert.Entry.{Entry}
@@ -92,15 +92,30 @@ pub record AreFirstKeyed (s : Table) (see : (ℕ → Bool) → ℕ → Bool) (no
   pub known : (k : ℕ) → Knows s (get_or ids k FALSE)
   pub each : (i k : ℕ) → i < done → slice_get keys i ≡ Some k → IsMoved s see nodes k (get_or ids k FALSE)
 
+-- a list of the one constant alone, and two more
+pub two_more : (count : ℕ) (filled one two : List NodeId) → filled ≡ replicate count FALSE →
+    one ≡ filled ++ FALSE ∷ [] → two ≡ one ++ FALSE ∷ [] → two ≡ replicate (count + 1 + 1) FALSE
+two_more count filled one two filled_is one_is two_is =
+    two_is
+    ∙ ap (λ (ids : List NodeId). ids ++ FALSE ∷ [])
+    (one_is ∙ ap (λ (ids : List NodeId). ids ++ FALSE ∷ []) filled_is ∙ replicate_more count FALSE)
+    ∙ replicate_more (count + 1) FALSE
+
+all_false : (n k : ℕ) → get_or (replicate n FALSE) k FALSE ≡ FALSE
+all_false zero k = refl
+all_false (suc n) zero = refl
+all_false (suc n) (suc k) = all_false n k
+
 module _ (s : Table) (see : (ℕ → Bool) → ℕ → Bool) (nodes : List Entry) (keys values : List ℕ)
     (loaded : List NodeId) (found : AreFound s see nodes keys values loaded) where
-  pub keyed_none : (ids : List NodeId) → length ids ≡ ids_of nodes → ((k : ℕ) → get_or ids k FALSE ≡ FALSE) →
+  pub keyed_none : (count : ℕ) (ids : List NodeId) → length nodes ≡ count → ids ≡ replicate (count + 1 + 1) FALSE →
       AreFirstKeyed s see nodes keys 0 ids
-  keyed_none ids count none = record {
-    count = count;
-    known = λ k. subst (Knows s) (sym (none k)) (omega arith);
-    each = λ i k below. absurd (omega (arith, below));
-  }
+  keyed_none count ids long items =
+      subst (AreFirstKeyed s see nodes keys 0) (sym items) (record {
+        count = let all = length-replicate (count + 1 + 1) FALSE in omega (arith, all, long);
+        known = λ k. subst (Knows s) (sym (all_false (count + 1 + 1) k)) (omega arith);
+        each = λ i k below. absurd (omega (arith, below));
+      })
 
   pub keyed_more : (done key value : ℕ) (id : NodeId) (ids : List NodeId) → slice_get keys done ≡ Some key →
       slice_get values done ≡ Some value → slice_get loaded value ≡ Some id → key < length ids →
@@ -166,3 +181,14 @@ found_raised s see nodes raised keys values loaded are moved = record {
       let is = moved.each n id at in
       record { known = is.known; meaning = λ v. is.meaning v ∙ told.same (see v) };
 }
+
+-- what is read of the values of raised sets is below the number of their diagrams
+pub values_given : (many : ℕ) (raised given : List Entry) (values given_values : List ℕ) → given ≡ raised →
+    given_values ≡ values → many ≡ ids_of given → All (λ value. value < ids_of raised) values →
+    All (λ value. value < many) given_values
+values_given many raised given values given_values same values_same count below =
+    subst (All (λ (value : ℕ). value < many)) (sym values_same)
+    (λ i d within.
+    let low = below i d within in
+    let long = ap (λ (es : List Entry). length es) same in
+    omega (arith, low, count, long))

@@ -29,8 +29,8 @@ use tm_game_bits::levels_by_place;
 
 /// A driver's certificate in another order of the levels: the same sets of states, whatever the design.
 ///
-/// The diagrams are made in a manager of as many levels as the order has, by one `ite` for each entry; it may be a new
-/// one. How many entries the answer has depends on the order.
+/// The diagrams are made in a manager of as many levels as the order has, by a node or an `ite` for each entry; it may
+/// be a new one. How many entries the answer has depends on the order.
 pub fn reorder_driver(
     alloc: Global,
     dd: &mut Manager,

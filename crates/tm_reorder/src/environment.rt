@@ -30,8 +30,8 @@ use tm_game_bits::levels_by_place;
 /// An environment's certificate in another order of the levels: the same levels of states with the same goals, and the
 /// same chains of sets, whatever the design.
 ///
-/// The diagrams are made in a manager of as many levels as the order has, by one `ite` for each entry; it may be a new
-/// one. How many entries the answer has depends on the order.
+/// The diagrams are made in a manager of as many levels as the order has, by a node or an `ite` for each entry; it may
+/// be a new one. How many entries the answer has depends on the order.
 pub fn reorder_environment(
     alloc: Global,
     dd: &mut Manager,

@@ -10,9 +10,9 @@ use tm_dd::mixed;
 // How many slots are looked at before an entry is taken for a new one.
 const LOOKS: usize = 16;
 
-// Entries, each over those before it: 0 is false, 1 is true, and `k + 2` is the entry `k`. A slot has 0, or the position
-// of an entry and one. The slots that the hash of an entry leads to tell nearly always that it is there, so few entries
-// stand twice.
+// Entries, each over those before it: 0 is false, 1 is true, and `k + 2` is the entry `k`. A slot has 0, or the
+// position of an entry and one. The slots that the hash of an entry leads to tell nearly always that it is there, so
+// few entries stand twice.
 #[derive(Drop)]
 pub(crate) struct Graph {
     pub(crate) entries: Vec<Entry>,
@@ -106,9 +106,14 @@ impl Graph {
     {
         self.entries.push(entry)?;
         let count = self.entries.len();
-        if slot < self.slots.len() {
-            self.slots[slot] = u32::try_from(count).unwrap_or(0);
-        }
+        note(&mut self.slots, slot, count);
         Ok(count as u64 + 1)
+    }
+}
+
+// Notes in a slot, if it is one, how many entries there are with the last one.
+fn note(slots: &mut Vec<u32>, slot: usize, count: usize) {
+    if slot < slots.len() {
+        slots[slot] = u32::try_from(count).unwrap_or(0);
     }
 }

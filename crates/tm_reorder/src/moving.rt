@@ -115,11 +115,8 @@ fn level_above(store: &Store, bit: NodeId, lo: NodeId, hi: NodeId) -> Option<u32
         return None;
     }
     let node = store.node(bit);
-    if node.lo != FALSE || node.hi != TRUE {
-        return None;
-    }
     let rank = store.rank(node.level);
-    if rank < store.depth(lo) && rank < store.depth(hi) {
+    if node.lo == FALSE && node.hi == TRUE && rank < store.depth(lo) && rank < store.depth(hi) {
         Some(node.level)
     } else {
         None
@@ -142,7 +139,9 @@ fn spread(
         → length nodes ≡ count → AreFound s see nodes keys.now values.now loaded.now
         → AreKeyed s see nodes keys.now ids.items) }
 {
-    let mut ids = vec![in alloc; FALSE; count + 2]?;
+    let mut ids = vec![in alloc; FALSE; count]?;
+    ids.push(FALSE)?;
+    ids.push(FALSE)?;
     for index in 0..keys.len() {
         ids[keys[index] as usize] = loaded[values[index] as usize];
     }

@@ -188,8 +188,8 @@ fn is_read(entries: &[Entry], level: u32) -> bool {
     false
 }
 
-// The same sets, with the levels raised one after the other, each among those above it, until they stand in the order of
-// their ranks.
+// The same sets, with the levels raised one after the other, each among those above it, until they stand in the order
+// of their ranks.
 pub(crate) fn all_raised(
     alloc: Global,
     entries: &[Entry],
