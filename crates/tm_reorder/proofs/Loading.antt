@@ -57,33 +57,33 @@ value_above s bit lo hi n node is_false is_true above_lo above_hi = record {
 }
 
 module _ (s t : Table) (bit lo hi id : NodeId) (grows : Extends s t) (lo_known : Knows s lo) (hi_known : Knows s hi)
-    where
-  abbrev IsChosen : Type 0
-  IsChosen = IsFunction t id (λ v. if means s bit v then means s hi v else means s lo v)
+  where
+    abbrev IsChosen : Type 0
+    IsChosen = IsFunction t id (λ v. if means s bit v then means s hi v else means s lo v)
 
-  -- a node of the level whose value the bit is
-  pub chosen_by_level : (level : ℕ) → IsValueAbove s bit lo hi level →
-      IsFunction t id (λ v. if v level then means t hi v else means t lo v) → IsChosen
-  chosen_by_level level above is = record {
-    known = is.known;
-    meaning = λ v.
-        is.meaning v
-        ∙ (λ i.
-        if sym (above.value v) i then grows.same_meaning hi hi_known v i else grows.same_meaning lo lo_known v i);
-  }
+    -- a node of the level whose value the bit is
+    pub chosen_by_level : (level : ℕ) → IsValueAbove s bit lo hi level →
+        IsFunction t id (λ v. if v level then means t hi v else means t lo v) → IsChosen
+    chosen_by_level level above is = record {
+      known = is.known;
+      meaning = λ v.
+          is.meaning v
+          ∙ (λ i.
+          if sym (above.value v) i then grows.same_meaning hi hi_known v i else grows.same_meaning lo lo_known v i);
+    }
 
-  -- a choice by the bit
-  pub chosen_by_bit : Knows s bit → IsFunction t id (λ v. if means t bit v then means t hi v else means t lo v) →
-      IsChosen
-  chosen_by_bit bit_is_known is = record {
-    known = is.known;
-    meaning = λ v.
-        is.meaning v
-        ∙ (λ i.
-        if grows.same_meaning bit bit_is_known v i
-        then grows.same_meaning hi hi_known v i
-        else grows.same_meaning lo lo_known v i);
-  }
+    -- a choice by the bit
+    pub chosen_by_bit : Knows s bit → IsFunction t id (λ v. if means t bit v then means t hi v else means t lo v) →
+        IsChosen
+    chosen_by_bit bit_is_known is = record {
+      known = is.known;
+      meaning = λ v.
+          is.meaning v
+          ∙ (λ i.
+          if grows.same_meaning bit bit_is_known v i
+          then grows.same_meaning hi hi_known v i
+          else grows.same_meaning lo lo_known v i);
+    }
 
 -- ---- the first entries
 module _ (see : (ℕ → Bool) → ℕ → Bool) (nodes : List Entry) where

@@ -51,10 +51,7 @@ fn push_level(keys: &mut Vec<u64>, level: &CertLevel) -> Result<(), AllocError>
 }
 
 // Those of an environment's certificate.
-pub(crate) fn environment_keys(
-    alloc: Global,
-    levels: &[CertLevel],
-) -> Result<Vec<u64>, AllocError>
+pub(crate) fn environment_keys(alloc: Global, levels: &[CertLevel]) -> Result<Vec<u64>, AllocError>
     ensures { IfOk result (λ keys. keys.items ≡ environment_keys levels.now) }
 {
     let mut keys = Vec::new(alloc);

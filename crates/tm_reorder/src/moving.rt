@@ -39,7 +39,13 @@ pub(crate) fn load_sets(
 {
     let sets = all_raised(alloc, nodes, keys, ranks)?;
     let loaded = load_moved(alloc, dd, sets.entries.as_slice(), order, bits)?;
-    spread(alloc, nodes.len(), keys, loaded.as_slice(), sets.ids.as_slice())
+    spread(
+        alloc,
+        nodes.len(),
+        keys,
+        loaded.as_slice(),
+        sets.ids.as_slice(),
+    )
 }
 
 // The diagrams of all ids of some entries, in order: of 0 and 1, and of the entries. Each entry is made once.
@@ -82,12 +88,7 @@ fn moved_bit(order: &[u32], bits: &[NodeId], level: u32) -> NodeId
 }
 
 // The function that is `hi` where the bit is true, and `lo` where it is false.
-fn branch(
-    dd: &mut Manager,
-    bit: NodeId,
-    lo: NodeId,
-    hi: NodeId,
-) -> Result<NodeId, AllocError>
+fn branch(dd: &mut Manager, bit: NodeId, lo: NodeId, hi: NodeId) -> Result<NodeId, AllocError>
     requires bit { Knows dd.old.table bit }
     requires lo { Knows dd.old.table lo }
     requires hi { Knows dd.old.table hi }
