@@ -2,6 +2,7 @@
 use Rattle.std.proofs.Common.{◌≡◌, ◌⊎◌, inl, inr, ℕ, zero, suc, ◌+◌, ◌<◌, ◌≤◌, Bool, true, false, if◌then◌else◌, List, [], ◌∷◌, ◌++◌, length, fold, get_or, slice_get, Some, refl, sym, ap, ◌∙◌, subst, arith}
 use Rattle.std.specs.Prelude.{All}
 use Rattle.std.proofs.lemmas.List.{get_or_append_left, get_or_at, length_push, length-take-le}
+use Rattle.std.proofs.lemmas.List.Sums.{fold_push}
 use Rattle.std.proofs.lemmas.Option.{get_or_from_slice_get, none-some, same_Some, slice_get-get_or, slice_get_within}
 use Rattle.tm_cert.specs.declared.cert.Entry.{Entry}
 use Rattle.tm_cert.specs.Nodes.{ids_of}
@@ -14,11 +15,6 @@ use Rattle.tm_verdict.specs.Sets.{entry_value, id_holds, values_of}
 use Rattle.tm_verdict.proofs.Values.{always_holds, entry_holds, never_holds}
 
 -- ---- the values of one more entry
--- a fold ends with the last item
-fold_last : {A X : Type 0} (f : A → X → A) (a : A) (xs : List X) (x : X) → fold f a (xs ++ x ∷ []) ≡ f (fold f a xs) x
-fold_last f a [] x = refl
-fold_last f a (y ∷ ys) x = fold_last f (f a y) ys x
-
 -- there is a value for each id
 length_from : (v : ℕ → Bool) (es : List Entry) (first : List Bool) →
     length (fold (λ earlier e. earlier ++ entry_value v earlier e ∷ []) first es) ≡ length first + length es
@@ -36,7 +32,7 @@ values_more : (nodes : List Entry) (e : Entry) (v : ℕ → Bool) →
     values_of (nodes ++ e ∷ []) v ≡ values_of nodes v ++ entry_value v (values_of nodes v) e ∷ []
 unfolding values_of
 values_more nodes e v =
-    fold_last (λ earlier x. earlier ++ entry_value v earlier x ∷ []) (false ∷ true ∷ []) nodes e
+    fold_push (λ earlier x. earlier ++ entry_value v earlier x ∷ []) (false ∷ true ∷ []) nodes e
 
 -- the child that the bit of a level chooses
 picked : (b : Bool) (values : List Bool) (lo hi : ℕ) →

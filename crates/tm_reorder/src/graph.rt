@@ -10,8 +10,8 @@ use tm_dd::mixed;
 // How many slots are looked at before an entry is taken for a new one.
 const LOOKS: usize = 16;
 
-// Entries, each over those before it: 0 is false, 1 is true, and `k + 2` is the entry `k`. A slot has 0, or the
-// position of an entry and one. The slots that the hash of an entry leads to tell nearly always that it is there, so
+// Entries, each over those before it: 0 is false, 1 is true, and `k + 2` is the entry `k`. A slot has 0, or one more
+// than the position of an entry. The slots that the hash of an entry leads to tell nearly always that it is there, so
 // few entries stand twice.
 #[derive(Drop)]
 pub(crate) struct Graph {
@@ -50,7 +50,7 @@ impl Graph {
         self.put(slot, entry)
     }
 
-    // A slot with what it has for an entry: the position of the entry and one, or 0, where it may be put there.
+    // A slot with what it has for an entry: one more than the entry's position, or 0, where it may be noted there.
     fn find(&self, entry: Entry) -> (usize, u32)
         ensures { ¬ (result.1 ≡ 0) → slice_get self.now.entries.items (result.1 - 1) ≡ Some entry }
     {

@@ -53,7 +53,8 @@ branch-dd-requires-clause-hi c =
     child_known see c.args.nodes.now c.requires.nodes c.loop-entry.entry-index _ at
     c.loop-entry.dd.table c.loop-entry.ids.items c.loop-entry.invariant.first _ c.index-in-loop-entry.result.now
     (hi_read see c.args.nodes.now c.requires.nodes c.loop-entry.entry-index _ at
-    c.loop-entry.dd.table c.loop-entry.ids.items c.loop-entry.invariant.first c.index-in-loop-entry.result.now c.index-in-loop-entry.ensures)
+    c.loop-entry.dd.table c.loop-entry.ids.items c.loop-entry.invariant.first
+    c.index-in-loop-entry.result.now c.index-in-loop-entry.ensures)
 
 pub branch-dd-requires-clause-lo : goal.branch-dd-requires-clause-lo
 branch-dd-requires-clause-lo c =
@@ -92,7 +93,8 @@ loop-entry-preserved c =
           c.loop-entry.dd.table c.loop-entry.ids.items c.loop-entry.invariant.first c.index.result.now
           c.index.ensures)
           (hi_read see c.args.nodes.now c.requires.nodes c.loop-entry.entry-index _ at
-          c.loop-entry.dd.table c.loop-entry.ids.items c.loop-entry.invariant.first c.index-in-loop-entry.result.now c.index-in-loop-entry.ensures)
+          c.loop-entry.dd.table c.loop-entry.ids.items c.loop-entry.invariant.first
+          c.index-in-loop-entry.result.now c.index-in-loop-entry.ensures)
           (λ v. ap (λ (bit : NodeId). means c.loop-entry.dd.table bit v) c.moved_bit-bit.ensures
           ∙ bit_seen c.args.dd.now.table c.loop-entry.dd.table c.args.order.now c.args.bits.now _
           c.loop-entry.invariant.extends c.requires.bits v)

@@ -34,5 +34,6 @@ pub returns-clause-told : goal.returns-clause-told
 returns-clause-told c = λ old k are.
     let all : c.loop-id.id-index ≡ length c.args.ids.now = omega arith in
     subst
-    (λ (done : ℕ). ArePairs (IsTold (λ v. v) old c.loop-id.graph.entries.items) c.args.ids.now c.loop-id.joined.items done)
+    (λ (done : ℕ).
+    ArePairs (IsTold (λ v. v) old c.loop-id.graph.entries.items) c.args.ids.now c.loop-id.joined.items done)
     all (c.loop-id.invariant.told old k are)
