@@ -1,13 +1,12 @@
 -- Entries that are put behind others, and the parts of sets where a level is raised.
-use Rattle.std.proofs.Common.{◌≡◌, ◌⊎◌, inl, inr, ℕ, zero, suc, ◌+◌, ◌<◌, ◌≤◌, Bool, true, false, if◌then◌else◌, List, [], ◌∷◌, ◌++◌, length, fold, get_or, slice_get, Some, refl, sym, ap, ◌∙◌, subst, arith}
+use Rattle.std.proofs.Common.{◌≡◌, ◌⊎◌, inl, inr, ℕ, zero, suc, ◌+◌, ◌<◌, Bool, true, false, if◌then◌else◌, List, [], ◌∷◌, ◌++◌, length, fold, get_or, slice_get, Some, refl, sym, ap, ◌∙◌, subst, arith}
 use Rattle.std.specs.Prelude.{All}
 use Rattle.std.proofs.lemmas.List.{get_or_append_left, get_or_at, length_push, length-take-le}
 use Rattle.std.proofs.lemmas.List.Sums.{fold_push}
 use Rattle.std.proofs.lemmas.Option.{get_or_from_slice_get, none-some, same_Some, slice_get-get_or, slice_get_within}
 use Rattle.tm_cert.specs.declared.cert.Entry.{Entry}
 use Rattle.tm_cert.specs.Nodes.{ids_of}
-use Rattle.tm_numbering.specs.Parts.{ArePairs}
-use Rattle.tm_numbering.proofs.Items.{at_index, get_more, get_some}
+use Rattle.tm_numbering.proofs.Items.{get_more, get_some}
 use Rattle.tm_reorder.specs.Inner.Raised.{AreBranches, ArePart, AreParts, AreRaised, IsBranch, IsBranchOf, Keeps}
 use Rattle.tm_reorder.specs.Inner.Told.{IsTold}
 use Rattle.tm_verdict.specs.Fitting.{AreNodes}
@@ -59,9 +58,6 @@ holds_last nodes e v =
     ∙ picked (v e.level) (values_of nodes v) e.lo e.hi
 
 -- ---- entries keep what their ids hold
-pub keeps_none : (nodes : List Entry) → Keeps nodes nodes
-keeps_none nodes = record { rises = omega arith; same = λ id below v. refl }
-
 pub keeps_then : (one two three : List Entry) → Keeps one two → Keeps two three → Keeps one three
 keeps_then one two three first then_second = record {
   rises = omega (arith, first.rises, then_second.rises);
@@ -120,27 +116,6 @@ module _ (nodes : List Entry) (e : Entry) (lo : e.lo < ids_of nodes) (hi : e.hi 
         within = omega (arith, length_push nodes e);
         holds = holds_last nodes e;
       })
-
--- an entry that is there
-pub branch_of_found : (nodes : List Entry) (level lo hi p id : ℕ) → AreBranches nodes →
-    slice_get nodes p ≡ Some (record { level = level; lo = lo; hi = hi }) → id ≡ p + 2 →
-    IsBranchOf nodes nodes level lo hi id
-branch_of_found nodes level lo hi p id are at is =
-    let e : Entry = record { level = level; lo = lo; hi = hi } in
-    let within = slice_get_within nodes p e at in
-    subst (IsBranchOf nodes nodes level lo hi) (sym is) (record {
-      within = omega (arith, within);
-      holds = (are p e at).holds;
-    })
-
--- two children that are the same
-pub branch_of_same : (nodes : List Entry) (level lo hi : ℕ) → lo < ids_of nodes → lo ≡ hi →
-    IsBranchOf nodes nodes level lo hi lo
-branch_of_same nodes level lo hi below same =
-    subst (λ (h : ℕ). IsBranchOf nodes nodes level lo h lo) same (record {
-      within = below;
-      holds = λ v. one_value (v level) (id_holds nodes lo v);
-    })
 
 -- the entries of a certificate
 pub nodes_are_branches : (count : ℕ) (nodes : List Entry) → AreNodes count nodes → AreBranches nodes
@@ -320,19 +295,6 @@ module _ (old : List Entry) (level k : ℕ) (e : Entry) (branch : IsBranch old k
       made)
 
 -- ---- sets that are raised
-pub raised_none : (nodes : List Entry) (ids : List ℕ) → AreBranches nodes → All (λ id. id < ids_of nodes) ids →
-    AreRaised nodes ids nodes ids
-raised_none nodes ids are below = record {
-  branches = are;
-  told = record {
-    count = refl;
-    each = λ i k n here there.
-        let same : k ≡ n = same_Some k n (sym here ∙ there) in
-        subst (IsTold (λ v. v) nodes nodes k) same
-        (record { within = at_index (λ (id : ℕ). id < ids_of nodes) ids i k below here; same = λ v. refl });
-  };
-}
-
 pub raised_then : (one two three : List Entry) (firsts seconds thirds : List ℕ) → AreRaised one firsts two seconds →
     AreRaised two seconds three thirds → AreRaised one firsts three thirds
 raised_then one two three firsts seconds thirds first next = record {

@@ -164,9 +164,9 @@ module _ (order : List ℕ) (is : IsOrder (length order) order) (see : (ℕ → 
 
 -- ---- what the parts are given
 -- the diagrams read the levels of the store
-pub ids_over : (s : Table) (see : (ℕ → Bool) → ℕ → Bool) (nodes : List Entry) (ids : List NodeId) → IsReduced s →
-    (keys : List ℕ) → AreKeyed s see nodes keys ids → AreIds s ids
-ids_over s see nodes ids reduced keys loaded k d below =
+pub ids_over : (s : Table) (see : (ℕ → Bool) → ℕ → Bool) (nodes : List Entry) (keys : List ℕ) (ids : List NodeId) →
+    IsReduced s → AreKeyed s see nodes keys ids → AreIds s ids
+ids_over s see nodes keys ids reduced loaded k d below =
     over_all s (get_or ids k d) reduced (loaded.known k (get_or ids k d) (slice_get-get_or ids k d below))
 
 -- the sets of ranks, and of levels, are numbers that have diagrams

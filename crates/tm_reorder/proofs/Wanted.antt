@@ -1,5 +1,5 @@
 -- The ids of the sets of certificates, and diagrams for them.
-use Rattle.std.proofs.Common.{◌≡◌, ◌⊎◌, inl, inr, ℕ, zero, suc, ◌+◌, ◌<◌, Bool, List, [], ◌∷◌, ◌++◌, length, map, get_or, replicate, set, slice_get, take, Some, refl, sym, ap, ◌∙◌, subst, arith}
+use Rattle.std.proofs.Common.{◌≡◌, inl, inr, ℕ, zero, suc, ◌+◌, ◌<◌, Bool, List, [], ◌∷◌, ◌++◌, length, get_or, replicate, set, slice_get, Some, refl, sym, ap, ◌∙◌, subst, arith}
 use Rattle.std.specs.Prelude.{All, Contains}
 use Rattle.std.specs.List.{flat_map}
 use Rattle.std.proofs.lemmas.Bool.{cases_eq}
@@ -13,11 +13,11 @@ use Rattle.tm_cert.specs.Nodes.{ids_of}
 use Rattle.tm_dd.specs.declared.node.NodeId.{NodeId}
 use Rattle.tm_dd.specs.declared.node.TheConstants.{FALSE}
 use Rattle.tm_dd.specs.Table.{Table, Knows}
-use Rattle.tm_numbering.proofs.Items.{at_index, get_some, mapped_get}
+use Rattle.tm_numbering.proofs.Items.{at_index, mapped_get}
 use Rattle.tm_reorder.specs.Inner.Keys.{AreFound, AreKeyed, chain_keys, driver_keys, environment_keys, level_keys, rank_keys}
 use Rattle.tm_reorder.specs.Inner.Moved.{AreMoved, IsMoved}
 use Rattle.tm_reorder.specs.Inner.Raised.{AreRaised}
-use Rattle.tm_verdict.specs.Fitting.{FitsDriver, FitsLevel, FitsRank}
+use Rattle.tm_verdict.specs.Fitting.{FitsLevel, FitsRank}
 
 -- ---- items of lists that are joined
 contains_at : {X : Type 0} (xs : List X) (k : ℕ) (x : X) → slice_get xs k ≡ Some x → Contains xs x

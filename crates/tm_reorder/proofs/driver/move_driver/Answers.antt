@@ -104,9 +104,9 @@ renumber_driver-requires-clause-ranks c =
 pub renumber_driver-requires-clause-ids : goal.renumber_driver-requires-clause-ids
 renumber_driver-requires-clause-ids c =
     let at = goal.at.renumber_driver-requires-clause-ids c in
-    ids_over c.store.result.now (see at.In_ok-ids) c.args.cert.now.nodes c.as_slice-7.result.now
+    ids_over c.store.result.now (see at.In_ok-ids) c.args.cert.now.nodes
+    (driver_keys c.args.cert.now.region c.args.cert.now.goals) c.as_slice-7.result.now
     (subst IsReduced (sym c.store.ensures.value) c.store.ensures.manager.reduced)
-    (driver_keys c.args.cert.now.region c.args.cert.now.goals)
     (keyed at.In_ok-ids (keys_are at.In_ok-keys) c.store.result.now c.as_slice-7.result.now c.store.ensures.value
     c.as_slice-7.ensures.value)
 

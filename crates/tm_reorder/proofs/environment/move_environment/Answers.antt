@@ -91,9 +91,8 @@ renumber_environment-requires-clause-ranks c =
 pub renumber_environment-requires-clause-ids : goal.renumber_environment-requires-clause-ids
 renumber_environment-requires-clause-ids c =
     let at = goal.at.renumber_environment-requires-clause-ids c in
-    ids_over c.store.result.now (see at.In_ok-ids) c.args.cert.now.nodes c.as_slice-7.result.now
-    (subst IsReduced (sym c.store.ensures.value) c.store.ensures.manager.reduced)
-    (environment_keys c.args.cert.now.levels)
+    ids_over c.store.result.now (see at.In_ok-ids) c.args.cert.now.nodes (environment_keys c.args.cert.now.levels)
+    c.as_slice-7.result.now (subst IsReduced (sym c.store.ensures.value) c.store.ensures.manager.reduced)
     (keyed at.In_ok-ids (keys_are at.In_ok-keys) c.store.result.now c.as_slice-7.result.now c.store.ensures.value
     c.as_slice-7.ensures.value)
 

@@ -1,6 +1,6 @@
-use Rattle.std.proofs.Common.{◌<◌, sym, subst}
+use Rattle.std.proofs.Common.{sym, subst}
 use Rattle.std.proofs.lemmas.Result.{IfOk-weaker}
-use Rattle.tm_dd.specs.Reduced.{IsDeeper, IsReduced}
+use Rattle.tm_dd.specs.Reduced.{IsReduced}
 use Rattle.tm_dd.specs.Table.{Knows, Table}
 use Rattle.tm_reorder.specs.Inner.Moved.{IsValueAbove}
 use Rattle.tm_reorder.proofs.Loading.{chosen_by_bit, chosen_by_level}
