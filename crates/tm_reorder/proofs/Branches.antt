@@ -155,7 +155,7 @@ parts_kept old one two level done parts keeps are = record {
 }
 
 -- an id that holds where an old one does is both parts of it
-pub whole_part : (old new : List Entry) (level id whole : ℕ) → IsTold (λ v. v) old new id whole →
+whole_part : (old new : List Entry) (level id whole : ℕ) → IsTold (λ v. v) old new id whole →
     ArePart old new level id (whole, whole)
 whole_part old new level id whole told = record {
   off_within = told.within;
