@@ -1,7 +1,9 @@
 mod Agreed
+mod Branches
 mod ClampedBits
 mod Loading
 mod Parting
 mod Places
 mod Reordered
+mod Wanted
 mod Within

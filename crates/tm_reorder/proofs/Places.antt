@@ -5,6 +5,7 @@ use Rattle.std.specs.List.{range_with_len}
 use Rattle.std.proofs.lemmas.List.FromFn.{get_or-map-range_with_len, length-map-range_with_len}
 use Rattle.std.proofs.lemmas.Option.{slice_get-get_or}
 use Rattle.tm_cert.specs.declared.cert.Entry.{Entry}
+use Rattle.tm_cert.specs.Nodes.{ids_of}
 use Rattle.tm_dd.specs.declared.node.NodeId.{NodeId}
 use Rattle.tm_dd.specs.declared.node.TheConstants.{FALSE}
 use Rattle.tm_dd.specs.Table.{Table}
@@ -12,9 +13,9 @@ use Rattle.tm_game_bits.specs.Order.{IsOrder, level_in}
 use Rattle.tm_game_bits.proofs.Orders.{length_order, level_of_place, order_below}
 use Rattle.tm_reorder.specs.declared.fields.Field.{Field}
 use Rattle.tm_reorder.specs.Inner.Clamped.{AreBits, AreClamped, AreWithin, HavePlaces, by_place}
-use Rattle.tm_reorder.specs.Inner.Moved.{AreMoved, seen}
+use Rattle.tm_reorder.specs.Inner.Keys.{AreKeyed}
+use Rattle.tm_reorder.specs.Inner.Moved.{seen}
 use Rattle.tm_reorder.specs.Inner.Told.{SeesRight}
-use Rattle.tm_verdict.specs.Fitting.{AreNodes}
 use Rattle.tm_reorder.proofs.Within.{width, within_agree}
 
 module _ (order old : List ℕ) (is : IsOrder (length order) order) (old_is : IsOrder (length order) old) where
@@ -30,12 +31,6 @@ module _ (order old : List ℕ) (is : IsOrder (length order) order) (old_is : Is
   -- the level of a place
   level_at : (p : ℕ) → p < length order → get_or levels p 0 ≡ level_in order p
   level_at p below = get_or-map-range_with_len (level_in order) 0 (length order) p p 0 below (omega arith)
-
-  -- the places of the old order have bits, and levels are below their number
-  pub places_fit : (bits : List NodeId) → length bits ≡ length levels → All (λ p. p < length bits) old
-  places_fit bits long k d below =
-      let low = order_below (length order) old old_is k d below in
-      omega (arith, long, levels_long, low)
 
   pub levels_fit : All (λ l. l < length order) levels
   levels_fit k d below =
@@ -65,12 +60,6 @@ module _ (order old : List ℕ) (is : IsOrder (length order) order) (old_is : Is
     (given_old given_levels : List ℕ) (old_same : given_old ≡ old)
     (levels_same : given_levels ≡ levels order old is old_is) (fields : List Field)
     (have : HavePlaces (length order) fields) where
-  pub nodes_given : (nodes given : List Entry) → given ≡ nodes → AreNodes (length order) nodes →
-      AreNodes (length given_old) given
-  nodes_given nodes given same are =
-      subst (AreNodes (length given_old)) (sym same)
-      (subst (λ (n : ℕ). AreNodes n nodes) (sym (ap length old_same ∙ length_order (length order) old old_is)) are)
-
   pub levels_given : (count : ℕ) → count ≡ length order → All (λ l. l < count) given_levels
   levels_given count same =
       subst (All (λ l. l < count)) (sym levels_same)
@@ -89,11 +78,6 @@ module _ (order old : List ℕ) (is : IsOrder (length order) order) (old_is : Is
         subst (AreClamped s (levels order old is old_is) fields) (sym bits_same)
         (subst (λ (ls : List ℕ). AreClamped s ls fields bits) levels_same clamped)
 
-    pub places_given : All (λ p. p < length given_bits) given_old
-    places_given =
-        subst (All (λ p. p < length given_bits)) (sym old_same)
-        (places_fit order old is old_is given_bits clamped_given.count)
-
     pub bits_given : AreBits s given_bits
     bits_given = clamped_given.known
 
@@ -102,10 +86,17 @@ module _ (order old : List ℕ) (is : IsOrder (length order) order) (old_is : Is
         subst (λ (os : List ℕ). SeesRight order old fields (seen s os given_bits)) (sym old_same)
         (sees_right order old is old_is s fields given_bits have.room clamped_given)
 
-pub moved_given : (s t : Table) (see : (ℕ → Bool) → ℕ → Bool) (nodes given : List Entry)
-    (ids given_ids : List NodeId) → t ≡ s → given ≡ nodes → given_ids ≡ ids → AreMoved s see given ids →
-    AreMoved t see nodes given_ids
-moved_given s t see nodes given ids given_ids table same ids_same are =
-    subst (λ (u : Table). AreMoved u see nodes given_ids) (sym table)
-    (subst (λ (es : List Entry). AreMoved s see es given_ids) same
-    (subst (AreMoved s see given) (sym ids_same) are))
+pub keys_given : (nodes given : List Entry) (keys given_keys : List ℕ) → given ≡ nodes → given_keys ≡ keys →
+    All (λ key. key < ids_of nodes) keys → All (λ key. key < ids_of given) given_keys
+keys_given nodes given keys given_keys same keys_same below =
+    subst (All (λ key. key < ids_of given)) (sym keys_same)
+    (subst (λ (es : List Entry). All (λ key. key < ids_of es) keys) (sym same) below)
+
+pub keyed_given : (s t : Table) (see : (ℕ → Bool) → ℕ → Bool) (nodes given : List Entry) (keys given_keys : List ℕ)
+    (ids given_ids : List NodeId) → t ≡ s → given ≡ nodes → given_keys ≡ keys → given_ids ≡ ids →
+    AreKeyed s see given given_keys ids → AreKeyed t see nodes keys given_ids
+keyed_given s t see nodes given keys given_keys ids given_ids table same keys_same ids_same are =
+    subst (λ (u : Table). AreKeyed u see nodes keys given_ids) (sym table)
+    (subst (λ (es : List Entry). AreKeyed s see es keys given_ids) same
+    (subst (λ (ks : List ℕ). AreKeyed s see given ks given_ids) keys_same
+    (subst (AreKeyed s see given given_keys) (sym ids_same) are)))

@@ -1,6 +1,6 @@
 -- What a certificate tells once its numbers are given anew. Here `order` is the new order.
-use Rattle.std.proofs.Common.{◌≡◌, ℕ, ◌<◌, Bool, List, length, map, get_or, refl, sym, ◌∙◌, subst, arith}
-use Rattle.std.specs.Prelude.{All}
+use Rattle.std.proofs.Common.{◌≡◌, ℕ, ◌<◌, Bool, List, length, map, get_or, slice_get, Some, refl, sym, ◌∙◌, subst, arith}
+use Rattle.std.specs.Prelude.{All, Contains}
 use Rattle.std.proofs.lemmas.Option.{slice_get-get_or}
 use Rattle.tm_cert.specs.declared.cert.Entry.{Entry}
 use Rattle.tm_cert.specs.declared.cert.Rank.{Rank}
@@ -13,68 +13,94 @@ use Rattle.tm_game_bits.specs.Order.{IsOrder}
 use Rattle.tm_numbering.specs.Numbers.{AreNumbered}
 use Rattle.tm_numbering.proofs.Entries.{nodes_valid, number_within, worth}
 use Rattle.tm_numbering.proofs.Over.{over_all}
-use Rattle.tm_numbering.proofs.Pairs.{all_from, maps_same, pairs_weaker}
-use Rattle.tm_reorder.specs.Inner.Moved.{AreMoved}
+use Rattle.tm_numbering.proofs.Pairs.{all_from, maps_same}
+use Rattle.tm_reorder.specs.Inner.Keys.{AreKeyed}
 use Rattle.tm_reorder.specs.Inner.Parts.{AreIds, AreLevelSets, ChainStands, GoalsStand, LevelStands, LevelsStand, RankStands, RanksStand, Stands}
 use Rattle.tm_reorder.specs.Inner.Told.{ChainTold, DriverTold, EnvironmentTold, IsTold, LevelTold, RankTold, RanksTold}
+use Rattle.tm_reorder.proofs.Wanted.{key_at}
 use Rattle.tm_verdict.specs.Fitting.{AreNodes, FitsDriver, FitsEnvironment, FitsLevel, FitsRank}
 
 -- ---- numbers given anew
 module _ (order : List ℕ) (s : Table) (reduced : IsReduced s) (rise : RanksRise (length order) s)
     (count : s.levels ≡ length order) (see : (ℕ → Bool) → ℕ → Bool) (old_nodes : List Entry) (ids kept : List NodeId)
-    (nodes : List Entry)
-    (loaded : AreMoved s see old_nodes ids) (numbered : AreNumbered s s.levels kept nodes) where
+    (nodes : List Entry) (keys : List ℕ)
+    (loaded : AreKeyed s see old_nodes keys ids) (numbered : AreNumbered s s.levels kept nodes) where
   all_rise : RanksRise s.levels s
   all_rise = subst (λ (m : ℕ). RanksRise m s) (sym count) rise
 
-  set_told : (k n : ℕ) → Stands ids kept k n → IsTold see old_nodes nodes k n
-  set_told k n stands = record {
+  set_told : (k n : ℕ) → Contains keys k → Stands ids kept k n → IsTold see old_nodes nodes k n
+  set_told k n has stands = record {
     within = number_within s reduced s.levels all_rise kept nodes numbered stands.0 n stands.2;
     same = λ v.
         worth s reduced s.levels all_rise kept nodes numbered v stands.0 n stands.2
-        ∙ (loaded.each k stands.0 stands.1).meaning v;
+        ∙ (loaded.each (key_at keys k has).0 k stands.0 (key_at keys k has).1 stands.1).meaning v;
   }
 
   nodes_told : AreNodes (length order) nodes
   nodes_told = subst (λ (m : ℕ). AreNodes m nodes) count (nodes_valid s reduced s.levels all_rise kept nodes numbered)
 
-  rank_told : (r q : Rank) → RankStands ids kept r q → RankTold see old_nodes nodes r q
-  rank_told r q stands = (stands.0, set_told r.set q.set stands.1)
+  rank_told : (r q : Rank) → Contains keys r.set → RankStands ids kept r q → RankTold see old_nodes nodes r q
+  rank_told r q has stands = (stands.0, set_told r.set q.set has stands.1)
 
-  ranks_told : (olds news : List Rank) → RanksStand ids kept olds news → RanksTold see old_nodes nodes olds news
-  ranks_told olds news are =
-      pairs_weaker (RankStands ids kept) (RankTold see old_nodes nodes) olds news (length olds) rank_told are
+  ranks_told : (olds news : List Rank) →
+      ((j : ℕ) (r : Rank) → slice_get olds j ≡ Some r → Contains keys r.set) → RanksStand ids kept olds news →
+      RanksTold see old_nodes nodes olds news
+  ranks_told olds news have are = record {
+    count = are.count;
+    each = λ j r q here there. rank_told r q (have j r here) (are.each j r q here there);
+  }
 
-  pub driver_told : (old : List ℕ) (region n : ℕ) (olds news : List (List Rank)) → Stands ids kept region n →
-      GoalsStand ids kept olds news →
+  pub driver_told : (old : List ℕ) (region n : ℕ) (olds news : List (List Rank)) → Contains keys region →
+      ((i j : ℕ) (ranks : List Rank) (r : Rank) → slice_get olds i ≡ Some ranks → slice_get ranks j ≡ Some r →
+      Contains keys r.set) → Stands ids kept region n → GoalsStand ids kept olds news →
       DriverTold order see (record { order = old; nodes = old_nodes; region = region; goals = olds })
       (record { order = order; nodes = nodes; region = n; goals = news })
-  driver_told old region n olds news stands are = record {
+  driver_told old region n olds news has have stands are = record {
     order = refl;
     nodes = nodes_told;
-    region = set_told region n stands;
-    goals = pairs_weaker (RanksStand ids kept) (RanksTold see old_nodes nodes) olds news (length olds) ranks_told are;
+    region = set_told region n has stands;
+    goals = record {
+      count = are.count;
+      each = λ i x y here there.
+          ranks_told x y (λ j r at. have i j x r here at) (are.each i x y here there);
+    };
   }
 
-  chain_told : (olds news : List ℕ) → ChainStands ids kept olds news → ChainTold see old_nodes nodes olds news
-  chain_told olds news are =
-      pairs_weaker (Stands ids kept) (IsTold see old_nodes nodes) olds news (length olds) set_told are
+  chain_told : (olds news : List ℕ) → ((j k : ℕ) → slice_get olds j ≡ Some k → Contains keys k) →
+      ChainStands ids kept olds news → ChainTold see old_nodes nodes olds news
+  chain_told olds news have are = record {
+    count = are.count;
+    each = λ j k n here there. set_told k n (have j k here) (are.each j k n here there);
+  }
 
-  level_told : (l m : LevelData) → LevelStands ids kept l m → LevelTold see old_nodes nodes l m
-  level_told l m stands = record {
+  level_told : (l m : LevelData) → Contains keys l.set →
+      ((j k : ℕ) (chain : List ℕ) (n : ℕ) → slice_get l.chains j ≡ Some chain → slice_get chain k ≡ Some n →
+      Contains keys n) → LevelStands ids kept l m → LevelTold see old_nodes nodes l m
+  level_told l m has have stands = record {
     goal = stands.goal;
-    set = set_told l.set m.set stands.set;
-    chains = pairs_weaker (ChainStands ids kept) (ChainTold see old_nodes nodes) l.chains m.chains (length l.chains)
-        chain_told stands.chains;
+    set = set_told l.set m.set has stands.set;
+    chains = record {
+      count = stands.chains.count;
+      each = λ j x y here there.
+          chain_told x y (λ k n at. have j k x n here at) (stands.chains.each j x y here there);
+    };
   }
 
-  pub environment_told : (old : List ℕ) (olds news : List LevelData) → LevelsStand ids kept olds news →
+  pub environment_told : (old : List ℕ) (olds news : List LevelData) →
+      ((i : ℕ) (l : LevelData) → slice_get olds i ≡ Some l → Contains keys l.set) →
+      ((i : ℕ) (l : LevelData) → slice_get olds i ≡ Some l → (j k : ℕ) (chain : List ℕ) (n : ℕ) →
+      slice_get l.chains j ≡ Some chain → slice_get chain k ≡ Some n → Contains keys n) →
+      LevelsStand ids kept olds news →
       EnvironmentTold order see (record { order = old; nodes = old_nodes; levels = olds })
       (record { order = order; nodes = nodes; levels = news })
-  environment_told old olds news are = record {
+  environment_told old olds news has have are = record {
     order = refl;
     nodes = nodes_told;
-    levels = pairs_weaker (LevelStands ids kept) (LevelTold see old_nodes nodes) olds news (length olds) level_told are;
+    levels = record {
+      count = are.count;
+      each = λ i x y here there.
+          level_told x y (has i x here) (have i x here) (are.each i x y here there);
+    };
   }
 
 -- ---- the new certificate fits where the old one does
@@ -138,10 +164,10 @@ module _ (order : List ℕ) (is : IsOrder (length order) order) (see : (ℕ → 
 
 -- ---- what the parts are given
 -- the diagrams read the levels of the store
-pub ids_over : (s : Table) (see : (ℕ → Bool) → ℕ → Bool) (nodes : List Entry) (ids : List NodeId) → IsReduced s →
-    AreMoved s see nodes ids → AreIds s ids
-ids_over s see nodes ids reduced loaded k d below =
-    over_all s (get_or ids k d) reduced (loaded.each k (get_or ids k d) (slice_get-get_or ids k d below)).known
+pub ids_over : (s : Table) (see : (ℕ → Bool) → ℕ → Bool) (nodes : List Entry) (keys : List ℕ) (ids : List NodeId) →
+    IsReduced s → AreKeyed s see nodes keys ids → AreIds s ids
+ids_over s see nodes keys ids reduced loaded k d below =
+    over_all s (get_or ids k d) reduced (loaded.known k (get_or ids k d) (slice_get-get_or ids k d below))
 
 -- the sets of ranks, and of levels, are numbers that have diagrams
 pub rank_sets : (fairs count many : ℕ) (goals : List (List Rank)) → many ≡ count →

@@ -6,7 +6,7 @@ ghost use Rattle.tm_dd.specs.Reduced.{IsReduced, RanksRise};
 ghost use Rattle.tm_game_bits.specs.Order.{IsOrder};
 ghost use Rattle.tm_reorder.specs.Fields.{AreFields};
 ghost use Rattle.tm_reorder.specs.Inner.Clamped.{HavePlaces};
-ghost use Rattle.tm_reorder.specs.Inner.Moved.{AreMoved};
+ghost use Rattle.tm_reorder.specs.Inner.Keys.{AreKeyed, driver_keys};
 ghost use Rattle.tm_reorder.specs.Inner.Parts.{AreIds};
 ghost use Rattle.tm_reorder.specs.Inner.Told.{DriverTold, IsDriverMoved};
 ghost use Rattle.tm_sem.specs.StateBits.{state_widths};
@@ -16,8 +16,10 @@ ghost use Rattle.tm_verdict.specs.Sets.{driver_sets};
 
 use crate::clamping::clamped_bits;
 use crate::fields::Field;
-use crate::moving::load_moved;
+use crate::keys::driver_keys;
+use crate::moving::load_sets;
 use crate::parts::{place, place_goals};
+use crate::raising::ranks_in;
 use indexmap::IndexSet;
 use std::alloc::{AllocError, Global};
 use tm_cert::DriverCert;
@@ -27,8 +29,8 @@ use tm_game_bits::levels_by_place;
 
 /// A driver's certificate in another order of the levels: the same sets of states, whatever the design.
 ///
-/// The diagrams are made in a manager of as many levels as the order has, by one `ite` for each entry; it may be a new
-/// one. How many entries the answer has depends on the order.
+/// The diagrams are made in a manager of as many levels as the order has, by a node or an `ite` for each entry; it may
+/// be a new one. How many entries the answer has depends on the order.
 pub fn reorder_driver(
     alloc: Global,
     dd: &mut Manager,
@@ -47,7 +49,8 @@ pub fn reorder_driver(
     ensures fits { IfOk result (λ c. (goals fairs : ℕ) → FitsDriver (length order.now) goals fairs cert.now
         → FitsDriver (length order.now) goals fairs c) }
 {
-    move_driver(alloc, dd, cert, order, &[])
+    let ranks = ranks_in(alloc, cert.order.as_slice(), order)?;
+    move_driver(alloc, dd, cert, order, &[], ranks.as_slice())
 }
 
 /// A driver's certificate of the design of these fields in another order of the levels: sets that hold the same valid
@@ -76,7 +79,7 @@ pub fn clamp_driver(
     ensures fits { IfOk result (λ c. (goals fairs : ℕ) → FitsDriver (length order.now) goals fairs cert.now
         → FitsDriver (length order.now) goals fairs c) }
 {
-    move_driver(alloc, dd, cert, order, fields)
+    move_driver(alloc, dd, cert, order, fields, &[])
 }
 
 // A driver's certificate in another order, over clamped bits.
@@ -86,6 +89,7 @@ fn move_driver(
     cert: &DriverCert,
     order: &[u32],
     fields: &[Field],
+    ranks: &[u32],
 ) -> Result<DriverCert, AllocError>
     requires levels { dd.old.table.levels ≡ length order.now }
     requires ranks { RanksRise (length order.now) dd.old.table }
@@ -98,12 +102,15 @@ fn move_driver(
 {
     let levels = levels_by_place(alloc, order)?;
     let bits = clamped_bits(alloc, dd, levels.as_slice(), fields)?;
-    let ids = load_moved(
+    let keys = driver_keys(alloc, cert.region, cert.goals.as_slice())?;
+    let ids = load_sets(
         alloc,
         dd,
         cert.nodes.as_slice(),
         cert.order.as_slice(),
         bits.as_slice(),
+        keys.as_slice(),
+        ranks,
     )?;
     renumber_driver(alloc, dd.store(), cert, ids.as_slice(), order)
 }
@@ -123,7 +130,8 @@ fn renumber_driver(
     requires ids { AreIds store.now ids.now }
     requires count { length ids.now ≡ ids_of cert.now.nodes }
 
-    ensures { (see : (ℕ → Bool) → ℕ → Bool) → AreMoved store.now see cert.now.nodes ids.now
+    ensures { (see : (ℕ → Bool) → ℕ → Bool) → AreKeyed store.now see cert.now.nodes
+        (driver_keys cert.now.region cert.now.goals) ids.now
         → IfOk result (DriverTold order.now see cert.now) }
 {
     let mut kept = IndexSet::new(alloc);

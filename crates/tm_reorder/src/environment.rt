@@ -6,7 +6,7 @@ ghost use Rattle.tm_dd.specs.Reduced.{IsReduced, RanksRise};
 ghost use Rattle.tm_game_bits.specs.Order.{IsOrder};
 ghost use Rattle.tm_reorder.specs.Fields.{AreFields};
 ghost use Rattle.tm_reorder.specs.Inner.Clamped.{HavePlaces};
-ghost use Rattle.tm_reorder.specs.Inner.Moved.{AreMoved};
+ghost use Rattle.tm_reorder.specs.Inner.Keys.{AreKeyed, environment_keys};
 ghost use Rattle.tm_reorder.specs.Inner.Parts.{AreIds};
 ghost use Rattle.tm_reorder.specs.Inner.Told.{EnvironmentTold, IsEnvironmentMoved};
 ghost use Rattle.tm_sem.specs.StateBits.{state_widths};
@@ -16,8 +16,10 @@ ghost use Rattle.tm_verdict.specs.Sets.{levels_of};
 
 use crate::clamping::clamped_bits;
 use crate::fields::Field;
-use crate::moving::load_moved;
+use crate::keys::environment_keys;
+use crate::moving::load_sets;
 use crate::parts::place_levels;
+use crate::raising::ranks_in;
 use indexmap::IndexSet;
 use std::alloc::{AllocError, Global};
 use tm_cert::EnvCert;
@@ -28,8 +30,8 @@ use tm_game_bits::levels_by_place;
 /// An environment's certificate in another order of the levels: the same levels of states with the same goals, and the
 /// same chains of sets, whatever the design.
 ///
-/// The diagrams are made in a manager of as many levels as the order has, by one `ite` for each entry; it may be a new
-/// one. How many entries the answer has depends on the order.
+/// The diagrams are made in a manager of as many levels as the order has, by a node or an `ite` for each entry; it may
+/// be a new one. How many entries the answer has depends on the order.
 pub fn reorder_environment(
     alloc: Global,
     dd: &mut Manager,
@@ -47,7 +49,8 @@ pub fn reorder_environment(
     ensures fits { IfOk result (λ c. (goals fairs : ℕ) → FitsEnvironment (length order.now) goals fairs cert.now
         → FitsEnvironment (length order.now) goals fairs c) }
 {
-    move_environment(alloc, dd, cert, order, &[])
+    let ranks = ranks_in(alloc, cert.order.as_slice(), order)?;
+    move_environment(alloc, dd, cert, order, &[], ranks.as_slice())
 }
 
 /// An environment's certificate of the design of these fields in another order of the levels: the same goals, with
@@ -75,7 +78,7 @@ pub fn clamp_environment(
     ensures fits { IfOk result (λ c. (goals fairs : ℕ) → FitsEnvironment (length order.now) goals fairs cert.now
         → FitsEnvironment (length order.now) goals fairs c) }
 {
-    move_environment(alloc, dd, cert, order, fields)
+    move_environment(alloc, dd, cert, order, fields, &[])
 }
 
 // An environment's certificate in another order, over clamped bits.
@@ -85,6 +88,7 @@ fn move_environment(
     cert: &EnvCert,
     order: &[u32],
     fields: &[Field],
+    ranks: &[u32],
 ) -> Result<EnvCert, AllocError>
     requires levels { dd.old.table.levels ≡ length order.now }
     requires ranks { RanksRise (length order.now) dd.old.table }
@@ -97,12 +101,15 @@ fn move_environment(
 {
     let levels = levels_by_place(alloc, order)?;
     let bits = clamped_bits(alloc, dd, levels.as_slice(), fields)?;
-    let ids = load_moved(
+    let keys = environment_keys(alloc, cert.levels.as_slice())?;
+    let ids = load_sets(
         alloc,
         dd,
         cert.nodes.as_slice(),
         cert.order.as_slice(),
         bits.as_slice(),
+        keys.as_slice(),
+        ranks,
     )?;
     renumber_environment(alloc, dd.store(), cert, ids.as_slice(), order)
 }
@@ -122,7 +129,8 @@ fn renumber_environment(
     requires ids { AreIds store.now ids.now }
     requires count { length ids.now ≡ ids_of cert.now.nodes }
 
-    ensures { (see : (ℕ → Bool) → ℕ → Bool) → AreMoved store.now see cert.now.nodes ids.now
+    ensures { (see : (ℕ → Bool) → ℕ → Bool) → AreKeyed store.now see cert.now.nodes
+        (environment_keys cert.now.levels) ids.now
         → IfOk result (EnvironmentTold order.now see cert.now) }
 {
     let mut kept = IndexSet::new(alloc);

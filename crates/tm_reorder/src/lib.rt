@@ -6,8 +6,11 @@ mod clamping;
 mod driver;
 mod environment;
 mod fields;
+mod graph;
+mod keys;
 mod moving;
 mod parts;
+mod raising;
 
 pub use driver::{clamp_driver, reorder_driver};
 pub use environment::{clamp_environment, reorder_environment};

@@ -4,8 +4,10 @@ use Rattle.tm_cert.specs.declared.cert.Rank.{Rank}
 use Rattle.tm_cert.specs.Cert.{DriverData}
 use Rattle.tm_cert.specs.Nodes.{ids_of}
 use Rattle.tm_numbering.proofs.Growth.{numbered_none}
+use Rattle.tm_reorder.specs.Inner.Keys.{driver_keys}
 use Rattle.tm_reorder.specs.Inner.Parts.{GoalsStand, Stands}
 use Rattle.tm_reorder.specs.Inner.Told.{DriverTold}
+use Rattle.tm_reorder.proofs.Wanted.{rank_key, region_key}
 use Rattle.tm_reorder.proofs.Parting.{stands_later}
 use Rattle.tm_reorder.proofs.Reordered.{driver_told, rank_sets}
 use Rattle.tm_reorder.proofs.driver.renumber_driver.Goals as goal
@@ -63,5 +65,8 @@ returns c = λ see moved.
     (sym c.in_ok-order.ensures.items)
     (driver_told c.args.order.now c.args.store.now c.requires.reduced c.requires.ranks c.requires.levels see
     c.args.cert.now.nodes
-    c.args.ids.now c.place_goals.new.kept.keys nodes moved c.in_ok-goals.ensures.numbered c.args.cert.now.order
-    c.args.cert.now.region c.in_ok-region.region c.args.cert.now.goals news (region_stands at) (goals_stand at))
+    c.args.ids.now c.place_goals.new.kept.keys nodes (driver_keys c.args.cert.now.region c.args.cert.now.goals) moved
+    c.in_ok-goals.ensures.numbered c.args.cert.now.order
+    c.args.cert.now.region c.in_ok-region.region c.args.cert.now.goals news
+    (region_key c.args.cert.now.region c.args.cert.now.goals)
+    (rank_key c.args.cert.now.region c.args.cert.now.goals) (region_stands at) (goals_stand at))

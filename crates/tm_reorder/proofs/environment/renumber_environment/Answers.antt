@@ -3,8 +3,10 @@ use Rattle.std.specs.Prelude.{All}
 use Rattle.tm_cert.specs.Cert.{EnvData, LevelData}
 use Rattle.tm_cert.specs.Nodes.{ids_of}
 use Rattle.tm_numbering.proofs.Growth.{numbered_none}
+use Rattle.tm_reorder.specs.Inner.Keys.{environment_keys}
 use Rattle.tm_reorder.specs.Inner.Parts.{AreLevelSets, LevelsStand}
 use Rattle.tm_reorder.specs.Inner.Told.{EnvironmentTold}
+use Rattle.tm_reorder.proofs.Wanted.{chain_key, level_key}
 use Rattle.tm_reorder.proofs.Reordered.{environment_told, level_sets_fit}
 use Rattle.tm_reorder.proofs.environment.renumber_environment.Goals as goal
 use Rattle.tm_reorder.proofs.environment.renumber_environment.Goals.{In_ok-levels}
@@ -41,5 +43,7 @@ returns c = λ see moved.
     (sym c.in_ok-order.ensures.items)
     (environment_told c.args.order.now c.args.store.now c.requires.reduced c.requires.ranks c.requires.levels see
     c.args.cert.now.nodes
-    c.args.ids.now c.place_levels.new.kept.keys nodes moved c.in_ok-levels.ensures.numbered c.args.cert.now.order
-    c.args.cert.now.levels news (levels_stand at))
+    c.args.ids.now c.place_levels.new.kept.keys nodes (environment_keys c.args.cert.now.levels) moved
+    c.in_ok-levels.ensures.numbered c.args.cert.now.order
+    c.args.cert.now.levels news (level_key c.args.cert.now.levels) (chain_key c.args.cert.now.levels)
+    (levels_stand at))
