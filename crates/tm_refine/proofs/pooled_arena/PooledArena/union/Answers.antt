@@ -1,3 +1,4 @@
+use Rattle.tm_refine.proofs.Memories.{memory_kept}
 use Rattle.tm_refine.proofs.PoolKeeps.{fairs_kept, goals_kept, hint_kept}
 use Rattle.tm_refine.proofs.pooled_arena.PooledArena.union.Goals as goal
 
@@ -21,5 +22,11 @@ invariant_of-self c =
           (fairs_kept e.game c.either.new.game kept e.fairs e.fair_count, tt),
         ),
       ),
-      (kept.can, (hint_kept e.game c.either.new.game c.args.self.now.hint kept c.args.self.now.hint_known, tt)),
+      (
+        kept.can,
+        (
+          hint_kept e.game c.either.new.game c.args.self.now.hint kept c.args.self.now.hint_known,
+          (memory_kept e.game c.either.new.game c.args.self.now.memory kept c.args.self.now.remembers, tt),
+        ),
+      ),
     )
