@@ -1,29 +1,14 @@
 -- The parts of sets that are remembered.
 -- g the data of a game, m a memory, ks numbers of predicates.
-use Rattle.std.specs.Prelude.{◌≡◌, ◌==◌, ℕ, Bool, List, Option, Some}
-use Rattle.std.specs.declared.hash.BuildHasherDefault.{BuildHasherDefault}
-use Rattle.std.specs.HashMap.{get, HashMap}
-use Rattle.tm_dd.specs.declared.hasher.NumberHasher.{NumberHasher}
+use Rattle.std.specs.Prelude.{◌≡◌, ℕ, Bool, List, Some}
 use Rattle.tm_dd.specs.declared.node.NodeId.{NodeId}
-use Rattle.tm_dd.specs.NodeId.{number_of}
+use Rattle.tm_ddops.specs.Inner.Found.{found_at}
 use Rattle.tm_game.specs.Game.{GameData}
 use Rattle.tm_refine.specs.declared.memory.Memory.{Memory}
 use Rattle.tm_refine.specs.Pooled.{pool_ids, tests_of}
 use Rattle.tm_refine.specs.Sided.{side_part}
 use Rattle.tm_solve.specs.Ids.{Is}
 use Rattle.tm_solve_exact.specs.Exact.{IsStateSet, exact_game, set_of}
-
--- ids of sets, with ids
-abbrev pub Parts : Type 0
-Parts = HashMap NodeId NodeId (BuildHasherDefault NumberHasher)
-
--- whether two ids are one
-abbrev pub id_eq : NodeId → NodeId → Bool
-id_eq f g = number_of f == number_of g
-
--- the id beside that of a set
-abbrev pub part_at : Parts → NodeId → Option NodeId
-part_at m set = get id_eq m set
 
 -- a set is known, and an id is that of its upper or its lower part
 pub record IsPart (g : GameData) (ks : List ℕ) (upper : Bool) (set part : NodeId) : Type 0 where
@@ -33,7 +18,7 @@ pub record IsPart (g : GameData) (ks : List ℕ) (upper : Bool) (set part : Node
 
 -- each part that is remembered is that of its set
 abbrev pub AreParts : GameData → Memory → Type 0
-AreParts g m = (set part : NodeId) → part_at m.parts set ≡ Some part → IsPart g m.tracked.items m.upper set part
+AreParts g m = (set part : NodeId) → found_at m.parts set ≡ Some part → IsPart g m.tracked.items m.upper set part
 
 -- the same, as a fact
 abbrev pub Remembers : GameData → Memory → Type 0

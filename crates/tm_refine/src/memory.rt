@@ -11,8 +11,7 @@ use crate::parts::side;
 use crate::sets::tell;
 use std::alloc::{AllocError, Global};
 use std::collections::HashMap;
-use std::hash::BuildHasherDefault;
-use tm_dd::{NodeId, NumberHasher};
+use tm_dd::NodeId;
 use tm_game::Game;
 
 /// The upper or the lower parts of sets over the cells of the predicates of some numbers. A solution asks for those of
@@ -21,7 +20,7 @@ use tm_game::Game;
 pub struct Memory {
     pub(crate) tracked: Vec<u32>,
     pub(crate) upper: bool,
-    pub(crate) parts: HashMap<NodeId, NodeId, BuildHasherDefault<NumberHasher>>,
+    pub(crate) parts: HashMap<NodeId, NodeId>,
 }
 
 impl Memory {
@@ -32,7 +31,7 @@ impl Memory {
         Memory {
             tracked: Vec::new(alloc),
             upper: false,
-            parts: HashMap::with_hasher(alloc, BuildHasherDefault::new()),
+            parts: HashMap::new(alloc),
         }
     }
 
@@ -93,7 +92,7 @@ impl Memory {
         Ok(Memory {
             tracked: Vec::from_slice(alloc, tracked)?,
             upper,
-            parts: HashMap::with_hasher(alloc, BuildHasherDefault::new()),
+            parts: HashMap::new(alloc),
         })
     }
 }

@@ -13,16 +13,16 @@ returns-in-Some-clause-kept c = keeps_none c.args.game.now c.requires.can c.tell
 
 pub returns-in_err-part-clause-remembers : goal.returns-in_err-part-clause-remembers
 returns-in_err-part-clause-remembers c =
-    memory_kept c.args.game.now c.side.new.game c.args.memory.now c.side.ensures.kept c.requires.remembers
+    memory_kept c.args.game.now c.side.new.game c.side.ensures.kept c.args.memory.now c.requires.remembers
 
 pub returns-in_err-note-clause-remembers : goal.returns-in_err-note-clause-remembers
 returns-in_err-note-clause-remembers c =
-    noted_kept c.args.game.now c.side.new.game c.args.memory.now c.note.new.self c.args.tracked.now c.args.upper
-    c.args.set c.in_ok-part.part c.side.ensures.kept c.requires.set c.in_ok-part.ensures.value c.note.ensures
-    c.requires.remembers
+    noted_kept c.args.game.now c.side.new.game c.side.ensures.kept c.args.memory.now c.note.new.self
+    c.args.tracked.now c.args.upper c.args.set c.in_ok-part.part c.requires.set c.in_ok-part.ensures.value
+    c.note.ensures c.requires.remembers
 
 pub returns-clause-remembers : goal.returns-clause-remembers
 returns-clause-remembers c =
-    noted_kept c.args.game.now c.side.new.game c.args.memory.now c.note.new.self c.args.tracked.now c.args.upper
-    c.args.set c.in_ok-part.part c.side.ensures.kept c.requires.set c.in_ok-part.ensures.value c.note.ensures
-    c.requires.remembers
+    noted_kept c.args.game.now c.side.new.game c.side.ensures.kept c.args.memory.now c.note.new.self
+    c.args.tracked.now c.args.upper c.args.set c.in_ok-part.part c.requires.set c.in_ok-part.ensures.value
+    c.note.ensures c.requires.remembers

@@ -17,17 +17,20 @@ pub returns-in_err-part-clause-tests : goal.returns-in_err-part-clause-tests
 returns-in_err-part-clause-tests c = c.remembered_side.ensures.kept.tests
 
 pub invariant_of-self-in-Break-1 : goal.invariant_of-self-in-Break-1
-invariant_of-self-in-Break-1 c = record {
-  can = c.remembered_side.ensures.kept.can;
-  hint_known = hint_kept c.args.self.now.exact.game c.remembered_side.new.game c.args.self.now.hint c.remembered_side.ensures.kept
-      c.args.self.now.hint_known;
-  remembers = c.remembered_side.ensures.remembers;
-}
+invariant_of-self-in-Break-1 c =
+    let after = c.remembered_side.ensures in record {
+      can = after.kept.can;
+      hint_known = hint_kept c.args.self.now.exact.game c.remembered_side.new.game c.args.self.now.hint after.kept
+          c.args.self.now.hint_known;
+      remembers = after.remembers;
+    }
 
 pub invariant_of-self-2 : goal.invariant_of-self-2
-invariant_of-self-2 c = record {
-  can = c.remembered_side.ensures.kept.can;
-  hint_known = hint_noted c.args.self.now.exact.game c.remembered_side.new.game c.args.self.now.hint c.noted-self.result
-      c.args.set c.remembered_side.ensures.kept c.args.self.now.hint_known c.requires.set_known c.noted-self.ensures;
-  remembers = c.remembered_side.ensures.remembers;
-}
+invariant_of-self-2 c =
+    let after = c.remembered_side.ensures in record {
+      can = after.kept.can;
+      hint_known = hint_noted c.args.self.now.exact.game c.remembered_side.new.game c.args.self.now.hint
+          c.noted-self.result c.args.set after.kept c.args.self.now.hint_known c.requires.set_known
+          c.noted-self.ensures;
+      remembers = after.remembers;
+    }

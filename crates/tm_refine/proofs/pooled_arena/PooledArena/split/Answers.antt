@@ -1,5 +1,5 @@
-use Rattle.tm_refine.proofs.Memories.{memory_kept}
-use Rattle.tm_refine.proofs.PoolKeeps.{fairs_kept, goals_kept, hint_none}
+use Rattle.std.proofs.Common.{None}
+use Rattle.tm_refine.proofs.PoolKeeps.{facts_with, hint_none}
 use Rattle.tm_refine.proofs.pooled_arena.PooledArena.split.Goals as goal
 
 pub returns-clause-split : goal.returns-clause-split
@@ -12,21 +12,4 @@ pub returns-clause-tests : goal.returns-clause-tests
 returns-clause-tests c = c.split.ensures.kept.tests
 
 pub invariant_of-self : goal.invariant_of-self
-invariant_of-self c =
-    let e = c.args.self.now.exact in
-    let kept = c.split.ensures.kept in (
-      (
-        kept.of,
-        (
-          goals_kept e.game c.split.new.game kept e.goals e.goal_count,
-          (fairs_kept e.game c.split.new.game kept e.fairs e.fair_count, tt),
-        ),
-      ),
-      (
-        kept.can,
-        (
-          hint_none c.split.new.game,
-          (memory_kept e.game c.split.new.game c.args.self.now.memory kept c.args.self.now.remembers, tt),
-        ),
-      ),
-    )
+invariant_of-self c = facts_with c.args.self.now c.split.new.game c.split.ensures.kept None (hint_none c.split.new.game)
