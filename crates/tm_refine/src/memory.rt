@@ -114,8 +114,8 @@ pub(crate) fn remembered_side(
     ensures kept { Keeps game.old game.new }
     ensures remembers { Remembers game.new memory.new }
 {
-    tell(game);
     if let Some(known) = memory.recall(tracked, upper, set) {
+        tell(game);
         return Ok(known);
     }
     let part = side(alloc, game, tracked, upper, set)?;
