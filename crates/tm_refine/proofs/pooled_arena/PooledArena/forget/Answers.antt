@@ -20,12 +20,12 @@ pub invariant_of-self-in-Break-1 : goal.invariant_of-self-in-Break-1
 invariant_of-self-in-Break-1 c = record {
   can = c.forget.ensures.forgets.can;
   hint_known = hint_none c.forget.new.game;
-  remembers = ∣ c.new-self.ensures c.forget.new.game ∣₁;
+  remembers = ∣ c.new.ensures c.forget.new.game ∣₁;
 }
 
-pub invariant_of-self-2 : goal.invariant_of-self-2
-invariant_of-self-2 c = record {
+pub invariant_of-self-3 : goal.invariant_of-self-2
+invariant_of-self-3 c = record {
   can = c.forget.ensures.forgets.can;
   hint_known = hint_none c.forget.new.game;
-  remembers = ∣ c.new-self.ensures c.forget.new.game ∣₁;
+  remembers = ∣ c.new.ensures c.forget.new.game ∣₁;
 }
