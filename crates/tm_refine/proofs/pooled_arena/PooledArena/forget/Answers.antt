@@ -23,7 +23,7 @@ invariant_of-self-in-Break-1 c = record {
   remembers = ∣ c.new.ensures c.forget.new.game ∣₁;
 }
 
-pub invariant_of-self-3 : goal.invariant_of-self-2
+pub invariant_of-self-3 : goal.invariant_of-self-3
 invariant_of-self-3 c = record {
   can = c.forget.ensures.forgets.can;
   hint_known = hint_none c.forget.new.game;
