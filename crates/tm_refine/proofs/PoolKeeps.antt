@@ -137,7 +137,7 @@ module _ (p : Pooled) (h : GameData) (kept : Keeps p.exact.game h) where
   fairs_kept : p.exact.fairs ≡ length h.fairs
   fairs_kept = p.exact.fair_count ∙ ap (λ (ids : List NodeId). length ids) (sym kept.grows.fairs)
 
-  -- with a hint
+  -- these facts, with a hint
   abbrev pub Facts : Option NodeId → Type 0
   Facts hint =
       (HasDesign h × ((p.exact.goals ≡ length h.goals) × ((p.exact.fairs ≡ length h.fairs) × ⊤)))

@@ -35,7 +35,7 @@ impl Memory {
         }
     }
 
-    // The part of a set.
+    // The part of a set over the cells of such predicates, where it is remembered.
     fn recall(&self, tracked: &[u32], upper: bool, set: NodeId) -> Option<NodeId>
         ensures { (g : GameData) → AreParts g self.now → IfSome result (IsPart g tracked.now upper set) }
     {
@@ -45,7 +45,7 @@ impl Memory {
         self.parts.get(&set).copied()
     }
 
-    // Notes the part of a set. Those over other cells are forgotten.
+    // Notes the part of a set. Parts over other cells, or of the other side, are forgotten.
     fn note(
         &mut self,
         alloc: Global,
@@ -61,7 +61,7 @@ impl Memory {
         Ok(())
     }
 
-    // Forgets the parts, where they are not those over the cells of such predicates.
+    // Forgets the parts, where they are over other cells or of the other side.
     fn turn_to(&mut self, alloc: Global, tracked: &[u32], upper: bool) -> Result<(), AllocError>
         ensures parts { (g : GameData) → AreParts g self.old → AreParts g self.new }
         ensures over { OnOk result ((self.new.tracked.items ≡ tracked.now) × (self.new.upper ≡ upper)) }
@@ -73,7 +73,7 @@ impl Memory {
         Ok(())
     }
 
-    // Whether the parts are upper or lower ones over the cells of such predicates.
+    // Whether the parts are those of this side over the cells of such predicates.
     fn is_of(&self, tracked: &[u32], upper: bool) -> bool
         ensures { IsTrue result → (self.now.tracked.items ≡ tracked.now) × (self.now.upper ≡ upper) }
     {
@@ -83,7 +83,7 @@ impl Memory {
         self.tracked.as_slice() == tracked
     }
 
-    // No parts over the cells of such predicates.
+    // No parts yet of a side over the cells of such predicates.
     fn over(alloc: Global, tracked: &[u32], upper: bool) -> Result<Memory, AllocError>
         ensures parts { IfOk result (λ m. (g : GameData) → AreParts g m) }
         ensures tracked { IfOk result (λ m. m.tracked.items ≡ tracked.now) }

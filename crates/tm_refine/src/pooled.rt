@@ -21,7 +21,7 @@ pub struct Pooled {
     pub(crate) alloc: Global,
     /// The first set that was cut since the last pair of states was sought.
     pub(crate) hint: Option<NodeId>,
-    /// Parts of sets that were found.
+    /// The parts of sets that were found last.
     pub(crate) memory: Memory,
     /// How many nodes the diagrams kept when other sets were last forgotten.
     pub(crate) kept: u64,
