@@ -3,6 +3,7 @@ mod DecideSteps
 mod DriverKeeps
 mod EnvironmentTakes
 mod HandDown
+mod Memories
 mod NarrowSteps
 mod OneSide
 mod PoolBits

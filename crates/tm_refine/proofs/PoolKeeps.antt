@@ -2,6 +2,7 @@
 use Rattle.std.proofs.Common.{◌≡◌, ◌⊎◌, inl, inr, ℕ, ◌<◌, ◌≤◌, List, Option, Some, None, length, sym, ap, ◌∙◌, subst, arith}
 use Rattle.std.proofs.Math.Logic.{∥∥₁_elim}
 use Rattle.std.proofs.Props.{props}
+use Rattle.std.specs.Prelude.{⊤}
 use Rattle.tm_abs.specs.Tracked.{HasPooled, IsPooled}
 use Rattle.tm_dd.specs.declared.node.NodeId.{NodeId}
 use Rattle.tm_dd.specs.Reduced.{IsReduced}
@@ -11,8 +12,11 @@ use Rattle.tm_game.specs.Game.{GameData, Grows}
 use Rattle.tm_game.proofs.Growing.{grows_none, grows_then}
 use Rattle.tm_game_pool.proofs.Claims.{first_within}
 use Rattle.tm_game_pool.proofs.Pooled.{pool_grown}
+use Rattle.tm_refine.specs.declared.pooled.Pooled.{Pooled}
+use Rattle.tm_refine.specs.Memory.{Remembers}
 use Rattle.tm_refine.specs.Pooled.{CanBeDecided, CanDecide, Keeps, pool_ids, tests_of}
 use Rattle.tm_refine.specs.PoolTests.{pool_long, tests_kept}
+use Rattle.tm_refine.proofs.Memories.{memory_kept}
 use Rattle.tm_sem.specs.State.{StateData}
 use Rattle.tm_solve.specs.Ids.{Follows, Is}
 use Rattle.tm_solve.specs.Sets.{StateSet}
@@ -125,10 +129,25 @@ hint_noted g h hint noted set kept known here which =
     by each id (inl e) = each id e
     by each id (inr e) = subst (λ (x : NodeId). IsStateSet g x) e here
 
--- what a call leaves of the facts of a game that is decided
-module _ (g h : GameData) (kept : Keeps g h) where
-  pub goals_kept : (n : ℕ) → n ≡ length g.goals → n ≡ length h.goals
-  goals_kept n same = same ∙ ap (λ (ids : List NodeId). length ids) (sym kept.grows.goals)
+-- ---- the facts of a game that is decided, after a call
+module _ (p : Pooled) (h : GameData) (kept : Keeps p.exact.game h) where
+  goals_kept : p.exact.goals ≡ length h.goals
+  goals_kept = p.exact.goal_count ∙ ap (λ (ids : List NodeId). length ids) (sym kept.grows.goals)
 
-  pub fairs_kept : (n : ℕ) → n ≡ length g.fairs → n ≡ length h.fairs
-  fairs_kept n same = same ∙ ap (λ (ids : List NodeId). length ids) (sym kept.grows.fairs)
+  fairs_kept : p.exact.fairs ≡ length h.fairs
+  fairs_kept = p.exact.fair_count ∙ ap (λ (ids : List NodeId). length ids) (sym kept.grows.fairs)
+
+  -- these facts, with a hint
+  abbrev pub Facts : Option NodeId → Type 0
+  Facts hint =
+      (HasDesign h × ((p.exact.goals ≡ length h.goals) × ((p.exact.fairs ≡ length h.fairs) × ⊤)))
+      × (CanBeDecided h × (HintKnown h hint × (Remembers h p.memory × ⊤)))
+
+  pub facts_with : (hint : Option NodeId) → HintKnown h hint → Facts hint
+  facts_with hint known = (
+    (kept.of, (goals_kept, (fairs_kept, tt))),
+    (kept.can, (known, (memory_kept p.exact.game h kept p.memory p.remembers, tt))),
+  )
+
+  pub facts_kept : Facts p.hint
+  facts_kept = facts_with p.hint (hint_kept p.exact.game h p.hint kept p.hint_known)

@@ -1,6 +1,7 @@
 pub mod Apart
 pub mod Carried
 pub mod Decided
+pub mod Memory
 pub mod Numbers
 pub mod PartLaws
 pub mod Parts

@@ -5,6 +5,7 @@ mod arena;
 mod deciding;
 mod forgetting;
 mod laws;
+mod memory;
 mod narrowing;
 mod numbers;
 mod parting;

@@ -1,10 +1,12 @@
 //! The symbolic game of a design, to be decided over the predicates of its pool.
 ghost use Rattle.std.specs.Prelude.{◌≡◌, ◌⊎◌, Some};
 ghost use Rattle.tm_dd.specs.declared.node.NodeId.{NodeId as Id};
+ghost use Rattle.tm_refine.specs.Memory.{Remembers};
 ghost use Rattle.tm_refine.specs.Pooled.{CanBeDecided, CanDecide};
 ghost use Rattle.tm_solve_exact.specs.Exact.{IsStateSet};
 ghost use Rattle.tm_syntax.specs.Design.{DesignTree};
 
+use crate::memory::Memory;
 use std::alloc::Global;
 use tm_dd::NodeId;
 use tm_solve_exact::Exact;
@@ -19,10 +21,13 @@ pub struct Pooled {
     pub(crate) alloc: Global,
     /// The first set that was cut since the last pair of states was sought.
     pub(crate) hint: Option<NodeId>,
+    /// The parts of sets that were found last.
+    pub(crate) memory: Memory,
     /// How many nodes the diagrams kept when other sets were last forgotten.
     pub(crate) kept: u64,
     pub ghost can: { CanBeDecided exact.game },
     pub ghost hint_known: { ∥ ((id : Id) → hint ≡ Some id → IsStateSet exact.game id) ∥₁ },
+    pub ghost remembers: { Remembers exact.game memory },
 }
 
 impl Pooled {
@@ -36,6 +41,7 @@ impl Pooled {
             exact,
             alloc,
             hint: None,
+            memory: Memory::new(alloc),
             kept,
         }
     }

@@ -7,8 +7,9 @@ ghost use Rattle.tm_solve_exact.specs.Laws.{exact_absorbing, exact_monotone};
 
 use crate::arena::Arena;
 use crate::forgetting::forget;
+use crate::memory::{Memory, remembered_side};
 use crate::parting::apart;
-use crate::parts::{leaves_out, side, split};
+use crate::parts::{leaves_out, split};
 use crate::pooled::{Pooled, ROOM, noted};
 use crate::sets::{both, either, part, rest};
 use crate::telling::first_apart;
@@ -62,7 +63,14 @@ impl Arena for Pooled {
     }
 
     fn side(&mut self, tracked: &[u32], upper: bool, set: NodeId) -> Result<NodeId, AllocError> {
-        let part = side(self.alloc, &mut self.exact.game, tracked, upper, set)?;
+        let part = remembered_side(
+            self.alloc,
+            &mut self.exact.game,
+            &mut self.memory,
+            tracked,
+            upper,
+            set,
+        )?;
         self.hint = noted(self.hint, set, part);
         Ok(part)
     }
@@ -106,6 +114,7 @@ impl Arena for Pooled {
 
     fn forget(&mut self, set: NodeId) -> Result<NodeId, AllocError> {
         self.hint = None;
+        self.memory = Memory::new(self.alloc);
         let set = forget(&mut self.exact.game, set)?;
         self.kept = self.exact.game.manager().store().kept();
         Ok(set)

@@ -5,4 +5,5 @@ pub invariant_of-result : goal.invariant_of-result
 invariant_of-result c = record {
   can = ∣ (c.requires.can.0, c.requires.can.1) ∣₁;
   hint_known = hint_none c.args.exact.game;
+  remembers = ∣ c.new.ensures c.args.exact.game ∣₁;
 }

@@ -1,3 +1,4 @@
+use Rattle.tm_refine.proofs.PoolKeeps.{hint_none}
 use Rattle.tm_refine.proofs.pooled_arena.PooledArena.forget.Goals as goal
 
 pub returns-clause-value : goal.returns-clause-value
@@ -14,3 +15,17 @@ returns-in_err-set-clause-designs c = c.forget.ensures.forgets.designs
 
 pub returns-in_err-set-clause-game : goal.returns-in_err-set-clause-game
 returns-in_err-set-clause-game c = c.forget.ensures.forgets.game
+
+pub invariant_of-self-in-Break-1 : goal.invariant_of-self-in-Break-1
+invariant_of-self-in-Break-1 c = record {
+  can = c.forget.ensures.forgets.can;
+  hint_known = hint_none c.forget.new.game;
+  remembers = ∣ c.new.ensures c.forget.new.game ∣₁;
+}
+
+pub invariant_of-self-3 : goal.invariant_of-self-3
+invariant_of-self-3 c = record {
+  can = c.forget.ensures.forgets.can;
+  hint_known = hint_none c.forget.new.game;
+  remembers = ∣ c.new.ensures c.forget.new.game ∣₁;
+}

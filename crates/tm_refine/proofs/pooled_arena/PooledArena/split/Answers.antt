@@ -1,3 +1,5 @@
+use Rattle.std.proofs.Common.{None}
+use Rattle.tm_refine.proofs.PoolKeeps.{facts_with, hint_none}
 use Rattle.tm_refine.proofs.pooled_arena.PooledArena.split.Goals as goal
 
 pub returns-clause-split : goal.returns-clause-split
@@ -8,3 +10,6 @@ returns-clause-follows c = c.split.ensures.kept.follows
 
 pub returns-clause-tests : goal.returns-clause-tests
 returns-clause-tests c = c.split.ensures.kept.tests
+
+pub invariant_of-self : goal.invariant_of-self
+invariant_of-self c = facts_with c.args.self.now c.split.new.game c.split.ensures.kept None (hint_none c.split.new.game)

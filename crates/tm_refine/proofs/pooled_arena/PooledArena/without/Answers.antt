@@ -1,4 +1,4 @@
-use Rattle.tm_refine.proofs.PoolKeeps.{fairs_kept, goals_kept, hint_kept}
+use Rattle.tm_refine.proofs.PoolKeeps.{facts_kept}
 use Rattle.tm_refine.proofs.pooled_arena.PooledArena.without.Goals as goal
 
 pub returns-clause-value : goal.returns-clause-value
@@ -11,15 +11,4 @@ pub returns-clause-tests : goal.returns-clause-tests
 returns-clause-tests c = c.rest.ensures.kept.tests
 
 pub invariant_of-self : goal.invariant_of-self
-invariant_of-self c =
-    let e = c.args.self.now.exact in
-    let kept = c.rest.ensures.kept in (
-      (
-        kept.of,
-        (
-          goals_kept e.game c.rest.new.game kept e.goals e.goal_count,
-          (fairs_kept e.game c.rest.new.game kept e.fairs e.fair_count, tt),
-        ),
-      ),
-      (kept.can, (hint_kept e.game c.rest.new.game c.args.self.now.hint kept c.args.self.now.hint_known, tt)),
-    )
+invariant_of-self c = facts_kept c.args.self.now c.rest.new.game c.rest.ensures.kept

@@ -1,4 +1,4 @@
-use Rattle.tm_refine.proofs.PoolKeeps.{fairs_kept, goals_kept, hint_kept}
+use Rattle.tm_refine.proofs.PoolKeeps.{facts_kept}
 use Rattle.tm_refine.proofs.pooled_pre.PooledPre.meet.Goals as goal
 
 pub returns-clause-value : goal.returns-clause-value
@@ -8,15 +8,4 @@ pub returns-clause-follows : goal.returns-clause-follows
 returns-clause-follows c = c.both.ensures.kept.follows
 
 pub invariant_of-self : goal.invariant_of-self
-invariant_of-self c =
-    let e = c.args.self.now.exact in
-    let kept = c.both.ensures.kept in (
-      (
-        kept.of,
-        (
-          goals_kept e.game c.both.new.game kept e.goals e.goal_count,
-          (fairs_kept e.game c.both.new.game kept e.fairs e.fair_count, tt),
-        ),
-      ),
-      (kept.can, (hint_kept e.game c.both.new.game c.args.self.now.hint kept c.args.self.now.hint_known, tt)),
-    )
+invariant_of-self c = facts_kept c.args.self.now c.both.new.game c.both.ensures.kept
