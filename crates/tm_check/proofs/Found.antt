@@ -26,7 +26,7 @@ use Rattle.tm_game_bits.specs.AssignedStates.{assignment_of, state_of}
 use Rattle.tm_verdict.specs.Found.{IsFound, NamesStates, RestsOn, within_rank}
 use Rattle.tm_game.specs.Game.{GameData, Grows, IsSet, IsStates}
 use Rattle.tm_game.specs.Least.{HoldsNowhere, test_of}
-use Rattle.tm_sem.specs.Certificates.{AreRanked, DriverSets, IsIn, RankedSet, rank}
+use Rattle.tm_sem.specs.Certificates.{AreRanked, DriverSets, RankedSet, rank}
 use Rattle.tm_sem.specs.State.{StateData}
 use Rattle.tm_sem.specs.Step.{IsInitial}
 use Rattle.tm_syntax.specs.Design.{DesignTree}

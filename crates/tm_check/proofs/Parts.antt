@@ -5,7 +5,7 @@ use Rattle.std.specs.Prelude.{slice_get}
 use Rattle.std.specs.List.{list_any}
 use Rattle.std.proofs.lemmas.Option.{slice_get-get_or, slice_get_within}
 use Rattle.tm_check.specs.declared.loaded.DriverDiagrams.{DriverDiagrams}
-use Rattle.tm_check.specs.Leaving.{IsAwaiting, IsRising, IsStaying}
+use Rattle.tm_check.specs.Leaving.{HasRank, IsRising, IsStaying}
 use Rattle.tm_check.specs.Told.{IsTold}
 use Rattle.tm_check.proofs.States.{never_true, false_never, states_and, states_or, states_same, states_without}
 use Rattle.tm_cir.specs.Answer.{Answers}
@@ -13,7 +13,7 @@ use Rattle.tm_cir.specs.Tree.{BlockTree}
 use Rattle.tm_dd.specs.declared.node.NodeId.{NodeId}
 use Rattle.tm_dd.specs.Table.{Table, means}
 use Rattle.tm_ddops.specs.Manager.{IsFunction}
-use Rattle.tm_verdict.specs.Found.{AnswerKeeps, IsFound, IsOfRank, MayLeave, within_rank}
+use Rattle.tm_verdict.specs.Found.{AnswerKeeps, Awaits, IsFound, IsOfRank, MayLeave, within_rank}
 use Rattle.tm_verdict.proofs.Ranks.{of_rank, rank_is}
 use Rattle.tm_game.specs.Game.{GameData, IsStates}
 use Rattle.tm_sem.specs.declared.state.Move.{Move}
@@ -22,7 +22,7 @@ use Rattle.tm_sem.specs.Fairness.{IsFair}
 use Rattle.tm_sem.specs.Forcing.{IsCalm}
 use Rattle.tm_sem.specs.Play.{goal_holds}
 use Rattle.tm_sem.specs.State.{StateData}
-use Rattle.tm_sem.specs.Step.{IsInitial, IsState, is_driver_turn}
+use Rattle.tm_sem.specs.Step.{IsInitial, is_driver_turn}
 use Rattle.tm_syntax.specs.Design.{DesignTree}
 use Rattle.tm_verdict.specs.Driver.{begins_within, is_answered, is_calm, is_ranked, lies_within}
 
@@ -196,6 +196,18 @@ adding_is d order s t ranked k r set before id at set_is before_is is =
     (states_without d order s t (λ st. r.set st ≡ true) (λ st. within_rank ranked k st ≡ true) set before id set_is
     before_is is)
 
+-- the states of the region at which a goal fails
+pub awaiting_is : (d : DesignTree) (order : List ℕ) (c : DriverSets) (goal : ℕ) (s t : Table)
+    (region holds id : NodeId) → IsStates d order s (λ st. c.region st ≡ true) region →
+    IsStates d order s (λ st. goal_holds d st goal ≡ true) holds →
+    IsFunction t id (λ v. means s region v && not (means s holds v)) → IsStates d order t (Awaits d c goal) id
+awaiting_is d order c goal s t region holds id region_is holds_is is =
+    states_same d order t (λ st. (c.region st ≡ true) × (¬ (goal_holds d st goal ≡ true))) (Awaits d c goal) id
+    (λ st valid h. record { here = h.0; fails = never_true (goal_holds d st goal) h.1 })
+    (λ st valid h. (h.here, false_never (goal_holds d st goal) h.fails))
+    (states_without d order s t (λ st. c.region st ≡ true) (λ st. goal_holds d st goal ≡ true) region holds id region_is
+    holds_is is)
+
 -- ---- steps
 module _ (d : DesignTree) (bs : List BlockTree) (c : DriverSets) (order : List ℕ) (goal index : ℕ)
     (ranked : List RankedSet) (r : RankedSet) (are : AreRanked c goal ranked) (at : slice_get ranked index ≡ Some r)
@@ -207,97 +219,63 @@ module _ (d : DesignTree) (bs : List BlockTree) (c : DriverSets) (order : List �
         IsOfRank ranked index st
     of_this other st also of = subst (λ (xs : List RankedSet). IsOfRank xs index st) (same_ranked other also) of
 
-    -- the states of the region at which the goal fails that have the rank
-    pub awaiting_is : (s1 s2 s3 s4 : Table) (region holds within before one two id : NodeId) →
-        IsStates d order s1 (λ st. c.region st ≡ true) region →
-        IsStates d order s1 (λ st. goal_holds d st goal ≡ true) holds →
-        IsFunction s2 one (λ v. means s1 region v && not (means s1 holds v)) →
-        IsStates d order s2 (λ st. within_rank ranked (1 + index) st ≡ true) within →
-        IsFunction s3 two (λ v. means s2 one v && means s2 within v) →
-        IsStates d order s3 (λ st. within_rank ranked index st ≡ true) before →
-        IsFunction s4 id (λ v. means s3 two v && not (means s3 before v)) →
-        IsStates d order s4 (IsAwaiting d c goal index) id
-    awaiting_is s1 s2 s3 s4 region holds within before one two id region_is holds_is one_is within_is two_is
-        before_is is =
-        states_same d order s4 Made (IsAwaiting d c goal index) id to from made
-      where
-        Fails : StateData → Type 0
-        Fails st = (c.region st ≡ true) × (¬ (goal_holds d st goal ≡ true))
-
-        Within : StateData → Type 0
-        Within st = Fails st × (within_rank ranked (1 + index) st ≡ true)
-
-        Made : StateData → Type 0
-        Made st = Within st × (¬ (within_rank ranked index st ≡ true))
-
-        fails : IsStates d order s2 Fails one
-        fails = states_without d order s1 s2 (λ st. c.region st ≡ true) (λ st. goal_holds d st goal ≡ true) region holds
-            one region_is holds_is one_is
-
-        inside : IsStates d order s3 Within two
-        inside = states_and d order s2 s3 Fails (λ st. within_rank ranked (1 + index) st ≡ true) one within two fails
-            within_is two_is
-
-        made : IsStates d order s4 Made id
-        made = states_without d order s3 s4 Within (λ st. within_rank ranked index st ≡ true) two before id inside
-            before_is is
-
-        to : (st : StateData) → IsState d st → Made st → IsAwaiting d c goal index st
-        to st valid h = record {
+    -- the states that have the rank
+    pub rank_states : (s t : Table) (set before id : NodeId) → IsStates d order s (λ st. r.set st ≡ true) set →
+        IsStates d order s (λ st. within_rank ranked index st ≡ true) before →
+        IsFunction t id (λ v. means s set v && not (means s before v)) →
+        IsStates d order t (HasRank c goal index) id
+    rank_states s t set before id set_is before_is is =
+        states_same d order t (λ st. rank ranked st ≡ 1 + index) (HasRank c goal index) id
+        (λ st valid h. record {
           ranked = ranked;
           are = are;
-          awaits = record { here = h.0.0.0; fails = never_true (goal_holds d st goal) h.0.0.1 };
-          of = record { within = h.0.1; not_before = never_true (within_rank ranked index st) h.1 };
-        }
+          of = of_rank ranked index st (slice_get_within ranked index r at) h;
+        })
+        (λ st valid h.
+        rank_is ranked index st (slice_get_within ranked index r at) (of_this h.ranked st h.are h.of))
+        (adding_is d order s t ranked index r set before id at set_is before_is is)
 
-        from : (st : StateData) → IsState d st → IsAwaiting d c goal index st → Made st
-        from st valid h =
-            let of = of_this h.ranked st h.are h.of in (
-              ((h.awaits.here, false_never (goal_holds d st goal) h.awaits.fails), of.within),
-              false_never (within_rank ranked index st) of.not_before,
-            )
-
-    pub rising_is : (s t : Table) (own leaving id : NodeId) → IsStates d order s (IsAwaiting d c goal index) own →
+    pub rising_is : (s t : Table) (own leaving id : NodeId) → IsStates d order s (HasRank c goal index) own →
         IsStates d order s (MayLeave d (Answers bs) (within_rank ranked (1 + index)) goal) leaving →
         IsFunction t id (λ v. means s own v && means s leaving v) →
         IsStates d order t (IsRising d bs c goal index) id
     rising_is s t own leaving id own_is leaving_is is =
         states_same d order t
-        (λ st. IsAwaiting d c goal index st × MayLeave d (Answers bs) (within_rank ranked (1 + index)) goal st)
+        (λ st. HasRank c goal index st × MayLeave d (Answers bs) (within_rank ranked (1 + index)) goal st)
         (IsRising d bs c goal index) id
         (λ st valid h.
-        (ranked, r, are, at, h.0.awaits, of_this h.0.ranked st h.0.are h.0.of, h.1))
+        (ranked, r, are, at, of_this h.0.ranked st h.0.are h.0.of, h.1))
         (λ st valid h. (
-          record { ranked = h.0; are = h.2; awaits = h.4; of = h.5 },
+          record { ranked = h.0; are = h.2; of = h.4 },
           subst (λ (xs : List RankedSet). MayLeave d (Answers bs) (within_rank xs (1 + index)) goal st)
-              (same_ranked h.0 h.2) h.6,
+              (same_ranked h.0 h.2) h.5,
         ))
-        (states_and d order s t (IsAwaiting d c goal index)
+        (states_and d order s t (HasRank c goal index)
         (MayLeave d (Answers bs) (within_rank ranked (1 + index)) goal) own leaving id own_is leaving_is is)
 
     pub staying_is : (s t u : Table) (own fair waiting leaving id : NodeId) →
-        IsStates d order s (IsAwaiting d c goal index) own → IsStates d order s (λ st. IsFair d st r.fair) fair →
+        IsStates d order s (HasRank c goal index) own → IsStates d order s (λ st. IsFair d st r.fair) fair →
         IsFunction t waiting (λ v. means s own v && means s fair v) →
         IsStates d order t (MayLeave d (Answers bs) (within_rank ranked index) goal) leaving →
         IsFunction u id (λ v. means t waiting v && means t leaving v) →
         IsStates d order u (IsStaying d bs c goal index) id
     staying_is s t u own fair waiting leaving id own_is fair_is waiting_is leaving_is is =
         states_same d order u
-        (λ st. (IsAwaiting d c goal index st × IsFair d st r.fair)
+        (λ st. (HasRank c goal index st × IsFair d st r.fair)
         × MayLeave d (Answers bs) (within_rank ranked index) goal st) (IsStaying d bs c goal index) id
         (λ st valid h.
-        (ranked, r, are, at, h.0.0.awaits, of_this h.0.0.ranked st h.0.0.are h.0.0.of, h.0.1, h.1))
+        (ranked, r, are, at, of_this h.0.0.ranked st h.0.0.are h.0.0.of, h.0.1, h.1))
         (λ st valid h.
         let same = same_ranked h.0 h.2 in
         let one : Some h.1 ≡ Some r = sym h.3 ∙ ap (λ xs. slice_get xs index) same ∙ at in
         let own_rank : h.1 ≡ r = cc in (
           (
-            record { ranked = h.0; are = h.2; awaits = h.4; of = h.5 },
-            subst (λ (x : RankedSet). IsFair d st x.fair) own_rank h.6,
+            record { ranked = h.0; are = h.2; of = h.4 },
+            subst (λ (x : RankedSet). IsFair d st x.fair) own_rank h.5,
           ),
-          subst (λ (xs : List RankedSet). MayLeave d (Answers bs) (within_rank xs index) goal st) same h.7,
+          subst (λ (xs : List RankedSet). MayLeave d (Answers bs) (within_rank xs index) goal st) same h.6,
         ))
-        (states_and d order t u (λ st. IsAwaiting d c goal index st × IsFair d st r.fair)
+        (states_and d order t u (λ st. HasRank c goal index st × IsFair d st r.fair)
         (MayLeave d (Answers bs) (within_rank ranked index) goal) waiting leaving id
-        (states_and d order s t (IsAwaiting d c goal index) (λ st. IsFair d st r.fair) own fair waiting own_is fair_is
+        (states_and d order s t (HasRank c goal index) (λ st. IsFair d st r.fair) own fair waiting own_is fair_is
         waiting_is) leaving_is is)

@@ -1,27 +1,32 @@
 -- The arguments of a call, one after the other, and in the places of their levels.
 use Rattle.std.proofs.Common.{◌≡◌, ℕ, zero, suc, ◌+◌, ◌^◌, ◌<◌, ◌≤◌, ◌⊎◌, inl, inr, Bool, true, false, cond, eqb}
-use Rattle.std.proofs.Common.{List, [], ◌∷◌, ◌++◌, Vec, None, Some, length, get_or, map, drop, refl, sym, ap, ◌∙◌}
+use Rattle.std.proofs.Common.{List, [], ◌∷◌, ◌++◌, Option, Vec, None, Some, length, get_or, map, drop, refl, sym, ap, ◌∙◌}
 use Rattle.std.proofs.Common.{subst, arith, eqb-true, eq-eqb}
-use Rattle.std.specs.Prelude.{◌&&◌, All, Contains, nat_eq, nat_lt, slice_get, slice_index_or}
+use Rattle.std.specs.Prelude.{◌==◌, ◌&&◌, All, Contains, IsSomeAnd, MatchOption, min, nat_eq, nat_lt, slice_get, slice_index_or, sum}
 use Rattle.std.specs.List.{list_all, range_with_len, zip}
 use Rattle.std.specs.Map.{lookup}
 use Rattle.std.specs.declared.alloc.Global.{Global}
 use Rattle.std.specs.Option.{option_map, option_map_or}
 use Rattle.std.proofs.lemmas.Bool.{cases_lt}
 use Rattle.std.proofs.lemmas.List.{append-nil, append_assoc, drop_all, drop_more, get_or-map, get_or_past}
-use Rattle.std.proofs.lemmas.List.{length-map, map-append}
+use Rattle.std.proofs.lemmas.List.{length-append, length-map, map-append}
 use Rattle.std.proofs.lemmas.List.Elements.{All-append}
-use Rattle.std.proofs.lemmas.List.FromFn.{get_or-map-range_with_len, length-map-range_with_len}
+use Rattle.std.proofs.lemmas.List.FromFn.{get_or-map-range_with_len, get_or-range_with_len, length-map-range_with_len, length-range_with_len}
+use Rattle.std.proofs.lemmas.List.Sums.{sum_by-cons}
 use Rattle.std.proofs.lemmas.Option.{get_or_from_slice_get, slice_get-get_or, slice_get-map, slice_get_within}
-use Rattle.std.proofs.lemmas.Slice.Zip.{AllZip-long}
+use Rattle.std.proofs.lemmas.Slice.Zip.{AllZip-long, AllZip-right}
 use Rattle.tm_check.specs.declared.terms.Reading.{Reading}
 use Rattle.tm_check.specs.Arguments.{AreArguments, IsArgument, placed, values_at}
 use Rattle.tm_check.specs.Reads.{Reads}
 use Rattle.tm_check.specs.Replies.{IsMove, move_of}
 use Rattle.tm_check.proofs.Valued.{order_read, values_along}
-use Rattle.tm_game_bits.specs.AssignedStates.{state_of}
+use Rattle.tm_game_bits.specs.AssignedStates.{numbers_from, state_of}
+use Rattle.tm_game_bits.specs.Inputs.{arguments_at}
 use Rattle.tm_game_bits.proofs.Coded.{is_coding}
+use Rattle.tm_game_bits.proofs.Numbers.{Fits, numbers_agree}
+use Rattle.tm_game_bits.proofs.Tasks.{has_tasks}
 use Rattle.tm_blast.specs.Bits as blasted
+use Rattle.tm_base.specs.Arithmetic.{bit}
 use Rattle.tm_base.specs.Bits.{bits_of}
 use Rattle.tm_cir.specs.Meaning.{num_value}
 use Rattle.tm_cir.specs.Tree.{NumTree, call}
@@ -33,7 +38,8 @@ use Rattle.tm_dd.proofs.CallerLaws.{means-FALSE, means-TRUE}
 use Rattle.tm_ddops.specs.Operation.{substituted}
 use Rattle.tm_flat.specs.declared.flat.Flat.{Flat}
 use Rattle.tm_flat.specs.Flat.{FlatTerms, flat_terms}
-use Rattle.tm_flat.specs.Inputs.{room}
+use Rattle.tm_flat.specs.BitRun.{number_at}
+use Rattle.tm_flat.specs.Inputs.{arguments_from, arguments_in, bits_in, parameter_widths, room}
 use Rattle.tm_flat.specs.IsFlat.{AreWidths}
 use Rattle.tm_flat.specs.Steps.{IsTaskStep}
 use Rattle.tm_game_bits.proofs.Extended.{Knows-Extends}
@@ -43,12 +49,16 @@ use Rattle.tm_game.specs.Game.{GameData, IsOf}
 use Rattle.tm_game.specs.Inner.Called.{have_widths}
 use Rattle.tm_game.specs.Moves.{move_at}
 use Rattle.tm_game.proofs.Calling.{call_given, callable}
+use Rattle.tm_game.proofs.Writing.{each_fits}
 use Rattle.tm_sem.specs.declared.state.Move.{Move}
 use Rattle.tm_sem.specs.declared.state.Move.TheVariants as moves
 use Rattle.tm_sem.specs.State.{StateData}
 use Rattle.tm_sem.specs.StateBits.{bits_of_numbers}
-use Rattle.tm_sem.specs.Step.{IsAllowed}
-use Rattle.tm_syntax.specs.Design.{DesignTree}
+use Rattle.tm_sem.specs.Run.{asked_by}
+use Rattle.tm_sem.specs.Step.{IsAllowed, task_of}
+use Rattle.tm_syntax.specs.Design.{DesignTree, IsDesign}
+use Rattle.tm_syntax.specs.Design.Cells.{Called, Cell}
+use Rattle.tm_syntax.specs.Design.Sizes.{type_bits}
 
 -- whether a number has a width, where they stand side by side
 abbrev pub has_its_width : ℕ × ℕ → Bool
@@ -237,11 +247,10 @@ module _ (s : Table) (first : ℕ) (bits : List NodeId) where
       by rest true is = absurd (omega (arith, eqb-true (first + a) level is))
       by rest false is = rest
 
-  pub part_there : (v : ℕ → Bool) (j : ℕ) → j < 64 →
-      substituted s (parts_from 0 64) v (first + j) ≡ assignment (blasted.values_in s bits v) j
-  part_there v j below =
-      ap (λ o. option_map_or (λ part. means s part v) o (v (first + j)))
-      (found 0 64 j (omega arith) (omega arith))
+  pub part_there : (v : ℕ → Bool) (n j : ℕ) → j < n →
+      substituted s (parts_from 0 n) v (first + j) ≡ assignment (blasted.values_in s bits v) j
+  part_there v n j below =
+      ap (λ o. option_map_or (λ part. means s part v) o (v (first + j))) (found 0 n j (omega arith) (omega arith))
       ∙ by (cases_lt j (length bits))
     where
       by : (j < length bits) ⊎ (length bits ≤ j) → means s (slice_index_or bits j FALSE) v ≡ assignment
@@ -253,28 +262,93 @@ module _ (s : Table) (first : ℕ) (bits : List NodeId) where
           ∙ sym (get_or_past (blasted.values_in s bits v) j false
           (omega (arith, length-map bits (λ (x : NodeId). means s x v))))
 
-  pub none_before : (v : ℕ → Bool) (level : ℕ) → level < first → substituted s (parts_from 0 64) v level ≡ v level
-  none_before v level before =
-      ap (λ o. option_map_or (λ part. means s part v) o (v level)) (missed 0 64 level before)
+  pub none_before : (v : ℕ → Bool) (n level : ℕ) → level < first → substituted s (parts_from 0 n) v level ≡ v level
+  none_before v n level before =
+      ap (λ o. option_map_or (λ part. means s part v) o (v level)) (missed 0 n level before)
 
-  pub parts_known : All (Knows s) bits → (f : NodeId) → Contains (map (λ p. p.1) (parts_from 0 64)) f → Knows s f
-  parts_known known f (k, below, is) =
+  pub parts_known : (n : ℕ) → All (Knows s) bits → (f : NodeId) → Contains (map (λ p. p.1) (parts_from 0 n)) f →
+      Knows s f
+  parts_known n known f (k, below, is) =
       subst (Knows s)
-      (sym (get_or-map (λ (p : ℕ × NodeId). p.1) (parts_from 0 64) k (0, f) f inside
+      (sym (get_or-map (λ (p : ℕ × NodeId). p.1) (parts_from 0 n) k (0, f) f inside
       ∙ ap (λ (p : ℕ × NodeId). p.1)
-      (get_or-map-range_with_len (placed first bits) 0 64 k k (0, f) (omega (arith, inside, long)) (omega arith)))
+      (get_or-map-range_with_len (placed first bits) 0 n k k (0, f) (omega (arith, inside, long)) (omega arith)))
       ∙ is)
       (here (cases_lt k (length bits)))
     where
-      long : length (parts_from 0 64) ≡ 64
-      long = length-map-range_with_len (placed first bits) 0 64
+      long : length (parts_from 0 n) ≡ n
+      long = length-map-range_with_len (placed first bits) 0 n
 
-      inside : k < length (parts_from 0 64)
-      inside = omega (arith, below, length-map (parts_from 0 64) (λ (p : ℕ × NodeId). p.1))
+      inside : k < length (parts_from 0 n)
+      inside = omega (arith, below, length-map (parts_from 0 n) (λ (p : ℕ × NodeId). p.1))
 
       here : (k < length bits) ⊎ (length bits ≤ k) → Knows s (slice_index_or bits k FALSE)
       here (inl there) = known k FALSE there
       here (inr past) = subst (Knows s) (sym (get_or_past bits k FALSE past)) (omega arith)
+
+-- ---- arguments and their bits
+-- arguments are numbers of the widths of their parameters
+arguments_are : (d : DesignTree) (params : List Cell) (bits : ℕ → Bool) (k : ℕ) →
+    arguments_from d params bits k ≡ numbers_from (parameter_widths d params) bits k
+arguments_are d [] bits k = refl
+arguments_are d (c ∷ cs) bits k =
+    ap (λ ns. number_at bits k (type_bits d.spec (asked_by d (Some c))) ∷ ns)
+    (arguments_are d cs bits (k + type_bits d.spec (asked_by d (Some c))))
+
+-- numbers have as many bits as they are wide
+length-bits_of : (w n : ℕ) → length (bits_of w n) ≡ w
+length-bits_of zero n = refl
+length-bits_of (suc w) n = ap suc (length-bits_of w n)
+
+bits_long : (ws ns : List ℕ) → length ws ≡ length ns → length (bits_of_numbers ws ns) ≡ sum ws
+bits_long [] [] long = refl
+bits_long [] (n ∷ ns) long = absurd (omega arith)
+bits_long (w ∷ ws) [] long = absurd (omega arith)
+bits_long (w ∷ ws) (n ∷ ns) long =
+    length-append (bits_of w n) (bits_of_numbers ws ns)
+    ∙ ap (λ k. k + length (bits_of_numbers ws ns)) (length-bits_of w n)
+    ∙ ap (λ k. w + k) (bits_long ws ns (omega arith))
+    ∙ sym (sum_by-cons (λ x. x) w ws)
+
+module _ (d : DesignTree) (order : List ℕ) (n : ℕ) (widths : List ℕ) (design : IsDesign d) (there : n < length d.tasks)
+    (are : AreWidths d n widths) (u w : ℕ → Bool)
+    (same : (j : ℕ) → j < 64 → j < sum widths → u (length order + j) ≡ w (length order + j)) where
+  callee : (c : Called) × (task_of d n ≡ Some c)
+  callee = has_tasks d design n there
+
+  -- one bit of arguments
+  bit_same : (q : ℕ) → q < sum widths → bits_in (arguments_at order u) q ≡ bits_in (arguments_at order w) q
+  unfolding room
+  bit_same q below = by (cases_lt q 64)
+    where
+      by : (q < 64) ⊎ (64 ≤ q) → bits_in (arguments_at order u) q ≡ bits_in (arguments_at order w) q
+      by (inl small) =
+          ap (λ k. k == 1)
+          (get_or-map-range_with_len (λ k. bit (u k)) (length order) 64 q (length order + q) 0 small refl
+          ∙ ap bit (same q small below)
+          ∙ sym (get_or-map-range_with_len (λ k. bit (w k)) (length order) 64 q (length order + q) 0 small refl))
+      by (inr past) =
+          ap (λ k. k == 1)
+          (get_or_past (arguments_at order u) q 0
+          (omega (arith, length-map-range_with_len (λ k. bit (u k)) (length order) 64))
+          ∙ sym (get_or_past (arguments_at order w) q 0
+          (omega (arith, length-map-range_with_len (λ k. bit (w k)) (length order) 64))))
+
+  -- a call is told by the bits of its arguments alone
+  pub call_same : move_at d order (shapes.Call n) u ≡ move_at d order (shapes.Call n) w
+  call_same =
+      ap
+      (λ o. option_map_or (λ (c : Called). moves.Call n (arguments_in d c.params (arguments_at order u))) o moves.Idle)
+      callee.1
+      ∙ ap (moves.Call n)
+      (arguments_are d callee.0.params (bits_in (arguments_at order u)) 0
+      ∙ numbers_agree (parameter_widths d callee.0.params) (bits_in (arguments_at order u))
+      (bits_in (arguments_at order w)) 0
+      (λ q above below. bit_same q (omega (arith, below, ap sum (are callee.0 callee.1))))
+      ∙ sym (arguments_are d callee.0.params (bits_in (arguments_at order w)) 0))
+      ∙ sym (ap
+      (λ o. option_map_or (λ (c : Called). moves.Call n (arguments_in d c.params (arguments_at order w))) o moves.Idle)
+      callee.1)
 
 -- ---- a call
 -- each task has its row of widths, which are few
@@ -300,35 +374,87 @@ widths_narrow d g of task widths there =
     subst (All (λ w. w ≤ 64)) (get_or_from_slice_get g.flat.parameters task widths [] there)
     (of.flat.narrow task [] (slice_get_within g.flat.parameters task widths there))
 
+-- a row of widths is that of its task
+widths_told : (d : DesignTree) (g : GameData) → IsOf d g → (task : ℕ) (widths : List ℕ) →
+    slice_get g.flat.parameters task ≡ Some widths → AreWidths d task widths
+widths_told d g of task widths there =
+    let found : IsSomeAnd (slice_get (range_with_len 0 (length d.tasks)) task) (λ n. AreWidths d n widths) =
+    subst (λ (o : Option (List ℕ)). MatchOption o (Unit {0})
+    (λ ws. IsSomeAnd (slice_get (range_with_len 0 (length d.tasks)) task) (λ n. AreWidths d n ws))) there
+    (AllZip-right (AreWidths d) (range_with_len 0 (length d.tasks)) g.flat.parameters of.flat.parameters task) in
+    let below : task < length d.tasks = omega (
+      arith,
+      slice_get_within g.flat.parameters task widths there,
+      AllZip-long (AreWidths d) (range_with_len 0 (length d.tasks)) g.flat.parameters of.flat.parameters,
+      length-range_with_len 0 (length d.tasks),
+    ) in
+    let same : 0 + task ≡ task = omega arith in
+    let here : slice_get (range_with_len 0 (length d.tasks)) task ≡ Some task =
+    slice_get-get_or (range_with_len 0 (length d.tasks)) task 0
+    (omega (arith, below, length-range_with_len 0 (length d.tasks)))
+    ∙ ap (λ (n : ℕ). Some n) (get_or-range_with_len 0 (length d.tasks) task 0 below ∙ same) in
+    subst (λ (o : Option ℕ). IsSomeAnd o (λ n. AreWidths d n widths)) here found
+
 pub call_is : (d : DesignTree) (g : GameData) (r : Reading) → Reads d g r → (s : Table) (task : ℕ) (widths : List ℕ)
     (nums : List NumTree) (fit : NodeId) (bits : List NodeId) (parts : List (ℕ × NodeId)) →
     task < length g.flat.tasks → slice_get g.flat.parameters task ≡ Some widths →
     AreArguments d g.order s r.goal widths nums fit bits →
-    parts ≡ map (placed (length g.order) bits) (range_with_len 0 64) →
+    parts ≡ map (placed (length g.order) bits) (range_with_len 0 (min (length bits) 64)) →
     IsMove d g.order s (move_of r.goal (call task nums)) (shapes.Call task) fit parts
 call_is d g r is s task widths nums fit bits parts there row are placed_so = record {
   fits_known = are.fits.known;
   parts_known = subst (λ (ps : List (ℕ × NodeId)). (f : NodeId) → Contains (map (λ p. p.1) ps) f → Knows s f)
-      (sym placed_so) (parts_known s (length g.order) bits are.known);
+      (sym placed_so) (parts_known s (length g.order) bits (min (length bits) 64) are.known);
   told = told;
   forbidden = forbidden;
   one_state = λ v.
       (is_coding d g.order is.of.small (order_read d g r is)).same (substituted s parts v) v
       (λ k below.
-      ap (λ ps. substituted s ps v k) placed_so ∙ none_before s (length g.order) bits v k below);
+      ap (λ ps. substituted s ps v k) placed_so
+      ∙ none_before s (length g.order) bits v (min (length bits) 64) k below);
 }
   where
+    worth : (ℕ → Bool) → List ℕ
+    worth v = values_at d g.order r.goal nums v
+
+    -- the same with a part for each level of arguments
+    all_parts : List (ℕ × NodeId)
+    all_parts = map (placed (length g.order) bits) (range_with_len 0 64)
+
+    in_design : task < length d.tasks
+    in_design = omega (
+      arith,
+      there,
+      AllZip-long (IsTaskStep g.terms d) (range_with_len 0 (length d.tasks)) g.flat.tasks
+          is.of.flat.tasks,
+      length-range_with_len 0 (length d.tasks),
+    )
+
     told : (v : ℕ → Bool) → means s fit v ≡ true →
-        move_at d g.order (shapes.Call task) (substituted s parts v)
-        ≡ moves.Call task (values_at d g.order r.goal nums v)
+        move_at d g.order (shapes.Call task) (substituted s parts v) ≡ moves.Call task (worth v)
     told v fits =
-        call_given g.terms d g.flat is.of.flat is.of.room task (values_at d g.order r.goal nums v) is.of.design g.order
-        (substituted s parts v)
-        (record { there = there; widths = widths; are = row; fit = sym (are.fits.meaning v) ∙ fits })
-        (λ j small.
-        ap (λ ps. substituted s ps v (length g.order + j)) placed_so
-        ∙ part_there s (length g.order) bits v j small
-        ∙ ap (λ bs. assignment bs j) (are.are v fits))
+        call_same d g.order task widths is.of.design in_design (widths_told d g is.of task widths row)
+        (substituted s parts v) (substituted s all_parts v) same
+        ∙ call_given g.terms d g.flat is.of.flat is.of.room task (worth v) is.of.design g.order (substituted s all_parts v)
+        (record { there = there; widths = widths; are = row; fit = fit_there })
+        (λ j small. part_there s (length g.order) bits v 64 j small ∙ ap (λ bs. assignment bs j) (are.are v fits))
+      where
+        fit_there : have_widths widths (worth v) ≡ true
+        fit_there = sym (are.fits.meaning v) ∙ fits
+
+        long : length bits ≡ sum widths
+        long =
+            sym (length-map bits (λ (x : NodeId). means s x v))
+            ∙ ap (λ (bs : List Bool). length bs) (are.are v fits)
+            ∙ bits_long widths (worth v)
+            (sym (AllZip-long Fits widths (worth v) (each_fits widths (worth v) fit_there)))
+
+        same : (j : ℕ) → j < 64 → j < sum widths →
+            substituted s parts v (length g.order + j) ≡ substituted s all_parts v (length g.order + j)
+        same j small below =
+            ap (λ ps. substituted s ps v (length g.order + j)) placed_so
+            ∙ part_there s (length g.order) bits v (min (length bits) 64) j (omega (arith, long))
+            ∙ sym (part_there s (length g.order) bits v 64 j small)
 
     forbidden : (v : ℕ → Bool) → means s fit v ≡ false →
         ¬ IsAllowed d (state_of d g.order v) (moves.Call task (values_at d g.order r.goal nums v))

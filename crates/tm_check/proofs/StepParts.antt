@@ -9,11 +9,11 @@ use Rattle.tm_check.proofs.Growth.{sized_kept}
 use Rattle.tm_check.specs.declared.leaving.Leaving.{Leaving}
 use Rattle.tm_check.specs.declared.loaded.DriverDiagrams.{DriverDiagrams}
 use Rattle.tm_check.specs.declared.loaded.RankedDiagrams.{RankedDiagrams}
-use Rattle.tm_check.specs.Leaving.{AreLeaving, IsAwaiting, IsRising, IsRisingBelow, IsStaying, IsStayingBelow}
+use Rattle.tm_check.specs.Leaving.{AreLeaving, HasRank, IsRising, IsRisingBelow, IsStaying, IsStayingBelow}
 use Rattle.tm_check.specs.Loaded.{row_at}
 use Rattle.tm_check.specs.Told.{IsTold}
 use Rattle.tm_check.proofs.Found.{own}
-use Rattle.tm_check.proofs.Parts.{answering_is, awaiting_is, calming_is, ranked_here, rising_is, staying_is}
+use Rattle.tm_check.proofs.Parts.{answering_is, awaiting_is, calming_is, rank_states, ranked_here, rising_is, staying_is}
 use Rattle.tm_check.proofs.States.{states_and, states_none, states_or, states_same}
 use Rattle.tm_check.proofs.Staying.{answered_same, calm_same}
 use Rattle.tm_cir.specs.Answer.{Answers}
@@ -22,7 +22,7 @@ use Rattle.tm_dd.specs.declared.node.NodeId.{NodeId}
 use Rattle.tm_dd.specs.declared.node.TheConstants.{FALSE}
 use Rattle.tm_dd.specs.Table.{means}
 use Rattle.tm_ddops.specs.Manager.{IsFunction}
-use Rattle.tm_verdict.specs.Found.{AnswerKeeps, IsFound, MayLeave, within_rank}
+use Rattle.tm_verdict.specs.Found.{AnswerKeeps, Awaits, IsFound, MayLeave, within_rank}
 use Rattle.tm_game.specs.Game.{AreFairs, AreGoals, GameData, Grows, IsStates, in_set}
 use Rattle.tm_game.proofs.Growing.{grows_none, grows_then, of_kept, states_kept}
 use Rattle.tm_sem.specs.Certificates.{AreRanked, DriverSets, RankedSet}
@@ -74,32 +74,28 @@ module _ (d : DesignTree) (bs : List BlockTree) (c : DriverSets) (told : DriverD
       good_is)) fn)
 
   module _ (goal : ℕ) where
-    -- ---- a rank
-    pub awaiting_found : (g h k l : GameData) (is : IsTold d bs c g told) (there : goal < length told.goals.items) →
-        Grows g h → Grows h k → Grows k l → (index : ℕ) (x : RankedDiagrams) →
-        slice_get (row_at told goal) index ≡ Some x → (holds one two id : NodeId) →
+    -- ---- the states that are asked
+    pub awaiting_found : (g h : GameData) → IsTold d bs c g told → Grows g h → (holds id : NodeId) →
         IsStates d g.order g.diagrams.table (λ s. goal_holds d s goal ≡ true) holds →
-        IsFunction h.diagrams.table one
+        IsFunction h.diagrams.table id
         (λ v. means g.diagrams.table told.region v && not (means g.diagrams.table holds v)) →
-        IsFunction k.diagrams.table two (λ v. means h.diagrams.table one v && means h.diagrams.table x.within v) →
-        IsFunction l.diagrams.table id
-        (λ v. means k.diagrams.table two v && not (means k.diagrams.table x.before v)) →
-        IsStates d l.order l.diagrams.table (IsAwaiting d c goal index) id
-    awaiting_found g h k l is there gh hk kl index x at holds one two id holds_is one_is two_is fn =
+        IsStates d h.order h.diagrams.table (Awaits d c goal) id
+    awaiting_found g h is grows holds id holds_is fn =
+        subst (λ (o : List ℕ). IsStates d o h.diagrams.table (Awaits d c goal) id) (sym grows.order)
+        (awaiting_is d g.order c goal g.diagrams.table h.diagrams.table told.region holds id is.diagrams.region holds_is
+        fn)
+
+    pub rank_found : (g h : GameData) (is : IsTold d bs c g told) (there : goal < length told.goals.items) →
+        Grows g h → (index : ℕ) (x : RankedDiagrams) → slice_get (row_at told goal) index ≡ Some x → (id : NodeId) →
+        IsFunction h.diagrams.table id
+        (λ v. means g.diagrams.table x.set v && not (means g.diagrams.table x.before v)) →
+        IsStates d h.order h.diagrams.table (HasRank c goal index) id
+    rank_found g h is there grows index x at id fn =
         let ranked = ranked_here d bs c g told is goal there in
-        let gk = grows_then g h k gh hk in
-        let gl = grows_then g k l gk kl in
-        let this = own d bs c told g l is gl goal there index x at in
-        subst (λ (o : List ℕ). IsStates d o l.diagrams.table (IsAwaiting d c goal index) id) (sym gl.order)
-        (awaiting_is d bs c g.order goal index ranked.0 this.0 ranked.1 this.1 g.diagrams.table h.diagrams.table
-        k.diagrams.table l.diagrams.table told.region holds x.within x.before one two id is.diagrams.region holds_is
-        one_is
-        (subst (λ (o : List ℕ).
-        IsStates d o h.diagrams.table (λ t. within_rank ranked.0 (1 + index) t ≡ true) x.within) gh.order
-        (states_kept g h gh d (λ t. within_rank ranked.0 (1 + index) t ≡ true) x.within this.2.within)) two_is
-        (subst (λ (o : List ℕ).
-        IsStates d o k.diagrams.table (λ t. within_rank ranked.0 index t ≡ true) x.before) gk.order
-        (states_kept g k gk d (λ t. within_rank ranked.0 index t ≡ true) x.before this.2.before)) fn)
+        let this = own d bs c told g h is grows goal there index x at in
+        subst (λ (o : List ℕ). IsStates d o h.diagrams.table (HasRank c goal index) id) (sym grows.order)
+        (rank_states d bs c g.order goal index ranked.0 this.0 ranked.1 this.1 g.diagrams.table h.diagrams.table x.set
+        x.before id this.2.set this.2.before fn)
 
     -- ---- rank by rank
     module _ (P : ℕ → StateData → Type 0) where
@@ -144,7 +140,7 @@ module _ (d : DesignTree) (bs : List BlockTree) (c : DriverSets) (told : DriverD
         (index : ℕ) (x : RankedDiagrams) (at : slice_get (row_at told goal) index ≡ Some x) where
       pub rising_more : (h k l : GameData) → Grows g h → Grows h k → Grows k l → (own_id leave rising set id : NodeId) →
           slice_get leaving.sets.items (index + 1) ≡ Some leave →
-          IsStates d h.order h.diagrams.table (IsAwaiting d c goal index) own_id →
+          IsStates d h.order h.diagrams.table (HasRank c goal index) own_id →
           IsFunction k.diagrams.table rising
           (λ v. means h.diagrams.table own_id v && means h.diagrams.table leave v) →
           IsFunction l.diagrams.table id (λ v. means k.diagrams.table set v || means k.diagrams.table rising v) →
@@ -166,7 +162,7 @@ module _ (d : DesignTree) (bs : List BlockTree) (c : DriverSets) (told : DriverD
 
       pub staying_more : (h k l m : GameData) → Grows g h → Grows h k → Grows k l → Grows l m →
           (own_id fair waiting leave staying set id : NodeId) → slice_get leaving.sets.items index ≡ Some leave →
-          IsStates d h.order h.diagrams.table (IsAwaiting d c goal index) own_id →
+          IsStates d h.order h.diagrams.table (HasRank c goal index) own_id →
           IsStates d h.order h.diagrams.table (λ s. IsFair d s x.fair) fair →
           IsFunction k.diagrams.table waiting
           (λ v. means h.diagrams.table own_id v && means h.diagrams.table fair v) →
@@ -196,38 +192,58 @@ module _ (d : DesignTree) (bs : List BlockTree) (c : DriverSets) (told : DriverD
           fn
 
     -- ---- all ranks
-    module _ (g h : GameData) (is : IsTold d bs c g told) (there : goal < length told.goals.items) (count : ℕ)
-        (all : length (row_at told goal) ≤ count) (few : count ≤ length (row_at told goal)) (failing : NodeId) where
+    module _ (g : GameData) (is : IsTold d bs c g told) (there : goal < length told.goals.items) (count : ℕ)
+        (all : length (row_at told goal) ≤ count) (few : count ≤ length (row_at told goal)) (h k l : GameData)
+        (hk : Grows h k) (kl : Grows k l) (waiting set failing : NodeId)
+        (waiting_is : IsStates d k.order k.diagrams.table (Awaits d c goal) waiting)
+        (fn : IsFunction l.diagrams.table failing
+        (λ v. means k.diagrams.table waiting v && means k.diagrams.table set v)) where
       same_ranked : (other : List RankedSet) → AreRanked c goal other →
           length other ≡ length (row_at told goal)
       same_ranked other also = sym (is.diagrams.each goal other also).count
 
-      pub rising_found : IsStates d h.order h.diagrams.table (IsRisingBelow d bs c goal count) failing →
-          IsStates d h.order h.diagrams.table (IsFound d (Answers bs) c (never_rises goal)) failing
+      -- the states of a set at which the goal fails
+      both : (P : StateData → Type 0) → IsStates d h.order h.diagrams.table P set →
+          IsStates d l.order l.diagrams.table (λ st. Awaits d c goal st × P st) failing
+      both P set_is =
+          subst (λ (o : List ℕ). IsStates d o l.diagrams.table (λ st. Awaits d c goal st × P st) failing) (sym kl.order)
+          (states_and d k.order k.diagrams.table l.diagrams.table (Awaits d c goal) P waiting set failing waiting_is
+          (states_kept h k hk d P set set_is) fn)
+
+      pub rising_found : IsStates d h.order h.diagrams.table (IsRisingBelow d bs c goal count) set →
+          IsStates d l.order l.diagrams.table (IsFound d (Answers bs) c (never_rises goal)) failing
       rising_found found =
-          states_same d h.order h.diagrams.table (IsRisingBelow d bs c goal count)
+          states_same d l.order l.diagrams.table (λ st. Awaits d c goal st × IsRisingBelow d bs c goal count st)
           (IsFound d (Answers bs) c (never_rises goal)) failing
-          (λ st valid r.
-          (r.2.0, r.0, r.2.2, slice_get_within r.2.0 r.0 r.2.1 r.2.3, r.2.4, r.2.5, r.2.6))
+          (λ st valid h.
+          let r = h.1 in
+          (r.2.0, r.0, r.2.2, slice_get_within r.2.0 r.0 r.2.1 r.2.3, h.0, r.2.4, r.2.5))
           (λ st valid r.
           let spare : RankedSet = record { fair = 0; set = λ s. true } in (
-            r.1,
-            omega (arith, r.3, same_ranked r.0 r.2),
-            (r.0, get_or r.0 r.1 spare, r.2, slice_get-get_or r.0 r.1 spare r.3, r.4, r.5, r.6),
-          )) found
+            r.4,
+            (
+              r.1,
+              omega (arith, r.3, same_ranked r.0 r.2),
+              (r.0, get_or r.0 r.1 spare, r.2, slice_get-get_or r.0 r.1 spare r.3, r.5, r.6),
+            ),
+          )) (both (IsRisingBelow d bs c goal count) found)
 
-      pub staying_found : IsStates d h.order h.diagrams.table (IsStayingBelow d bs c goal count) failing →
-          IsStates d h.order h.diagrams.table (IsFound d (Answers bs) c (falls_when_fair goal)) failing
+      pub staying_found : IsStates d h.order h.diagrams.table (IsStayingBelow d bs c goal count) set →
+          IsStates d l.order l.diagrams.table (IsFound d (Answers bs) c (falls_when_fair goal)) failing
       staying_found found =
-          states_same d h.order h.diagrams.table (IsStayingBelow d bs c goal count)
+          states_same d l.order l.diagrams.table (λ st. Awaits d c goal st × IsStayingBelow d bs c goal count st)
           (IsFound d (Answers bs) c (falls_when_fair goal)) failing
-          (λ st valid r.
-          (r.2.0, r.0, r.2.1, r.2.2, r.2.3, r.2.4, r.2.5, r.2.6, r.2.7))
+          (λ st valid h.
+          let r = h.1 in
+          (r.2.0, r.0, r.2.1, r.2.2, r.2.3, h.0, r.2.4, r.2.5, r.2.6))
           (λ st valid r. (
-            r.1,
-            omega (arith, slice_get_within r.0 r.1 r.2 r.4, same_ranked r.0 r.3),
-            (r.0, r.2, r.3, r.4, r.5, r.6, r.7, r.8),
-          )) found
+            r.5,
+            (
+              r.1,
+              omega (arith, slice_get_within r.0 r.1 r.2 r.4, same_ranked r.0 r.3),
+              (r.0, r.2, r.3, r.4, r.6, r.7, r.8),
+            ),
+          )) (both (IsStayingBelow d bs c goal count) found)
 
 -- ---- the sets that a game keeps
 pub goal_states : (d : DesignTree) (g : GameData) → AreGoals d g → (ids : List NodeId) → ids ≡ g.goals → (goal : ℕ) →

@@ -10,7 +10,7 @@ use Rattle.tm_cir.specs.Answer.{Answers}
 use Rattle.tm_cir.specs.Fit.{FitBlocks}
 use Rattle.tm_cir.specs.Tree.{BlockTree}
 use Rattle.tm_dd.specs.declared.node.NodeId.{NodeId}
-use Rattle.tm_verdict.specs.Found.{Awaits, IsOfRank, MayLeave, within_rank}
+use Rattle.tm_verdict.specs.Found.{IsOfRank, MayLeave, within_rank}
 use Rattle.tm_verdict.specs.Regular.{IsRegular}
 use Rattle.tm_game.specs.Game.{GameData, IsOf, IsStates}
 use Rattle.tm_sem.specs.Certificates.{AreRanked, DriverSets, RankedSet}
@@ -56,25 +56,23 @@ abbrev pub HasLeaving : GameData → DriverDiagrams → List Leaving → Type 0
 HasLeaving g told all =
     (d : DesignTree) × (bs : List BlockTree) × (c : DriverSets) × IsTold d bs c g told × AreLeaving d bs c g all
 
--- the states of the region at which a goal fails that have a rank for it
-pub record IsAwaiting (d : DesignTree) (c : DriverSets) (goal index : ℕ) (s : StateData) : Type 0 where
+-- the states that have a rank for a goal
+pub record HasRank (c : DriverSets) (goal index : ℕ) (s : StateData) : Type 0 where
   pub ranked : List RankedSet
   pub are : AreRanked c goal ranked
-  pub awaits : Awaits d c goal s
   pub of : IsOfRank ranked index s
 
 -- those from which some step ends at a higher rank
 abbrev pub IsRising : DesignTree → List BlockTree → DriverSets → ℕ → ℕ → StateData → Type 0
 IsRising d bs c goal index s =
     (ranked : List RankedSet) × (r : RankedSet) × AreRanked c goal ranked × (slice_get ranked index ≡ Some r)
-    × Awaits d c goal s × IsOfRank ranked index s × MayLeave d (Answers bs) (within_rank ranked (1 + index)) goal s
+    × IsOfRank ranked index s × MayLeave d (Answers bs) (within_rank ranked (1 + index)) goal s
 
 -- those whose fairness condition holds and from which some step ends at no lower rank
 abbrev pub IsStaying : DesignTree → List BlockTree → DriverSets → ℕ → ℕ → StateData → Type 0
 IsStaying d bs c goal index s =
     (ranked : List RankedSet) × (r : RankedSet) × AreRanked c goal ranked × (slice_get ranked index ≡ Some r)
-    × Awaits d c goal s × IsOfRank ranked index s × IsFair d s r.fair
-    × MayLeave d (Answers bs) (within_rank ranked index) goal s
+    × IsOfRank ranked index s × IsFair d s r.fair × MayLeave d (Answers bs) (within_rank ranked index) goal s
 
 -- the rising states of the first ranks
 abbrev pub IsRisingBelow : DesignTree → List BlockTree → DriverSets → ℕ → ℕ → StateData → Type 0

@@ -1,6 +1,6 @@
 //! A driver's calls, with their arguments in the places of the levels of arguments.
 ghost use Rattle.std.specs.List.{range_with_len};
-ghost use Rattle.std.specs.Prelude.{◌≡◌, ◌+◌, ◌<◌, ◌^◌, All, IfOk, length, map, slice_index_or};
+ghost use Rattle.std.specs.Prelude.{◌≡◌, ◌+◌, ◌<◌, ◌^◌, All, IfOk, length, map, min};
 ghost use Rattle.tm_check.specs.Arguments.{placed};
 ghost use Rattle.tm_check.specs.Reads.{Reads};
 ghost use Rattle.tm_check.specs.Replies.{IsMove, move_of};
@@ -14,7 +14,7 @@ use crate::arguments::read_arguments;
 use crate::terms::Reading;
 use std::alloc::{AllocError, Global};
 use tm_cir::Num64;
-use tm_dd::{FALSE, NodeId};
+use tm_dd::NodeId;
 use tm_game::{Game, MoveShape};
 use tm_game_bits::ROOM;
 
@@ -53,25 +53,16 @@ pub(crate) fn call(
     })
 }
 
-// The bits of arguments in the places of their levels, from the first on; those behind them are false.
+// The bits of arguments in the places of their levels, from the first on.
 fn places(alloc: Global, first: u32, bits: &[NodeId]) -> Result<Vec<(u32, NodeId)>, AllocError>
     requires { first + 64 < 2 ^ 32 }
-    ensures { IfOk result (λ parts. parts.items ≡ map (placed first bits.now) (range_with_len 0 64)) }
+    ensures { IfOk result (λ parts. parts.items
+        ≡ map (placed first bits.now) (range_with_len 0 (min (length bits.now) 64))) }
 {
+    let count = bits.len().min(ROOM as usize);
     let mut parts = Vec::new(alloc);
-    for index in 0..ROOM {
-        parts.push((first + index, bit_at(bits, index as usize)))?;
+    for index in 0..count {
+        parts.push((first + index as u32, bits[index]))?;
     }
     Ok(parts)
-}
-
-// A bit of some, where one that is not there is false.
-fn bit_at(bits: &[NodeId], index: usize) -> NodeId
-    ensures { result ≡ slice_index_or bits.now index FALSE }
-{
-    if index < bits.len() {
-        bits[index]
-    } else {
-        FALSE
-    }
 }

@@ -1,7 +1,7 @@
 //! The conditions on steps: C3 to C6.
 ghost use Rattle.std.specs.Prelude.{◌<◌, ◌∷◌, [], IfOk, List, length, map};
 ghost use Rattle.tm_check.specs.Leaving.{AddsRising, AddsStaying, AreAnswers, AreLeaving, HasAnswers, HasLeaving};
-ghost use Rattle.tm_check.specs.Leaving.{IsAwaiting};
+ghost use Rattle.tm_check.specs.Leaving.{HasRank};
 ghost use Rattle.tm_check.specs.Loaded.{row_at};
 ghost use Rattle.tm_check.specs.Told.{HasTold, IsTold};
 ghost use Rattle.tm_check.specs.Tried.{AreTried, HavePassed};
@@ -12,6 +12,7 @@ ghost use Rattle.tm_game.specs.Game.{Grows, IsStates};
 ghost use Rattle.tm_sem.specs.Certificates.{DriverSets};
 ghost use Rattle.tm_syntax.specs.Design.{DesignTree};
 ghost use Rattle.tm_verdict.specs.Driver.{falls_when_fair, goals_of, is_answered, is_calm, never_rises};
+ghost use Rattle.tm_verdict.specs.Found.{Awaits};
 
 use crate::leaving::Leaving;
 use crate::loaded::{DriverDiagrams, rank_count, ranked_at};
@@ -128,11 +129,13 @@ fn goal_rising(
         → AreLeaving d bs c game.old leaving.now → HavePassed d (Answers bs) c
         → AreTried d (Answers bs) c (never_rises goal ∷ []) verdict) }
 {
-    let mut failing = FALSE;
+    let mut rising = FALSE;
     let count = rank_count(told, goal);
     for index in 0..count {
-        failing = rises_at(game, told, leaving, goal, index, failing)?;
+        rising = rises_at(game, told, leaving, goal, index, rising)?;
     }
+    let waiting = awaiting(game, told, goal)?;
+    let failing = game.and(waiting, rising)?;
     let verdict = try_part(game, 5, goal as u32, failing)?;
     Ok(verdict)
 }
@@ -206,11 +209,13 @@ fn goal_falling(
         → AreLeaving d bs c game.old leaving.now → HavePassed d (Answers bs) c
         → AreTried d (Answers bs) c (falls_when_fair goal ∷ []) verdict) }
 {
-    let mut failing = FALSE;
+    let mut staying = FALSE;
     let count = rank_count(told, goal);
     for index in 0..count {
-        failing = stays_at(game, told, leaving, goal, index, failing)?;
+        staying = stays_at(game, told, leaving, goal, index, staying)?;
     }
+    let waiting = awaiting(game, told, goal)?;
+    let failing = game.and(waiting, staying)?;
     let verdict = try_part(game, 6, goal as u32, failing)?;
     Ok(verdict)
 }
@@ -246,7 +251,7 @@ fn stays_at(
     Ok(all)
 }
 
-// The states of the region at which a goal fails that have a rank for it.
+// The states that have a rank. They were asked for where it was tried whether the rank adds one, and are remembered.
 fn of_rank(
     game: &mut Game,
     told: &DriverDiagrams,
@@ -260,12 +265,24 @@ fn of_rank(
     ensures grows { Grows game.old game.new }
     ensures states { IfOk result (λ id. (d : DesignTree) (bs : List BlockTree) (c : DriverSets)
         → IsTold d bs c game.old told.now
-        → IsStates d game.new.order game.new.diagrams.table (IsAwaiting d c goal index) id) }
+        → IsStates d game.new.order game.new.diagrams.table (HasRank c goal index) id) }
+{
+    let rank = ranked_at(told, goal, index);
+    let own = without(game, rank.set, rank.before)?;
+    Ok(own)
+}
+
+// The states of the region at which a goal fails.
+fn awaiting(game: &mut Game, told: &DriverDiagrams, goal: usize) -> Result<NodeId, AllocError>
+    requires told { HasTold game.old told.now }
+    requires goal { goal < length told.now.goals.items }
+
+    ensures grows { Grows game.old game.new }
+    ensures states { IfOk result (λ id. (d : DesignTree) (bs : List BlockTree) (c : DriverSets)
+        → IsTold d bs c game.old told.now
+        → IsStates d game.new.order game.new.diagrams.table (Awaits d c goal) id) }
 {
     let holds = game.goals()[goal];
     let awaiting = without(game, told.region, holds)?;
-    let rank = ranked_at(told, goal, index);
-    let within = game.and(awaiting, rank.within)?;
-    let own = without(game, within, rank.before)?;
-    Ok(own)
+    Ok(awaiting)
 }

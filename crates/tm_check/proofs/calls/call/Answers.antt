@@ -1,5 +1,5 @@
 use Rattle.std.proofs.Common.{ℕ, ◌<◌, ◌≤◌, List, Vec, length, map, sym, ap, ◌∙◌, subst, arith}
-use Rattle.std.specs.Prelude.{All}
+use Rattle.std.specs.Prelude.{All, min}
 use Rattle.std.specs.List.{range_with_len}
 use Rattle.std.specs.declared.alloc.Global.{Global}
 use Rattle.std.proofs.lemmas.List.{length-map}
@@ -52,4 +52,5 @@ returns-clause-call c = λ d is.
     c.args.reading.goal widths (map num_tree c.args.args.now) c.in_ok-given.given.fit c.in_ok-given.given.bits.items)
     c.deref.ensures.value (c.in_ok-given.ensures.are d is))
     (c.in_ok-parts.ensures
-    ∙ (λ i. map (placed (length (c.order.ensures.value i)) (c.deref-2.ensures.value i)) (range_with_len 0 64)))
+    ∙ (λ i. map (placed (length (c.order.ensures.value i)) (c.deref-2.ensures.value i))
+    (range_with_len 0 (min (length (c.deref-2.ensures.value i)) 64))))

@@ -11,8 +11,8 @@ use Rattle.tm_check.proofs.steps.goal_rising.Given as goal
 abbrev pub invariant-loop-index : goal.invariant-loop-index
 invariant-loop-index l = record {
   grows : Grows l.fn.game l.game;
-  known : Knows l.game.diagrams.table l.failing;
+  known : Knows l.game.diagrams.table l.rising;
   states : (d : DesignTree) (bs : List BlockTree) (c : DriverSets) → IsTold d bs c l.fn.game l.told →
       AreLeaving d bs c l.fn.game l.leaving →
-      IsStates d l.game.order l.game.diagrams.table (IsRisingBelow d bs c l.goal l.index) l.failing;
+      IsStates d l.game.order l.game.diagrams.table (IsRisingBelow d bs c l.goal l.index) l.rising;
 }
