@@ -1,8 +1,7 @@
 -- One round, or the safe states, of iterates from which a solution may go on.
-use Rattle.std.proofs.Common.{◌≡◌, ◌≢◌, ℕ, ◌<◌, List, [], map, sym, subst}
+use Rattle.std.proofs.Common.{◌≡◌, ◌≢◌, ◌<◌, List, sym, subst}
 use Rattle.tm_dd.specs.declared.node.NodeId.{NodeId}
 use Rattle.tm_solve.specs.declared.iterates.Iterates.{Iterates}
-use Rattle.tm_solve.specs.declared.iterates.LevelSet.{LevelSet}
 use Rattle.tm_solve.specs.declared.rounds.Remaining.{Remaining}
 use Rattle.tm_solve.specs.Sets.{count}
 use Rattle.tm_solve.specs.Game.{Game, IsMonotone, IsAbsorbing}

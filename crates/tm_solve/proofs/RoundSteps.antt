@@ -17,7 +17,7 @@ use Rattle.tm_solve.specs.Levels.{AreLinks, last_link, ChainFits, IsLevel, AreLe
 use Rattle.tm_solve.specs.Iterates.{Each, KnowsChain, KnowsRanks, KnowsLevel, chain_sets, ranked_sets, level_of}
 use Rattle.tm_solve.specs.Inner.Goals.{LeadsOut, LeadOut, IsReached}
 use Rattle.tm_solve.specs.Inner.Rounds.{IsLeveled, AddsLevel, RanksReach, AreReached, RoundSoFar, IsRemaining}
-use Rattle.tm_solve.proofs.Sets.{within_here, within_then, same_then, same_back, same_within, outside_within, outside_same, outside_twice, not_true, not_false}
+use Rattle.tm_solve.proofs.Sets.{within_then, same_then, same_back, same_within, outside_within, outside_same, outside_twice, not_true, not_false}
 use Rattle.tm_solve.proofs.Following.{other_gains, extends_then, is_at}
 use Rattle.tm_solve.proofs.Items.{map_more, each_more, length_more, length_mapped, seen_more}
 use Rattle.tm_solve.proofs.Views.{chains_stay, chains_known, ranks_stay, ranks_known, rankings_stay, rankings_known, levels_stay, levels_known}

@@ -124,16 +124,7 @@ module _ (g : Game) (mono : IsMonotone g) (absorb : IsAbsorbing g) (z : StateSet
           (and_left (g.part z (kept_in g z) stay.set 0 i t) (z t) here))
           (and_right (g.part z (kept_in g z) stay.set 0 i t) (z t) here)
 
--- of what is left: nothing was removed, or one step went before another
-pub keeps_self : {g : Game} {ids : Ids} {z : NodeId} {levels : List LevelSet} → ids.knows z →
-    Keeps g ids ids z z levels levels
-keeps_self known = record {
-  known = known;
-  falls = within_here _ _;
-  region = λ far. far;
-  leveled = λ levels. levels;
-}
-
+-- what was left is left still, and one step goes on from another
 pub keeps_stays : {g : Game} {a b c : Ids} {start z : NodeId} {old new : List LevelSet} → Extends b c → b.knows z →
     Keeps g a b start z old new → Keeps g a c start z old new
 keeps_stays {g = g} {a = a} {b = b} {c = c} {start = start} {z = z} {old = old} {new = new} bc known keeps = record {

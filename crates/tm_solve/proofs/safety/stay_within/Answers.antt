@@ -1,6 +1,6 @@
 use Rattle.tm_solve.proofs.Following.{follows_then, is_at, is_kept, told_same, told_other}
 use Rattle.tm_solve.proofs.RoundSteps.{removed_at}
-use Rattle.tm_solve.proofs.SafetySteps.{kept_at, keeps_self, keeps_stays, keeps_then, kept_shrinks, same_safe, turn_keeps}
+use Rattle.tm_solve.proofs.SafetySteps.{kept_at, keeps_stays, keeps_then, kept_shrinks, same_safe, turn_keeps}
 use Rattle.tm_solve.proofs.safety.stay_within.Goals as goal
 
 pub returns-then-same-clause-safe : goal.returns-then-same-clause-safe
