@@ -226,14 +226,6 @@ module _ {d : DesignTree} {op : Operator} {g : Game} (exact : IsGameOf d op g) w
         environment_takes exact predicates ps cells others meets unions s among meets.e1.2.1
         (region.only s among (all s meets.e1.1).1))
 
--- of another design of the game
-pub carried_other : (d d' : DesignTree) (op op' : Operator) (g : Game) → IsGameOf d op g → IsGameOf d' op' g →
-    (predicates predicates' : List Predicate) (ps : List StateSet) → TellCells d predicates ps →
-    TellCells d' predicates' ps → (a : Ids) (it : Iterates) → IsCarried d predicates g a it →
-    IsCarried d' predicates' g a it
-carried_other d d' op op' g exact exact' predicates predicates' ps cells cells' a it is =
-    from_side exact' predicates' ps cells' [] a it ps cells' true (to_side exact predicates ps cells [] a it is)
-
 -- ---- over prefixes of the additions
 module _ {d : DesignTree} {op : Operator} {g : Game} (exact : IsGameOf d op g) (first : ℕ) (a : Ids) (it : Iterates)
   where

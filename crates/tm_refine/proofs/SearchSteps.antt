@@ -32,9 +32,6 @@ stay_then d e = record {
   of = λ design is. e.of design (d.of design is);
 }
 
-pub stay_self : {a : Ids} → Stay a a
-stay_self = record { known = λ id known. known; same = λ id known. refl; of = λ design is. is }
-
 pub stay_of : {g h : Game} {a b : Ids} → Follows g a h b → Stay a b
 stay_of f = record { known = f.extends.known; same = f.extends.same; of = f.extends.of }
 

@@ -16,7 +16,7 @@ use crate::arena::Arena;
 use crate::sided::Sided;
 use std::alloc::{AllocError, Global};
 use tm_dd::NodeId;
-use tm_solve::{Iterates, advance, same, solve_from};
+use tm_solve::{Iterates, advance, keep_safe, same, solve_from};
 
 // Solves over the lower parts, from the lower part of the exact region.
 pub(crate) fn solve_lower_in<A: Arena>(
@@ -66,8 +66,8 @@ fn solve_lower_from<A: Arena>(
     solve_from(alloc, sided, start)
 }
 
-// Solves over the upper parts, from where a solution over fewer cells was left, until an initial state is lost or no
-// more states are. So either the levels are a certificate, or no levels over these cells are.
+// Solves over the upper parts, from the safe states of what a solution over fewer cells left, until an initial state is
+// lost or no more states are. So either the levels are a certificate, or no levels over these cells are.
 pub(crate) fn solve_upper<A: Arena>(
     alloc: Global,
     sided: &mut Sided<A>,
@@ -88,7 +88,8 @@ pub(crate) fn solve_upper<A: Arena>(
     ensures stay { Stay (A.ids sided.old.arena) (A.ids sided.new.arena) }
 {
     sided.upper = true;
-    let mut far = begun;
+    let safe = keep_safe(alloc, sided, begun)?;
+    let mut far = safe;
     'rounds: loop {
         if sided.arena.leaves_out(far.region)? {
             return Ok(far);

@@ -10,6 +10,7 @@ pub mod Operators
 pub mod RankCertificates
 mod ReachSteps
 mod RoundSteps
+mod SafetySteps
 pub mod Sets
 pub mod Siding
 pub mod SolveSteps

@@ -15,9 +15,9 @@ use Rattle.tm_solve.specs.Ids.{Ids, Is, IsExact, Extends}
 use Rattle.tm_solve.specs.Fixpoints.{InReach, Holds}
 use Rattle.tm_solve.specs.Levels.{AreLinks, last_link, ChainFits, IsLevel, AreLevels, last_of_levels}
 use Rattle.tm_solve.specs.Iterates.{Each, KnowsChain, KnowsRanks, KnowsLevel, chain_sets, ranked_sets, level_of}
-use Rattle.tm_solve.specs.Inner.Goals.{LeadsOut, IsReached}
+use Rattle.tm_solve.specs.Inner.Goals.{LeadsOut, LeadOut, IsReached}
 use Rattle.tm_solve.specs.Inner.Rounds.{IsLeveled, AddsLevel, RanksReach, AreReached, RoundSoFar, IsRemaining}
-use Rattle.tm_solve.proofs.Sets.{within_here, within_then, same_then, same_back, same_within, outside_within, outside_same, outside_twice, not_true, not_false}
+use Rattle.tm_solve.proofs.Sets.{within_then, same_then, same_back, same_within, outside_within, outside_same, outside_twice, not_true, not_false}
 use Rattle.tm_solve.proofs.Following.{other_gains, extends_then, is_at}
 use Rattle.tm_solve.proofs.Items.{map_more, each_more, length_more, length_mapped, seen_more}
 use Rattle.tm_solve.proofs.Views.{chains_stay, chains_known, ranks_stay, ranks_known, rankings_stay, rankings_known, levels_stay, levels_known}
@@ -136,6 +136,19 @@ last_level_more : (before : StateSet) (ls : List Level) (l : Level) → last_of_
 last_level_more before [] l = refl
 last_level_more before (k ∷ ks) l = last_level_more k.set ks l
 
+-- levels stay where ids do
+pub leveled_stays : {g : Game} {a c : Ids} (region : NodeId) (items : List LevelSet) → Extends a c → a.knows region →
+    IsLeveled g a region items → IsLeveled g c region items
+leveled_stays {g = g} {a = a} {c = c} region items ac known leveled = record {
+  known = levels_known ac items leveled.known;
+  levels = subst (λ (l : List Level). AreLevels g nowhere l) (sym (levels_stay ac items leveled.known))
+      leveled.levels;
+  last = subst (λ (m : StateSet). IsSame g.states (last_of_levels nowhere (map (level_of c) items)) (outside m))
+      (sym (ac.same region known))
+      (subst (λ (l : List Level). IsSame g.states (last_of_levels nowhere l) (outside (a.means region)))
+      (sym (levels_stay ac items leveled.known)) leveled.last);
+}
+
 module _ (g : Game) (mono : IsMonotone g) (z : StateSet) (j : ℕ) where
   -- a chain of a goal's last turn fits a level that the goal removes
   chain_fits : (before y region left : StateSet) (i : ℕ) (l : Level) (chain : List StateSet) →
@@ -176,23 +189,18 @@ module _ (g : Game) (mono : IsMonotone g) (z : StateSet) (j : ℕ) where
       held false e = sym e
 
   -- the levels stay where a goal loses no state, and else there is one more
-  pub level_added : {a b c : Ids} (region left : NodeId) (r : Reached) (old new : List LevelSet) → j < g.goals →
-      RoundSoFar (narrowed g z) a z j region → IsLeveled g a region old → IsReached (narrowed g z) b z j r →
-      Extends a b → Extends b c → IsExact g.states c → Is g.states c left (λ s. b.means region s && b.means r.set s) →
-      AddsLevel g.states c region j r.chains.items left old new → IsLeveled g c left new
-  level_added {a = a} {b = b} {c = c} region left r old new below far leveled reached ab bc exact is (inl same) =
-      let ac : Extends a c = extends_then ab bc in
+  pub level_added : {a b c : Ids} (region left set : NodeId) (chains : List Chain) (old new : List LevelSet) →
+      j < g.goals → a.knows region → IsWithin g.states (a.means region) z → IsLeveled g a region old →
+      LeadOut (narrowed g z) b z (b.means set) j chains → Extends a b → Extends b c → IsExact g.states c →
+      Is g.states c left (λ s. b.means region s && b.means set s) → AddsLevel g.states c region j chains left old new →
+      IsLeveled g c left new
+  level_added {a = a} {b = b} {c = c} region left set chains old new below known in_z leveled out ab bc exact is
+      (inl same) =
       subst (λ (l : List LevelSet). IsLeveled g c left l) (sym same.1)
-      (subst (λ (id : NodeId). IsLeveled g c id old) (sym same.0) (record {
-        known = levels_known ac old leveled.known;
-        levels = subst (λ (l : List Level). AreLevels g nowhere l) (sym (levels_stay ac old leveled.known))
-            leveled.levels;
-        last = subst (λ (m : StateSet). IsSame g.states (last_of_levels nowhere (map (level_of c) old)) (outside m))
-            (sym (ac.same region far.known))
-            (subst (λ (l : List Level). IsSame g.states (last_of_levels nowhere l) (outside (a.means region)))
-            (sym (levels_stay ac old leveled.known)) leveled.last);
-      }))
-  level_added {a = a} {b = b} {c = c} region left r old new below far leveled reached ab bc exact is (inr more) =
+      (subst (λ (id : NodeId). IsLeveled g c id old) (sym same.0)
+      (leveled_stays region old (extends_then ab bc) known leveled))
+  level_added {a = a} {b = b} {c = c} region left set chains old new below known in_z leveled out ab bc exact is
+      (inr more) =
       let ac : Extends a c = extends_then ab bc in
       let l : LevelSet = more.1 in
       let removed = more.2 in
@@ -201,48 +209,47 @@ module _ (g : Game) (mono : IsMonotone g) (z : StateSet) (j : ℕ) where
       map_more (level_of c) old l ∙ ap (λ m. m ++ level_of c l ∷ []) (levels_stay ac old leveled.known) in
       let R : StateSet = a.means region in
       let L : StateSet = c.means left in
-      let Y : StateSet = b.means r.set in
+      let Y : StateSet = b.means set in
       let is_left : (s : StateData) → IsAmong s g.states → L s ≡ (R s && Y s) = λ s among.
-      is.means.same s among ∙ ap (λ (m : StateSet). m s && Y s) (ab.same region far.known) in
+      is.means.same s among ∙ ap (λ (m : StateSet). m s && Y s) (ab.same region known) in
       let in_region : IsWithin g.states L R =
       record { within = λ s among here. and_left _ _ (sym (is_left s among) ∙ here) } in
       let in_y : IsWithin g.states L Y =
       record { within = λ s among here. and_right _ _ (sym (is_left s among) ∙ here) } in
       let in_region_c : IsWithin g.states L (c.means region) =
-      subst (λ (m : StateSet). IsWithin g.states L m) (sym (ac.same region far.known)) in_region in
+      subst (λ (m : StateSet). IsWithin g.states L m) (sym (ac.same region known)) in_region in
       let lost : Gains g.states L (c.means region) =
-      other_gains left region exact is.known (ac.known region far.known) more.0 in_region_c in
+      other_gains left region exact is.known (ac.known region known) more.0 in_region_c in
       let last : StateSet = last_of_levels nowhere seen in
       let same_set : IsSame g.states (c.means l.set) (outside L) = removed.set.means in
       let gains : Gains g.states last (c.means l.set) = record {
         state = lost.state;
         listed = lost.listed;
         without_it = leveled.last.same lost.state lost.listed
-            ∙ ap not (subst (λ (m : StateSet). m lost.state ≡ true) (ac.same region far.known) lost.with_it);
+            ∙ ap not (subst (λ (m : StateSet). m lost.state ≡ true) (ac.same region known) lost.with_it);
         with_it = same_set.same lost.state lost.listed ∙ not_true _ lost.without_it;
       } in
       let gone : (s : StateData) → IsAmong s g.states → R s ≡ true → L s ≡ false → Y s ≡ false = λ s among inside out.
       second (R s) (Y s) (sym (is_left s among) ∙ out) inside in
-      let in_z : IsWithin g.states R z = record { within = λ s among here. (far.set.only s among here).0 } in
-      let chains_are : l.chains.items ≡ r.chains.items = removed.keeps in
-      let seen_chains : map (chain_sets c) l.chains.items ≡ map (chain_sets b) r.chains.items =
-      ap (map (chain_sets c)) chains_are ∙ chains_stay bc r.chains.items reached.chains.known in
+      let chains_are : l.chains.items ≡ chains = removed.keeps in
+      let seen_chains : map (chain_sets c) l.chains.items ≡ map (chain_sets b) chains =
+      ap (map (chain_sets c)) chains_are ∙ chains_stay bc chains out.known in
       let is_level : IsLevel g last (level_of c l) = record {
         goal = subst (λ (n : ℕ). n < g.goals) (sym removed.for_goal) below;
         grows = within_then (same_within leveled.last)
             (within_then (outside_within in_region) (same_within (same_back same_set)));
         gains = gains;
-        count = length_mapped (chain_sets c) l.chains.items ∙ ap length chains_are ∙ reached.chains.many;
+        count = length_mapped (chain_sets c) l.chains.items ∙ ap length chains_are ∙ out.many;
         chains = λ i chain got. chain_fits last Y R L i (level_of c l) chain leveled.last same_set removed.for_goal
             in_z in_y
-            gone gains (reached.chains.each i chain
+            gone gains (out.each i chain
             (subst (λ (m : List (List StateSet)). slice_get m i ≡ Some chain) seen_chains got));
       } in
       subst (λ (m : List LevelSet). IsLeveled g c left m) (sym more.3) (record {
         known = each_more (KnowsLevel c) old l (levels_known ac old leveled.known) (
           removed.set.known,
           subst (λ (m : List Chain). Each (KnowsChain c) m) (sym chains_are)
-              (chains_known bc r.chains.items reached.chains.known),
+              (chains_known bc chains out.known),
         );
         levels = subst (λ (m : List Level). AreLevels g nowhere m) (sym e)
             (levels_more g nowhere seen (level_of c l) leveled.levels is_level);

@@ -1,4 +1,5 @@
 pub mod Goals
 pub mod Rounds
+pub mod Safety
 pub mod Turns
 pub mod Waits

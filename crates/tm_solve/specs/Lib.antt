@@ -10,5 +10,6 @@ pub mod Narrowed
 pub mod Operator
 pub mod OperatorLaws
 pub mod Ranks
+pub mod Safety
 pub mod Sets
 pub mod Sides

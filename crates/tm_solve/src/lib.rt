@@ -10,6 +10,7 @@ mod ids;
 mod iterates;
 mod pre;
 mod rounds;
+mod safety;
 mod solving;
 mod turns;
 
@@ -20,4 +21,5 @@ pub use copying::copied;
 pub use ids::same;
 pub use iterates::{Chain, Iterates, LevelSet, RankSet, Ranking};
 pub use pre::Pre;
+pub use safety::keep_safe;
 pub use solving::{advance, solve, solve_from};

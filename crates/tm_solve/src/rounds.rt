@@ -45,7 +45,7 @@ pub(crate) fn play_round<P: Pre>(
 }
 
 // The states of two sets. Where the first has others, all that is outside is a level.
-fn remove<P: Pre>(
+pub(crate) fn remove<P: Pre>(
     pre: &mut P,
     levels: &mut Vec<LevelSet>,
     region: NodeId,

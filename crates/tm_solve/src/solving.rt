@@ -13,11 +13,13 @@ use crate::ids::same;
 use crate::iterates::Iterates;
 use crate::pre::Pre;
 use crate::rounds::play_round;
+use crate::safety::safe_states;
 use std::alloc::{AllocError, Global};
 use tm_dd::NodeId;
 
 /// The winning region of a GR(1) game, nu Z . AND_j mu Y . OR_i nu X . part(Z, Y, X, j, i) (Piterman, Pnueli and Sa'ar
-/// 2006), with ranked sets that lead to each goal and levels that lead out of all states.
+/// 2006), with ranked sets that lead to each goal and levels that lead out of all states. It begins at the safe states,
+/// which hold the region: one set is cheaper to find than three fixpoints, one within the other.
 ///
 /// It asks the step operator with the same Z and Y as long as X changes. Want of memory is the only error; after it
 /// nothing has changed but that more ids may be known.
@@ -38,8 +40,9 @@ pub fn solve<P: Pre>(alloc: Global, pre: &mut P) -> Result<Iterates, AllocError>
     // The game stays, and every id that was known means what it meant.
     ensures follows { Follows (P.game pre.old) (P.ids pre.old) (P.game pre.new) (P.ids pre.new) }
 {
-    let mut z = pre.whole();
+    let whole = pre.whole();
     let mut levels = Vec::new(alloc);
+    let mut z = safe_states(alloc, pre, whole, &mut levels)?;
     'rounds: loop {
         let remaining = play_round(alloc, pre, z, &mut levels)?;
         if same(remaining.region, z) {

@@ -1,28 +1,46 @@
-use Rattle.std.proofs.Common.{refl, sym, ◌∙◌}
+use Rattle.std.proofs.Common.{true, refl, sym, ◌∙◌}
 use Rattle.tm_flat_pool.specs.Predicates.{pool}
 use Rattle.tm_game_pool.specs.Separating.{predicates_at}
 use Rattle.tm_solve.proofs.Following.{told_other, told_same}
-use Rattle.tm_refine.proofs.Carrying.{begun_here, carried_here, carried_known, carried_other, carried_stay, falls_here, lost_here, open_here}
+use Rattle.tm_refine.proofs.Carrying.{begun_here, carried_here, carried_known, carried_stay, falls_here, lost_here, open_here}
 use Rattle.tm_refine.proofs.RoundSides.{cells_there, out_is, same_game, same_tracked, same_upper, stay_beside}
-use Rattle.tm_refine.proofs.SearchSteps.{stay_of, stay_self, stay_then}
+use Rattle.tm_refine.proofs.SearchSteps.{stay_of, stay_then}
 use Rattle.tm_refine.proofs.solving.solve_upper.Goals as goal
 
-pub rounds-init : goal.rounds-init
-rounds-init g c =
-    let carried = c.requires.carried in
+pub keep_safe-requires : goal.keep_safe-requires
+keep_safe-requires g c =
+    let d = c.requires.carried.0 in
+    let of = c.requires.carried.1 in
     let arena = c.args.sided.now.arena in
     let ks = c.args.sided.now.tracked.items in
     record {
-      stay = stay_self;
-      game = refl;
-      tracked = refl;
-      side = refl;
+      begun = begun_here (g.met.A.Arena.exact arena d of).1 (predicates_at (pool d) ks) (g.A.Arena.tests arena ks)
+          (g.met.A.Arena.cells arena d ks of) true refl (g.A.Arena.game arena) refl ks (g.A.Arena.ids arena)
+          c.args.begun c.requires.carried.2;
+    }
+
+pub rounds-init : goal.rounds-init
+rounds-init g c =
+    let arena = c.args.sided.now.arena in
+    let ks = c.args.sided.now.tracked.items in
+    let tests = g.A.Arena.tests arena ks in
+    let arena' = c.keep_safe.new.pre.arena in
+    let ks' = c.keep_safe.new.pre.tracked.items in
+    let tests' = g.A.Arena.tests arena' ks' in
+    let extends = c.keep_safe.ensures.follows.extends in
+    let side = extends.side in
+    record {
+      stay = stay_beside true c.keep_safe.new.pre.upper ks ks' tests tests' (g.A.Arena.game arena)
+          (g.A.Arena.game arena') (g.A.Arena.ids arena) (g.A.Arena.ids arena') extends;
+      game = same_game _ _ side;
+      tracked = same_tracked _ _ side;
+      side = same_upper _ _ side;
       carried = λ d of.
-          carried_other carried.0 d (g.met.A.Arena.exact arena carried.0 carried.1).0 (g.met.A.Arena.exact arena d of).0
-          (g.A.Arena.game arena) (g.met.A.Arena.exact arena carried.0 carried.1).1 (g.met.A.Arena.exact arena d of).1
-          (predicates_at (pool carried.0) ks) (predicates_at (pool d) ks) (g.A.Arena.tests arena ks)
-          (g.met.A.Arena.cells arena carried.0 ks carried.1) (g.met.A.Arena.cells arena d ks of)
-          (g.A.Arena.ids arena) c.args.begun carried.2;
+          carried_here (g.met.A.Arena.exact arena d of).1 (predicates_at (pool d) ks) tests
+          (g.met.A.Arena.cells arena d ks of) true refl (g.A.Arena.game arena) refl tests'
+          (cells_there d (pool d) ks' ks tests' (same_tracked _ _ side)
+          (g.met.A.Arena.cells arena' d ks' (extends.of d of))) c.keep_safe.new.pre.upper ks' (g.A.Arena.game arena')
+          (same_game _ _ side) (g.A.Arena.ids arena') c.in_ok-safe.safe c.in_ok-safe.ensures.begun;
     }
 
 pub leaves_out-requires : goal.leaves_out-requires
@@ -235,3 +253,28 @@ returns-then-same-clause-stay g c =
     (g.A.Arena.game c.leaves_out.new.self) (g.A.Arena.game c.advance.new.pre.arena)
     (g.A.Arena.ids c.leaves_out.new.self) (g.A.Arena.ids c.advance.new.pre.arena)
     c.advance.ensures.follows.extends))
+
+pub returns-in_err-safe-clause-stay : goal.returns-in_err-safe-clause-stay
+returns-in_err-safe-clause-stay g c =
+    stay_beside true c.keep_safe.new.pre.upper c.args.sided.now.tracked.items c.keep_safe.new.pre.tracked.items
+    (g.A.Arena.tests c.args.sided.now.arena c.args.sided.now.tracked.items)
+    (g.A.Arena.tests c.keep_safe.new.pre.arena c.keep_safe.new.pre.tracked.items)
+    (g.A.Arena.game c.args.sided.now.arena) (g.A.Arena.game c.keep_safe.new.pre.arena)
+    (g.A.Arena.ids c.args.sided.now.arena) (g.A.Arena.ids c.keep_safe.new.pre.arena) c.keep_safe.ensures.follows.extends
+
+pub returns-in_err-leaves_out-clause-designs : goal.returns-in_err-leaves_out-clause-designs
+returns-in_err-leaves_out-clause-designs g c =
+    λ d of. c.leaves_out.ensures.follows.extends.of d (c.rounds.invariant.stay.of d of)
+
+pub returns-in_err-leaves_out-clause-stay : goal.returns-in_err-leaves_out-clause-stay
+returns-in_err-leaves_out-clause-stay g c =
+    stay_then c.rounds.invariant.stay (stay_of c.leaves_out.ensures.follows)
+
+pub returns-then-branch-clause-designs : goal.returns-then-branch-clause-designs
+returns-then-branch-clause-designs g c =
+    λ d of. c.leaves_out.ensures.follows.extends.of d (c.rounds.invariant.stay.of d of)
+
+pub returns-in_err-far-clause-designs : goal.returns-in_err-far-clause-designs
+returns-in_err-far-clause-designs g c =
+    λ d of. c.advance.ensures.follows.extends.of d
+    (c.leaves_out.ensures.follows.extends.of d (c.rounds.invariant.stay.of d of))

@@ -21,9 +21,10 @@ loop-goal-preserved g c =
           c.reach.ensures.follows.extends c.remove.ensures.follows.extends c.in_ok-push.ensures.items;
       leveled = λ begun.
           level_added (g.P.Pre.game c.args.pre.now) (g.met.P.Pre.monotone c.args.pre.now) _ c.loop-goal.goal
-          c.loop-goal.region c.in_ok-region.region c.in_ok-reached.reached c.loop-goal.levels.items
-          c.remove.new.levels.items below inv.round (inv.leveled begun) r c.reach.ensures.follows.extends
-          c.remove.ensures.follows.extends all.exact left
+          c.loop-goal.region c.in_ok-region.region c.in_ok-reached.reached.set _ c.loop-goal.levels.items
+          c.remove.new.levels.items below inv.round.known
+          (record { within = λ s among here. (inv.round.set.only s among here).0 }) (inv.leveled begun) r.chains
+          c.reach.ensures.follows.extends c.remove.ensures.follows.extends all.exact left
           (removed_at (g.P.Pre.game c.args.pre.now) (g.P.Pre.game c.reach.new.pre) (g.P.Pre.ids c.remove.new.pre)
           c.loop-goal.region c.loop-goal.goal _ c.in_ok-region.region _ _ to_reach.game c.in_ok-region.ensures.levels);
     }

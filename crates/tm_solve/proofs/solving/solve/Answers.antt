@@ -1,7 +1,18 @@
 use Rattle.std.proofs.Common.{refl, sym}
 use Rattle.tm_solve.proofs.Following.{follows_then, told_same, told_other}
+use Rattle.tm_solve.proofs.SafetySteps.{whole_holds, whole_leveled}
 use Rattle.tm_solve.proofs.SolveSteps.{remaining_at, leveled_at, region_goes_on, region_shrinks, region_ends, ranks_fit, last_ends, levels_end}
 use Rattle.tm_solve.proofs.solving.solve.Goals as goal
+
+pub rounds-init : goal.rounds-init
+rounds-init g c =
+    let keeps = c.in_ok-z.ensures.keeps in
+    record {
+      follows = c.safe_states.ensures.follows;
+      region = keeps.region (whole_holds c.whole-whole.result c.whole-whole.ensures.value);
+      leveled = keeps.leveled
+          (whole_leveled c.whole-whole.result _ c.new-levels.ensures.items c.whole-whole.ensures.value);
+    }
 
 pub returns-then-same-clause-ranks : goal.returns-then-same-clause-ranks
 returns-then-same-clause-ranks g c =
