@@ -36,7 +36,7 @@ module _ (g : Game) (a : Ids) (begun : Iterates) (is : IsBegun g a begun) where
   pub begun_leveled : IsLeveled g a begun.region begun.levels.items
   begun_leveled = record { known = is.known.levels; levels = is.levels.levels; last = is.levels.last }
 
-  -- nor does it end where states are removed that are not safe
+  -- from the safe states a solution may go on, too
   pub begun_kept : (b : Ids) (it : Iterates) (left : NodeId) → it.region ≡ left →
       it.ranks.items ≡ begun.ranks.items → Extends a b →
       Keeps g a b begun.region left begun.levels.items it.levels.items → IsBegun g b it

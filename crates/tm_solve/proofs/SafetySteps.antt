@@ -119,7 +119,7 @@ module _ (g : Game) (mono : IsMonotone g) (absorb : IsAbsorbing g) (z : StateSet
           ((kept_rises (kept_in g z) stay.set i
           (record { within = λ u u_in both. and_right (g.part z z z 0 0 u) (z u) both })
           (record {
-            within = λ u u_in inside. and_right (g.part z (kept_in g z) stay.set 0 i u) (z u) (stay.holds u u_in inside);
+            within = λ u u_in held. and_right (g.part z (kept_in g z) stay.set 0 i u) (z u) (stay.holds u u_in held);
           })).within t in_n
           (and_left (g.part z (kept_in g z) stay.set 0 i t) (z t) here))
           (and_right (g.part z (kept_in g z) stay.set 0 i t) (z t) here)
