@@ -68,32 +68,6 @@ impl Game {
         self.dd.or(f, g, &mut Steps::new(()))
     }
 
-    /// Both of two functions. It remembers no result, so where none is asked for again it takes less than `and`.
-    pub fn and_once(&mut self, f: NodeId, g: NodeId) -> Result<NodeId, AllocError>
-        requires f { Knows self.old.diagrams.table f }
-        requires g { Knows self.old.diagrams.table g }
-
-        ensures grows { Grows self.old self.new }
-        ensures results { self.new.diagrams.results ≡ self.old.diagrams.results }
-        ensures answer { IfOk result (λ id. IsFunction self.new.diagrams.table id
-            (λ v. means self.new.diagrams.table f v && means self.new.diagrams.table g v)) }
-    {
-        self.dd.and_once(f, g)
-    }
-
-    /// At least one of two functions. It remembers no result, so where none is asked for again it takes less than `or`.
-    pub fn or_once(&mut self, f: NodeId, g: NodeId) -> Result<NodeId, AllocError>
-        requires f { Knows self.old.diagrams.table f }
-        requires g { Knows self.old.diagrams.table g }
-
-        ensures grows { Grows self.old self.new }
-        ensures results { self.new.diagrams.results ≡ self.old.diagrams.results }
-        ensures answer { IfOk result (λ id. IsFunction self.new.diagrams.table id
-            (λ v. means self.new.diagrams.table f v || means self.new.diagrams.table g v)) }
-    {
-        self.dd.or_once(f, g)
-    }
-
     /// Exactly one of two functions. The result is remembered, and a remembered one is answered again.
     pub fn xor(&mut self, f: NodeId, g: NodeId) -> Result<NodeId, AllocError>
         requires f { Knows self.old.diagrams.table f }

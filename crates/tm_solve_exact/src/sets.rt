@@ -21,7 +21,7 @@ pub fn either(game: &mut Game, a: NodeId, b: NodeId) -> Result<NodeId, AllocErro
     ensures of { HasDesign game.new }
     ensures grows { Grows game.old game.new }
 {
-    let answer = game.or_once(a, b);
+    let answer = game.or(a, b);
     let _store = game.manager().store();
     answer
 }
@@ -39,7 +39,7 @@ pub fn both(game: &mut Game, a: NodeId, b: NodeId) -> Result<NodeId, AllocError>
     ensures of { HasDesign game.new }
     ensures grows { Grows game.old game.new }
 {
-    let answer = game.and_once(a, b);
+    let answer = game.and(a, b);
     let _store = game.manager().store();
     answer
 }
@@ -57,7 +57,7 @@ pub fn rest(game: &mut Game, a: NodeId, b: NodeId) -> Result<NodeId, AllocError>
     ensures of { HasDesign game.new }
     ensures grows { Grows game.old game.new }
 {
-    let answer = game.and_once(a, b.complement());
+    let answer = game.and(a, b.complement());
     let _store = game.manager().store();
     answer
 }

@@ -10,19 +10,19 @@ use Rattle.tm_solve_exact.proofs.sets.rest.Goals as goal
 
 pub returns-clause-value : goal.returns-clause-value
 returns-clause-value c =
-    ∥∥₁_elim c.requires.of (ok_prop c.and_once-answer.result _ (λ id. is_prop c.args.game.now c.and_once-answer.new.self _ id))
+    ∥∥₁_elim c.requires.of (ok_prop c.and-answer.result _ (λ id. is_prop c.args.game.now c.and-answer.new.self _ id))
     (λ x.
-    IfOk-weaker c.and_once-answer.result _ _
+    IfOk-weaker c.and-answer.result _ _
     (λ id function.
-    let table = c.and_once-answer.new.self.diagrams.table in
-    rest_told x.0 c.args.game.now c.and_once-answer.new.self x.1 c.and_once-answer.ensures.grows c.args.a c.args.b c.requires.a
+    let table = c.and-answer.new.self.diagrams.table in
+    rest_told x.0 c.args.game.now c.and-answer.new.self x.1 c.and-answer.ensures.grows c.args.a c.args.b c.requires.a
     c.requires.b id
     (subst (IsFunction table id) (λ i v. means table c.args.a v && c.complement.ensures.meaning table v i)
-    function)) c.and_once-answer.ensures.answer)
+    function)) c.and-answer.ensures.answer)
 
 pub returns-clause-follows : goal.returns-clause-follows
-returns-clause-follows c = follows_any c.args.game.now c.and_once-answer.new.self c.requires.of c.and_once-answer.ensures.grows
-    (reduced_of c.and_once-answer.new.self c.manager.result.now c.manager.ensures c.store-store.ensures.manager)
+returns-clause-follows c = follows_any c.args.game.now c.and-answer.new.self c.requires.of c.and-answer.ensures.grows
+    (reduced_of c.and-answer.new.self c.manager.result.now c.manager.ensures c.store-store.ensures.manager)
 
 pub returns-clause-of : goal.returns-clause-of
-returns-clause-of c = of_grown c.args.game.now c.and_once-answer.new.self c.requires.of c.and_once-answer.ensures.grows
+returns-clause-of c = of_grown c.args.game.now c.and-answer.new.self c.requires.of c.and-answer.ensures.grows
