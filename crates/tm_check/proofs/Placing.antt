@@ -435,7 +435,8 @@ call_is d g r is s task widths nums fit bits parts there row are placed_so = rec
     told v fits =
         call_same d g.order task widths is.of.design in_design (widths_told d g is.of task widths row)
         (substituted s parts v) (substituted s all_parts v) same
-        ∙ call_given g.terms d g.flat is.of.flat is.of.room task (worth v) is.of.design g.order (substituted s all_parts v)
+        ∙ call_given g.terms d g.flat is.of.flat is.of.room task (worth v) is.of.design g.order
+        (substituted s all_parts v)
         (record { there = there; widths = widths; are = row; fit = fit_there })
         (λ j small. part_there s (length g.order) bits v 64 j small ∙ ap (λ bs. assignment bs j) (are.are v fits))
       where

@@ -21,7 +21,7 @@ pub(crate) struct Answer {
 /// `Manager::copy_roots` voids them.
 #[derive(Drop)]
 pub struct Recent {
-    // The one that was used last comes first. Behind one on the empty set come only such.
+    // The one that was used last comes first.
     answers: [Answer; ROOM],
 }
 
@@ -51,9 +51,6 @@ impl Recent {
         for answer in &self.answers {
             if answer.set == set {
                 return Some(answer.stays);
-            }
-            if answer.set == FALSE {
-                return None;
             }
         }
         None

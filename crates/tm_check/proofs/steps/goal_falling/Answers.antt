@@ -72,7 +72,8 @@ try_part-requires c =
     let waiting = c.in_ok-waiting.ensures.states has.0 has.1 has.2
     (told_kept has.0 c.args.game.now c.loop-index.game c.loop-index.invariant.grows has.1 has.2 c.args.told.now
     has.3) in
-    found_set has.0 has.1 has.2 c.args.told.now c.and.new.self later (falls_when_fair c.args.goal) c.in_ok-failing.failing
+    found_set has.0 has.1 has.2 c.args.told.now c.and.new.self later (falls_when_fair c.args.goal)
+    c.in_ok-failing.failing
     (staying_found has.0 has.1 has.2 c.args.told.now c.args.goal c.args.game.now has.3 c.requires.goal
     c.loop-index.index (omega (arith, c.rank_count-count.ensures)) (omega (arith, c.rank_count-count.ensures))
     c.loop-index.game c.awaiting.new.game c.and.new.self c.awaiting.ensures.grows c.and.ensures.grows
