@@ -2,7 +2,5 @@
 #![tactic(auto)]
 
 mod specification;
-#[cfg(test)]
-mod tests;
 
 pub use specification::{GenError, generate};
