@@ -1,4 +1,4 @@
-//! Cases of guarded updates, of symbolic games and of the cells of predicates, table by table.
+//! Cases of guarded updates, of symbolic games, of the cells of predicates and of certificates, table by table.
 //!
 //! The input is tables of `case_rows`; the module of a table's name tells what its rows ask.
 #![tactic(auto)]
@@ -10,6 +10,8 @@ ghost use Rattle.tm_syntax.specs.Design.View.{design_tree};
 ghost use Rattle.tm_syntax.specs.Faults.{IsOfText, IsSound};
 
 mod cells;
+mod certificates;
+mod flat;
 mod games;
 mod states;
 mod steps;
@@ -104,6 +106,19 @@ fn answer_by_design(
     }
 }
 
+/// The same, by the text of the design.
+fn answer_by_text(
+    alloc: Global,
+    table: &str,
+    text: &[u8],
+    question: &str,
+) -> Result<String, AllocError> {
+    match read_design(alloc, text) {
+        Some(design) => answer_by_design(alloc, table, &design, question),
+        None => String::from_str(alloc, "faulty"),
+    }
+}
+
 /// What answers rows: each with a game of its own.
 #[derive(Drop)]
 struct Rows;
@@ -120,9 +135,10 @@ impl Answers for Rows {
         text: &str,
         question: &str,
     ) -> Result<String, AllocError> {
-        match read_design(alloc, text.as_bytes()) {
-            Some(design) => answer_by_design(alloc, table, &design, question),
-            None => String::from_str(alloc, "faulty"),
+        match table {
+            "certificates" => certificates::answer_to(alloc, question),
+            "flat" => flat::answer_to(alloc, question),
+            _ => answer_by_text(alloc, table, text.as_bytes(), question),
         }
     }
 }
