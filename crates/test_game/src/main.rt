@@ -1,5 +1,5 @@
-//! Cases of decision diagrams, of bits of terms, of games over bits, of guarded updates, of symbolic games, of the cells
-//! of predicates and of certificates, table by table.
+//! Cases of decision diagrams, of bits of terms, of games over bits, of guarded updates, of symbolic games, of the
+//! cells of predicates and of certificates, table by table.
 //!
 //! The input is tables of `case_rows`; the module of a table's name tells what its rows ask.
 #![tactic(auto)]
