@@ -1,1 +1,3 @@
+mod ExampleFacts
+mod Known
 mod LevelSets

@@ -1,132 +1,31 @@
-//! Cases of guarded updates, of symbolic games and of the cells of predicates, table by table.
+//! Cases of decision diagrams, of bits of terms, of games over bits, of guarded updates, of symbolic games, of the
+//! cells of predicates and of certificates, table by table.
 //!
 //! The input is tables of `case_rows`; the module of a table's name tells what its rows ask.
 #![tactic(auto)]
 
-ghost use Rattle.tm_abs.specs.Tracked.{IsPooled};
-ghost use Rattle.tm_syntax.specs.Design.{DesignTree};
-ghost use Rattle.tm_syntax.specs.Tree.View.{spec_tree};
-ghost use Rattle.tm_syntax.specs.Design.View.{design_tree};
-ghost use Rattle.tm_syntax.specs.Faults.{IsOfText, IsSound};
-
+mod bits;
 mod cells;
+mod certificates;
+mod designs;
+mod diagrams;
+mod flat;
+mod forcing;
+mod functions;
 mod games;
+mod knowing;
+mod solving;
 mod states;
 mod steps;
+mod subject;
+mod texts;
 mod updates;
+mod workbench;
 
-use case_rows::{Answers, check_tables};
-use std::alloc::{AllocError, Global};
+use case_rows::check_tables;
 use std::io;
-use tm_game::Game;
-use tm_inst::read_design;
-use tm_judge::game_of;
-use tm_plain::{Machine, Tables};
-use tm_syntax::design::Design;
-
-/// The answer to a question about a game, in a table of this name.
-fn answer_by_game(
-    alloc: Global,
-    table: &str,
-    machine: &Machine,
-    game: &mut Game,
-    question: &str,
-) -> Result<String, AllocError>
-    requires pooled { (d : DesignTree) × IsPooled d game.old }
-{
-    match table {
-        "updates" => updates::answer_to(alloc, machine, game, question),
-        "games" => games::answer_to(alloc, machine, game, question),
-        "cells" => cells::answer_to(alloc, machine, game, question),
-        _ => String::from_str(alloc, "no such table"),
-    }
-}
-
-/// The same, by a machine of the design.
-fn answer_by_machine(
-    alloc: Global,
-    table: &str,
-    design: &Design,
-    machine: &Machine,
-    question: &str,
-) -> Result<String, AllocError>
-    requires sound { IsSound (design_tree design.now) }
-    requires read { IsOfText (spec_tree design.now.spec) }
-{
-    match game_of(alloc, design) {
-        Ok(mut game) => {
-            let found = answer_by_game(alloc, table, machine, &mut game, question);
-            drop(game);
-            found
-        }
-        Err(error) => Err(error),
-    }
-}
-
-/// The same, by the tables of the design.
-fn answer_by_tables(
-    alloc: Global,
-    table: &str,
-    design: &Design,
-    tables: &Tables,
-    question: &str,
-) -> Result<String, AllocError>
-    requires sound { IsSound (design_tree design.now) }
-    requires read { IsOfText (spec_tree design.now.spec) }
-{
-    match Machine::new(alloc, tables) {
-        Ok(machine) => {
-            let found = answer_by_machine(alloc, table, design, &machine, question);
-            drop(machine);
-            found
-        }
-        Err(error) => Err(error),
-    }
-}
-
-/// The same, by the design alone.
-fn answer_by_design(
-    alloc: Global,
-    table: &str,
-    design: &Design,
-    question: &str,
-) -> Result<String, AllocError>
-    requires sound { IsSound (design_tree design.now) }
-    requires read { IsOfText (spec_tree design.now.spec) }
-{
-    match Tables::new(alloc, design) {
-        Ok(tables) => {
-            let found = answer_by_tables(alloc, table, design, &tables, question);
-            drop(tables);
-            found
-        }
-        Err(error) => Err(error),
-    }
-}
-
-/// What answers rows: each with a game of its own.
-#[derive(Drop)]
-struct Rows;
-
-impl Answers for Rows {
-    fn new(_alloc: Global, _table: &str, _text: &str) -> Result<Rows, AllocError> {
-        Ok(Rows)
-    }
-
-    fn answer(
-        &mut self,
-        alloc: Global,
-        table: &str,
-        text: &str,
-        question: &str,
-    ) -> Result<String, AllocError> {
-        match read_design(alloc, text.as_bytes()) {
-            Some(design) => answer_by_design(alloc, table, &design, question),
-            None => String::from_str(alloc, "faulty"),
-        }
-    }
-}
+use subject::Subject;
 
 fn main(rt: HostRuntime) -> io::Result<()> {
-    check_tables::<Rows, HostRuntime>(&rt)
+    check_tables::<Subject, HostRuntime>(&rt)
 }

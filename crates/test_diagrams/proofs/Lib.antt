@@ -1,2 +1,0 @@
-mod ExampleFacts
-mod Known

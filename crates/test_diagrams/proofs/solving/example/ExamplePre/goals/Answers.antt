@@ -1,5 +1,0 @@
-use Rattle.test_diagrams.proofs.ExampleFacts.{exact_of}
-use Rattle.test_diagrams.proofs.solving.example.ExamplePre.goals.Goals as goal
-
-pub returns-clause-exact : goal.returns-clause-exact
-returns-clause-exact c = exact_of c.args.self.now.store c.levels-levels.ensures.reduced c.args.self.now.two
