@@ -26,7 +26,7 @@ fn number(word: &str) -> Result<u64> {
 }
 
 /// The lines of the answer to the words behind `drawn`.
-pub fn drawn(alloc: Global, words: &str) -> Result<String> {
+pub fn told(alloc: Global, words: &str) -> Result<String> {
     match split_word(words) {
         ("back", drivers) => back::told_back(alloc, number(drivers)?),
         ("around", drivers) => structured::told_back(alloc, number(drivers)?),

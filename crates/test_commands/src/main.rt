@@ -24,7 +24,6 @@ mod values;
 
 use anyhow::Result;
 use case_rows::split_word;
-use drawn::drawn;
 use failing::fail;
 use opening::obey_opening;
 use std::alloc::{AllocError, Global};
@@ -84,7 +83,7 @@ fn command<R: std::rt::Files + Print + AllocGlobal>(rt: &R, line: &str) -> Resul
 
 /// Prints a drawn driver, or tells of such drivers.
 fn print_drawn<R: Print + AllocGlobal>(rt: &R, words: &str) -> Result<()> {
-    let told = drawn(rt.alloc(), words)?;
+    let told = drawn::told(rt.alloc(), words)?;
     print!(rt; "{told}")?;
     Ok(())
 }
