@@ -13,8 +13,7 @@ if [ $# -eq 0 ]; then
 fi
 (cd "$here/../../crates/test_commands" && printf '%s\n' "${@/#/drawn }" "${@/#/drawn structured }" | rt try > "$work/all" 2> "$work/said") || { cat "$work/said" >&2; exit 1; }
 # each sample begins with its include line, behind the line that asks for it
-grep -v '^> ' "$work/all" > "$work/samples"
-csplit -s -z -f "$work/sample" -n 4 "$work/samples" '/^#include/' '{*}'
+grep -v '^> ' "$work/all" | csplit -s -z -f "$work/sample" -n 4 - '/^#include/' '{*}'
 compilers=0
 for compiler in gcc clang; do
     if ! command -v "$compiler" > /dev/null; then
