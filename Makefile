@@ -12,11 +12,12 @@ help:
 	@echo "make test             the gate: proves all from nothing, tries the edits, runs the tests and programs"
 	@echo "make bench            prints the machine, the commit, and what each script of bench/ measures"
 
-# It runs the program of crates/demo, which obeys three commands over files in memory.
+# It runs the program of crates/test_commands, which obeys these lines in a new folder with two files of the example.
 run:
 	@echo "$(UNPROVED)" >&2
-	@cd crates/demo && rt try --data transmitter=$(CURDIR)/$(EXAMPLE)/spec \
-	    --data choices=$(CURDIR)/$(EXAMPLE)/demo_choices -- transmitter choices
+	@cd crates/test_commands && printf '%s\n' 'synth transmitter driver' 'show driver.c' \
+	    'check transmitter driver.c driver.cert' 'run transmitter driver.c choices' | \
+	    rt try --data transmitter=$(CURDIR)/$(EXAMPLE)/spec --data choices=$(CURDIR)/$(EXAMPLE)/demo_choices
 
 # A word that is neither the command nor a number nor an option is a file: it is read and written where it lies.
 try:

@@ -11,9 +11,9 @@ flags="-std=c11 -Wall -Wextra -Werror -Wno-unused-label -Wno-parentheses-equalit
 if [ $# -eq 0 ]; then
     set -- $(seq 1 40)
 fi
-(cd "$here/../../crates/test_compilers" && printf '%s\n' "$@" "${@/#/structured }" | rt try > "$work/all" 2> "$work/said") || { cat "$work/said" >&2; exit 1; }
-# each sample begins with its include line
-csplit -s -z -f "$work/sample" -n 4 "$work/all" '/^#include/' '{*}'
+(cd "$here/../../crates/test_commands" && printf '%s\n' "${@/#/drawn }" "${@/#/drawn structured }" | rt try > "$work/all" 2> "$work/said") || { cat "$work/said" >&2; exit 1; }
+# each sample begins with its include line, behind the line that asks for it
+grep -v '^> ' "$work/all" | csplit -s -z -f "$work/sample" -n 4 - '/^#include/' '{*}'
 compilers=0
 for compiler in gcc clang; do
     if ! command -v "$compiler" > /dev/null; then

@@ -1,4 +1,4 @@
-//! Cases of the commands: obeys each line of the input in its folder, and tells what it wrote and its exit code.
+//! Cases of the commands and of drawn drivers: obeys each line of the input in its folder, and tells what comes of it.
 //!
 //! The words of a line stand apart by single blanks. Lines of these kinds are no words of a command:
 //!
@@ -10,10 +10,13 @@
 //!   tells also which of the files `o`, `o.c` and `o.cert` there are afterwards;
 //! - `disk CALLS` calls the files of the system and standard output, and `memory NUMBERS; NUMBERS; CALLS` files and an
 //!   output in memory, whose calls and puts of these numbers fail, as the module `files` tells;
+//! - `drawn WORDS` prints a driver that is drawn and what it answers, or tells how many such drivers are read back, as
+//!   the module `drawn` tells;
 //! - `names FIRST SECOND` compares two names, `places LINE COLUMN, LINE COLUMN` two places in a text, and `steps N`
 //!   counts so many steps.
 #![tactic(auto)]
 
+mod drawn;
 mod failing;
 mod files;
 mod opening;
@@ -78,6 +81,13 @@ fn command<R: std::rt::Files + Print + AllocGlobal>(rt: &R, line: &str) -> Resul
     }
 }
 
+/// Prints a drawn driver, or tells of such drivers.
+fn print_drawn<R: Print + AllocGlobal>(rt: &R, words: &str) -> Result<()> {
+    let told = drawn::told(rt.alloc(), words)?;
+    print!(rt; "{told}")?;
+    Ok(())
+}
+
 /// Does what a line says.
 fn answer<R: std::rt::Files + Print + AllocGlobal>(rt: &R, line: &str) -> Result<()> {
     let alloc = rt.alloc();
@@ -87,6 +97,7 @@ fn answer<R: std::rt::Files + Print + AllocGlobal>(rt: &R, line: &str) -> Result
         ("names", words) => values::names(alloc, words)?,
         ("places", words) => values::places(alloc, words)?,
         ("steps", count) => values::steps(alloc, count)?,
+        ("drawn", words) => return print_drawn(rt, words),
         ("fail", failing) => return fail(rt, failing),
         ("lines", counted) => return obey_opening(rt, counted),
         _ => return command(rt, line),

@@ -1,5 +1,5 @@
 use Rattle.std.proofs.Common.{◌+◌, ◌*◌}
-use Rattle.test_compilers.proofs.draw.+draw.Given as goal
+use Rattle.test_commands.proofs.drawn.draw.+draw.Given as goal
 
 abbrev pub decreases-binary : goal.decreases-binary
 decreases-binary l = 2 * l.depth

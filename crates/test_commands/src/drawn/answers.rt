@@ -6,7 +6,7 @@ ghost use Rattle.tm_cir.specs.Fit.{FitBlocks, CoversDesign};
 ghost use Rattle.tm_struct.specs.View.{program_tree};
 ghost use Rattle.tm_struct.specs.Fit.{FitsProgram};
 
-use crate::draw::state;
+use super::draw::state;
 use rand::RngExt;
 use rand_pcg::Pcg32;
 use std::alloc::{AllocError, Global};

@@ -1,7 +1,7 @@
 //! A drawn driver as text.
-use crate::answers::push_answers;
-use crate::draw::blocks;
-use crate::specification::design;
+use super::answers::push_answers;
+use super::draw::blocks;
+use super::specification::design;
 use anyhow::{Context, Result};
 use rand_core::SeedableRng;
 use rand_pcg::Pcg32;

@@ -4,9 +4,9 @@ ghost use Rattle.tm_syntax.specs.Design.View.{design_tree};
 ghost use Rattle.tm_cir.specs.View.{trees_of};
 ghost use Rattle.tm_cir.specs.Fit.{FitBlocks};
 
-use crate::answers::{push_answers, push_structured_answers};
-use crate::draw::blocks;
-use crate::specification::design;
+use super::answers::{push_answers, push_structured_answers};
+use super::draw::blocks;
+use super::specification::design;
 use anyhow::{Context, Result};
 use rand_core::SeedableRng;
 use rand_pcg::Pcg32;

@@ -1,7 +1,7 @@
 //! Drivers that are drawn, printed and read back.
 
-use crate::draw::blocks;
-use crate::specification::design;
+use super::draw::blocks;
+use super::specification::design;
 use anyhow::{Context, Result};
 use rand_core::SeedableRng;
 use rand_pcg::Pcg32;
