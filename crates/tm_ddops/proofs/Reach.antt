@@ -14,7 +14,7 @@ use Rattle.tm_dd.specs.Reduced.{IsReduced, Extends}
 use Rattle.tm_dd.specs.Table.{Table, Knows, node_of}
 use Rattle.tm_dd.proofs.CallerLaws.{same_number}
 use Rattle.tm_ddops.specs.Choice.{cofactor}
-use Rattle.tm_ddops.specs.Reached.{Reaches, itself, through_lo, through_hi, IsClosed, IsGathered, IsInnerNodes}
+use Rattle.tm_ddops.specs.Reached.{Reaches, itself, through_lo, through_hi, IsGathered, IsInnerNodes, IsOpened}
 use Rattle.tm_ddops.proofs.Facts.{is_constant_cases}
 use Rattle.tm_ddops.proofs.Choices.{by_cofactor, inner_at}
 
@@ -203,64 +203,69 @@ reaches_before s t reduced e f g known (through_hi _ _ inner rest) =
 
 -- ---- gathering
 
-pub closed_empty : (s : Table) (ids : List NodeId) → ids ≡ [] → IsClosed s ids
-closed_empty s ids empty = record {
-  inner = λ g c. absurd (Contains-nil g (subst (λ l. Contains l g) empty c));
-  below = λ g h c. absurd (Contains-nil g (subst (λ l. Contains l g) empty c));
-}
-
-pub gathered_already : (s : Table) (f : NodeId) (ids : List NodeId) → IsClosed s ids → IsConstant f ⊎ Contains ids f →
+pub gathered_already : (s : Table) (f : NodeId) (ids : List NodeId) → IsConstant f ⊎ Contains ids f →
     IsGathered s f ids ids
-gathered_already s f ids closed there = record { closed = closed; kept = λ g c. c; there = there; only = λ g c. inl c }
+gathered_already s f ids there = record { kept = λ g c. c; there = there; opened = λ g c. inl c }
 
--- what is gathered from both children, and the node itself
-pub gathered : (s : Table) (f : NodeId) → ¬ IsConstant f → (a b c d : List NodeId) → IsGathered s (node_of s f).lo a b →
-    IsGathered s (node_of s f).hi b c
-    → Contains d f → ((g : NodeId) → Contains c g → Contains d g) →
-    ((g : NodeId) → Contains d g → (f ≡ g) ⊎ Contains c g) → IsGathered s f a d
-gathered s f is_inner a b c d lo hi there more only = record {
-  closed = record {
-    inner = λ g h. elim (only g h)
-        [ inl e ↦ subst (λ x. ¬ IsConstant x) e is_inner | inr rest ↦ hi.closed.inner g rest ];
-    below = λ g h in_d r inner. elim (only g in_d) [
-      | inl e ↦ from_f h (subst (λ x. Reaches s x h) (sym e) r) inner
-      | inr rest ↦ more h (hi.closed.below g h rest r inner)
-    ];
-  };
-  kept = λ g h. more g (hi.kept g (lo.kept g h));
-  there = inr there;
-  only = λ g h. elim (only g h) [
-    | inl e ↦ inr (subst (Reaches s f) e (itself f))
-    | inr rest ↦ elim (hi.only g rest) [
-      | inl in_b ↦ elim (lo.only g in_b) [ inl in_a ↦ inl in_a | inr r ↦ inr (through_lo f g is_inner r) ]
-      | inr r ↦ inr (through_hi f g is_inner r)
+-- the node itself, and then what is gathered from both children
+pub gathered : (s : Table) (f : NodeId) → ¬ IsConstant f → (a b c d : List NodeId) → Contains b f →
+    ((g : NodeId) → Contains a g → Contains b g) → ((g : NodeId) → Contains b g → (f ≡ g) ⊎ Contains a g) →
+    IsGathered s (node_of s f).lo b c → IsGathered s (node_of s f).hi c d → IsGathered s f a d
+gathered s f is_inner a b c d there more only lo hi = record {
+  kept = λ g h. hi.kept g (lo.kept g (more g h));
+  there = inr (hi.kept f (lo.kept f there));
+  opened = λ g h. elim (hi.opened g h) [
+    | inr o ↦ inr (record { reached = through_hi f g is_inner o.reached; inner = o.inner; lo = o.lo; hi = o.hi })
+    | inl in_c ↦ elim (lo.opened g in_c) [
+      | inr o ↦ inr (record {
+        reached = through_lo f g is_inner o.reached;
+        inner = o.inner;
+        lo = wider (node_of s g).lo o.lo;
+        hi = wider (node_of s g).hi o.hi;
+      })
+      | inl in_b ↦ elim (only g in_b) [ inl e ↦ inr (subst (IsOpened s f d) e f_opened) | inr in_a ↦ inl in_a ]
     ]
   ];
 }
   where
-    from_f : (h : NodeId) → Reaches s f h → ¬ IsConstant h → Contains d h
-    from_f h (itself _) inner = there
-    from_f h (through_lo _ _ _ rest) inner = elim lo.there [
-      | inl constant ↦ absurd (inner (reaches_constant s (node_of s f).lo h constant rest))
-      | inr in_b ↦ more h (hi.closed.below (node_of s f).lo h (hi.kept (node_of s f).lo in_b) rest inner)
-    ]
-    from_f h (through_hi _ _ _ rest) inner = elim hi.there [
-      | inl constant ↦ absurd (inner (reaches_constant s (node_of s f).hi h constant rest))
-      | inr in_c ↦ more h (hi.closed.below (node_of s f).hi h in_c rest inner)
-    ]
+    wider : (g : NodeId) → IsConstant g ⊎ Contains c g → IsConstant g ⊎ Contains d g
+    wider g h = elim h [ inl constant ↦ inl constant | inr in_c ↦ inr (hi.kept g in_c) ]
+
+    f_opened : IsOpened s f d f
+    f_opened = record {
+      reached = itself f;
+      inner = is_inner;
+      lo = wider (node_of s f).lo lo.there;
+      hi = hi.there;
+    }
+
+-- a list of opened nodes has all inner nodes that are reached from those in it
+reached_there : (s : Table) (root : NodeId) (ids : List NodeId) →
+    ((g : NodeId) → Contains ids g → IsOpened s root ids g) →
+    (f g : NodeId) → IsConstant f ⊎ Contains ids f → Reaches s f g → ¬ IsConstant g → Contains ids g
+reached_there s root ids opened f g there (itself _) inner =
+    elim there [ inl constant ↦ absurd (inner constant) | inr in_ids ↦ in_ids ]
+reached_there s root ids opened f g there (through_lo _ _ is_inner rest) inner = elim there [
+  | inl constant ↦ absurd (is_inner constant)
+  | inr in_ids ↦ reached_there s root ids opened (node_of s f).lo g (opened f in_ids).lo rest inner
+]
+reached_there s root ids opened f g there (through_hi _ _ is_inner rest) inner = elim there [
+  | inl constant ↦ absurd (is_inner constant)
+  | inr in_ids ↦ reached_there s root ids opened (node_of s f).hi g (opened f in_ids).hi rest inner
+]
 
 pub inner_from_gathered : (s : Table) (f : NodeId) (old ids : List NodeId) → old ≡ [] → IsDistinct id_eq ids →
     IsGathered s f old ids → IsInnerNodes s f ids
 inner_from_gathered s f old ids empty distinct g = record {
   once = AllPairs-from_IsDistinct id_Decides ids distinct;
-  reached = λ h c. elim (g.only h c)
-      [ inl was ↦ absurd (Contains-nil h (subst (λ l. Contains l h) empty was)) | inr r ↦ r ];
-  inner = g.closed.inner;
-  every = λ h r inner. elim g.there [
-    | inl constant ↦ absurd (inner (reaches_constant s f h constant r))
-    | inr there ↦ g.closed.below f h there r inner
-  ];
+  reached = λ h c. (opened h c).reached;
+  inner = λ h c. (opened h c).inner;
+  every = λ h r inner. reached_there s f ids opened f h g.there r inner;
 }
+  where
+    opened : (h : NodeId) → Contains ids h → IsOpened s f ids h
+    opened h c = elim (g.opened h c)
+        [ inl was ↦ absurd (Contains-nil h (subst (λ l. Contains l h) empty was)) | inr o ↦ o ]
 
 -- ---- sets of ids
 

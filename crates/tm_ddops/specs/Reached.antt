@@ -29,14 +29,15 @@ pub record RisesByPairs (s : Table) (f g : NodeId) (before after : ℕ) : Type 0
   pub g_size : HasSize s g n
   pub bound : after ≤ before + m * n
 
--- the ids of a list are those of inner nodes, and the inner nodes that are reached from them are in the list
-pub record IsClosed (s : Table) (ids : List NodeId) : Type 0 where
-  pub inner : (g : NodeId) → Contains ids g → ¬ IsConstant g
-  pub below : (g h : NodeId) → Contains ids g → Reaches s g h → ¬ IsConstant h → Contains ids h
+-- the id of an inner node that is reached from f; both its children are constants or in the list
+pub record IsOpened (s : Table) (f : NodeId) (ids : List NodeId) (g : NodeId) : Type 0 where
+  pub reached : Reaches s f g
+  pub inner : ¬ IsConstant g
+  pub lo : IsConstant (node_of s g).lo ⊎ Contains ids (node_of s g).lo
+  pub hi : IsConstant (node_of s g).hi ⊎ Contains ids (node_of s g).hi
 
--- the list has all that is reached from f, and nothing else beyond what it had
+-- the list has f, if that is no constant, and all that it had; whatever else it has is opened
 pub record IsGathered (s : Table) (f : NodeId) (old new : List NodeId) : Type 0 where
-  pub closed : IsClosed s new
   pub kept : (g : NodeId) → Contains old g → Contains new g
   pub there : IsConstant f ⊎ Contains new f
-  pub only : (g : NodeId) → Contains new g → Contains old g ⊎ Reaches s f g
+  pub opened : (g : NodeId) → Contains new g → Contains old g ⊎ IsOpened s f new g

@@ -1,7 +1,7 @@
 //! What is reached from a diagram: its size.
 ghost use Rattle.std.specs.Prelude.{IfOk, OnOk};
 ghost use Rattle.tm_dd.specs.Table.{Knows};
-ghost use Rattle.tm_ddops.specs.Reached.{HasSize, IsClosed, IsGathered, IsInnerNodes};
+ghost use Rattle.tm_ddops.specs.Reached.{HasSize, IsGathered, IsInnerNodes};
 
 use crate::manager::Manager;
 use std::alloc::{AllocError, Global};
@@ -37,18 +37,15 @@ pub(crate) fn inner_nodes(alloc: Global, store: &Store, f: NodeId) -> Result<Inn
     Ok(inner)
 }
 
-/// Adds the ids of inner nodes that are reached from `f`.
+/// Adds the ids of inner nodes that are reached from `f`, and goes on from an id only where it is new.
 fn gather(store: &Store, f: NodeId, inner: &mut Inner) -> Result<(), AllocError>
-    requires known { Knows store.now f }
-    requires closed { IsClosed store.now inner.old.keys }
+    requires { Knows store.now f }
     ensures { OnOk result (IsGathered store.now f inner.old.keys inner.new.keys) }
 {
-    if f.is_constant() || inner.contains(&f) {
+    if f.is_constant() || !inner.insert(f)? {
         return Ok(());
     }
     let node = store.node(f);
     gather(store, node.lo, inner)?;
-    gather(store, node.hi, inner)?;
-    inner.insert(f)?;
-    Ok(())
+    gather(store, node.hi, inner)
 }

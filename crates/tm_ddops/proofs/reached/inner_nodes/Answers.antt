@@ -1,9 +1,5 @@
-use Rattle.tm_ddops.proofs.Reach.{closed_empty, inner_from_gathered}
+use Rattle.tm_ddops.proofs.Reach.{inner_from_gathered}
 use Rattle.tm_ddops.proofs.reached.inner_nodes.Goals as goal
-
-pub gather-requires : goal.gather-requires
-gather-requires c = record
-    { known = c.requires; closed = closed_empty c.args.store.now c.in_ok-inner.inner.keys c.in_ok-inner.ensures.empty }
 
 pub returns : goal.returns
 returns c =
