@@ -1,6 +1,6 @@
 -- The states from which not every step stays within some ranks, rank by rank and goal by goal.
-use Rattle.std.proofs.Common.{◌≡◌, ◌⊎◌, inl, inr, ℕ, ◌+◌, ◌-◌, ◌<◌, Bool, true, ◌&&◌, ◌||◌, not, List, [], ◌∷◌, ◌++◌, Some}
-use Rattle.std.proofs.Common.{length, reverse, get_or, refl, sym, ap, ◌∙◌, subst, arith}
+use Rattle.std.proofs.Common.{◌≡◌, ◌⊎◌, inl, inr, ℕ, ◌+◌, ◌-◌, ◌<◌, Bool, true, ◌&&◌, ◌||◌, not, List, [], ◌∷◌}
+use Rattle.std.proofs.Common.{◌++◌, Some, length, reverse, get_or, refl, sym, ap, ◌∙◌, subst, arith}
 use Rattle.std.specs.Prelude.{slice_get}
 use Rattle.std.proofs.lemmas.List.{get_or-reverse, length-reverse, length_push}
 use Rattle.std.proofs.lemmas.Option.{slice_get-get_or, slice_get_within}
@@ -10,9 +10,8 @@ use Rattle.tm_check.proofs.Growth.{sized_kept}
 use Rattle.tm_check.proofs.Pushed.{pushed_at}
 use Rattle.tm_check.specs.declared.leaving.Leaving.{Leaving}
 use Rattle.tm_check.specs.declared.loaded.DriverDiagrams.{DriverDiagrams}
-use Rattle.tm_check.specs.declared.loaded.RankedDiagrams.{RankedDiagrams}
 use Rattle.tm_check.specs.Leaving.{AreAnswers, AreLeaving, AreLeavingRanks, Plays}
-use Rattle.tm_check.specs.Loaded.{AreRankedDiagrams, row_at}
+use Rattle.tm_check.specs.Loaded.{row_at}
 use Rattle.tm_check.specs.Told.{IsTold, last_within}
 use Rattle.tm_check.proofs.Found.{last_is}
 use Rattle.tm_game_bits.specs.AssignedStates.{state_of}
@@ -23,8 +22,7 @@ use Rattle.tm_check.proofs.Staying.{answered_same, calm_same}
 use Rattle.tm_cir.specs.Answer.{Answers}
 use Rattle.tm_cir.specs.Tree.{BlockTree}
 use Rattle.tm_dd.specs.declared.node.NodeId.{NodeId}
-use Rattle.tm_dd.specs.declared.node.TheConstants.{FALSE}
-use Rattle.tm_dd.specs.Table.{Knows, Table, means}
+use Rattle.tm_dd.specs.Table.{Knows, means}
 use Rattle.tm_ddops.specs.Manager.{IsFunction}
 use Rattle.tm_verdict.specs.Found.{AnswerKeeps, MayLeave, within_rank}
 use Rattle.tm_game_bits.proofs.Extended.{IsSetOf-Extends}

@@ -1,7 +1,7 @@
 -- The states from which not every step stays within the ranks before one: those from which not every step stays within
 -- the ranks up to it, and those from which some step ends in it.
 use Rattle.std.proofs.Common.{◌≡◌, ◌⊎◌, inl, inr, ℕ, ◌+◌, ◌<◌, Bool, true, false, ◌&&◌, ◌||◌, not, List, Some, length}
-use Rattle.std.proofs.Common.{get_or, refl, sym, ap, ◌∙◌, subst, arith}
+use Rattle.std.proofs.Common.{get_or, refl, sym, ◌∙◌, subst, arith}
 use Rattle.std.specs.Prelude.{slice_get}
 use Rattle.std.proofs.lemmas.Option.{slice_get-get_or}
 use Rattle.tm_check.specs.declared.loaded.DriverDiagrams.{DriverDiagrams}
@@ -13,7 +13,7 @@ use Rattle.tm_check.specs.Told.{IsTold}
 use Rattle.tm_check.proofs.Keeping.{answers_kept, told_kept}
 use Rattle.tm_check.proofs.LeavingRanks.{plays_of}
 use Rattle.tm_check.proofs.Parts.{within_more}
-use Rattle.tm_check.proofs.States.{false_never, never_true, states_or, states_same, states_without, test_all, test_only}
+use Rattle.tm_check.proofs.States.{false_never, states_or, states_same, states_without, test_all, test_only}
 use Rattle.tm_check.proofs.Staying.{keeps_along}
 use Rattle.tm_cir.specs.Answer.{Answers}
 use Rattle.tm_cir.specs.Tree.{BlockTree}
@@ -28,11 +28,11 @@ use Rattle.tm_game_bits.specs.AssignedStates.{assignment_of, state_of}
 use Rattle.tm_sem.specs.declared.state.Move.{Move}
 use Rattle.tm_sem.specs.declared.state.Outcome.TheVariants.{Next}
 use Rattle.tm_sem.specs.Certificates.{AreRanked, DriverSets, RankedSet}
-use Rattle.tm_sem.specs.Forcing.{IsCalm, Keeps}
+use Rattle.tm_sem.specs.Forcing.{Keeps}
 use Rattle.tm_sem.specs.State.{StateData}
-use Rattle.tm_sem.specs.Step.{IsState, is_driver_turn}
+use Rattle.tm_sem.specs.Step.{IsState}
 use Rattle.tm_syntax.specs.Design.{DesignTree}
-use Rattle.tm_verdict.specs.Found.{AnswerKeeps, MayLeave, within_rank}
+use Rattle.tm_verdict.specs.Found.{MayLeave, within_rank}
 use Rattle.tm_verdict.specs.Regular.{IsRegular}
 
 -- ---- a set that holds just the states of two
@@ -91,7 +91,8 @@ module _ (d : DesignTree) (regular : IsRegular d) (answers : StateData → ℕ �
         by : (b : Bool) → means s x (assignment_of d g.order st) ≡ b → P st ⊎ (¬ P st)
         by true h = inl (test_only d g of sized s P x is st valid h)
         by false h =
-            inr (λ so. false_never (means s x (assignment_of d g.order st)) h (test_all d g of sized s P x is st valid so))
+            inr (λ so.
+            false_never (means s x (assignment_of d g.order st)) h (test_all d g of sized s P x is st valid so))
 
     split : (st : StateData) → IsState d st → MayLeave d answers both goal st →
         MayLeave d answers one goal st ⊎ MayLeave d answers other goal st
@@ -178,7 +179,8 @@ module _ (d : DesignTree) (order : List ℕ) (c : DriverSets) (goal index : ℕ)
     one_less s t left ending id left_is ending_is is =
         leaves_either d regular answers goal (within_rank ranked (1 + index)) (lacks_rank ranked index)
         (within_rank ranked index)
-        (λ st here up_to lacks. lacks_meet (within_rank ranked (1 + index) st) (within_rank ranked index st) up_to lacks)
+        (λ st here up_to lacks.
+        lacks_meet (within_rank ranked (1 + index) st) (within_rank ranked index st) up_to lacks)
         (λ st here before.
         within_more ranked index r st at ∙ true_first (within_rank ranked index st) (r.set st) before)
         (λ st here before. lacks_before (within_rank ranked (1 + index) st) (within_rank ranked index st) before)

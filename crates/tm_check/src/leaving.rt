@@ -1,7 +1,6 @@
 //! The states from which not every step stays within some ranks.
 ghost use Rattle.std.specs.Prelude.{◌≡◌, ◌+◌, ◌<◌, ℕ, Bool, true, IfOk, List, length};
 ghost use Rattle.tm_check.specs.Good.{HasReplies};
-ghost use Rattle.tm_check.specs.Replies.{AreReplies};
 ghost use Rattle.tm_check.specs.Leaving.{AreAnswers, AreLeaving, AreLeavingRanks, HasAnswers, HasRank, Plays};
 ghost use Rattle.tm_check.specs.Loaded.{row_at};
 ghost use Rattle.tm_check.specs.Told.{HasTold, IsTold};
@@ -9,7 +8,7 @@ ghost use Rattle.tm_cir.specs.Answer.{Answers};
 ghost use Rattle.tm_cir.specs.Tree.{BlockTree};
 ghost use Rattle.tm_dd.specs.Table.{Knows};
 ghost use Rattle.tm_verdict.specs.Found.{MayLeave, within_rank};
-ghost use Rattle.tm_game.specs.Game.{Grows, IsOf, IsSet, IsStates};
+ghost use Rattle.tm_game.specs.Game.{Grows, IsSet, IsStates};
 ghost use Rattle.tm_sem.specs.Certificates.{AreRanked, DriverSets, RankedSet};
 ghost use Rattle.tm_sem.specs.State.{StateData};
 ghost use Rattle.tm_syntax.specs.Design.{DesignTree};
@@ -90,8 +89,8 @@ fn goal_leaving(
     Ok(Leaving { sets })
 }
 
-// These states for the ranks before one of a goal, from those for the ranks up to it: in place of a set of many ranks
-// what a step may lead to is the one rank that is not there.
+// These states for the ranks before one of a goal, from those for the ranks up to it: a step stays within fewer ranks
+// where it stays within more of them and does not end in the last one, whose diagram is small.
 fn one_rank_less(
     alloc: Global,
     game: &mut Game,

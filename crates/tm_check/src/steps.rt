@@ -1,7 +1,6 @@
 //! The conditions on steps: C3 to C6.
 ghost use Rattle.std.specs.Prelude.{◌<◌, ◌∷◌, [], IfOk, List, length, map};
 ghost use Rattle.tm_check.specs.Leaving.{AddsRising, AddsStaying, AreAnswers, AreLeaving, HasAnswers, HasLeaving};
-ghost use Rattle.tm_check.specs.Leaving.{HasRank};
 ghost use Rattle.tm_check.specs.Loaded.{row_at};
 ghost use Rattle.tm_check.specs.Told.{HasTold, IsTold};
 ghost use Rattle.tm_check.specs.Tried.{AreTried, HavePassed};

@@ -1,9 +1,7 @@
-use Rattle.std.proofs.Common.{◌≡◌, ℕ, ◌+◌, ◌-◌, ◌<◌, List, [], ◌∷◌, ◌++◌, true, Some, length, sym, ap, ◌∙◌, subst, arith}
+use Rattle.std.proofs.Common.{◌≡◌, ℕ, ◌+◌, ◌-◌, List, [], ◌∷◌, ◌++◌, true, Some, length, sym, ap, ◌∙◌, subst, arith}
 use Rattle.std.proofs.lemmas.Option.{slice_get-get_or}
-use Rattle.tm_check.specs.declared.leaving.Leaving.{Leaving}
 use Rattle.tm_check.specs.declared.replies.Replies.{Replies}
 use Rattle.tm_check.proofs.Found.{all_found}
-use Rattle.tm_check.proofs.KeepingReplies.{replies_kept}
 use Rattle.tm_check.proofs.Keeping.{answers_kept, told_kept}
 use Rattle.tm_check.proofs.LeavingRanks.{AreFirstLeaving, all_left, leaving_all, leaving_more, leaving_none, plays_of}
 use Rattle.tm_check.proofs.Parts.{ranked_here}

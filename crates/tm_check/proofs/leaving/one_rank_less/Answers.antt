@@ -74,14 +74,14 @@ or-requires-clause-g c =
     let there = slice_get-get_or c.args.answers.now c.args.goal replies
     (omega (arith, c.requires.goal, has.3.diagrams.count, has.3.goals, has.4.count))
     ∙ ap (λ (r : Replies). Some r) (sym c.index-answers-goal.is) in
-    let others = others_here has.0 has.1 has.2 c.args.game.now c.args.told.now has.3 c.args.goal c.args.index here.0 here.1
-    c.of_rank.new.game c.without.new.game c.without.ensures.grows c.valid-valid.result c.in_ok-own.own
+    let others = others_here has.0 has.1 has.2 c.args.game.now c.args.told.now has.3 c.args.goal c.args.index here.0
+    here.1 c.of_rank.new.game c.without.new.game c.without.ensures.grows c.valid-valid.result c.in_ok-own.own
     c.in_ok-others.others
     (c.valid-valid.ensures.states has.0
     (of_kept c.args.game.now c.of_rank.new.game c.of_rank.ensures.grows has.0 has.3.of))
     (c.in_ok-own.ensures.states has.0 has.1 has.2 has.3) c.in_ok-others.ensures.rest in
-    let ending = ending_here has.0 has.1 has.2 c.args.game.now c.args.told.now has.3 c.args.goal c.args.index here.0 here.1
-    c.args.answers.now has.4 c.without.new.game c.may_leave.new.game grown replies there c.in_ok-others.others
+    let ending = ending_here has.0 has.1 has.2 c.args.game.now c.args.told.now has.3 c.args.goal c.args.index here.0
+    here.1 c.args.answers.now has.4 c.without.new.game c.may_leave.new.game grown replies there c.in_ok-others.others
     c.in_ok-ending.ending others c.in_ok-ending.ensures.leaving in
     ending.known
 
