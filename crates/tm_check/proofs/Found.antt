@@ -37,7 +37,7 @@ use Rattle.tm_verdict.specs.Driver.{driver_meaning, is_ranked, lies_within}
 use Rattle.tm_verdict.proofs.Trying.{refused_alone}
 
 -- the states of all ranks are those of the last one and lower ones
-last_is : (d : DesignTree) (order : List ℕ) (s : Table) (ranked : List RankedSet) (xs : List RankedDiagrams) →
+pub last_is : (d : DesignTree) (order : List ℕ) (s : Table) (ranked : List RankedSet) (xs : List RankedDiagrams) →
     AreRankedDiagrams d order s ranked xs →
     IsStates d order s (λ st. within_rank ranked (length ranked) st ≡ true) (last_within xs)
 last_is d order s [] [] are = states_none d order s (λ st. within_rank [] 0 st ≡ true) (λ st h. absurd (cc))

@@ -1,8 +1,8 @@
 -- The states from which not every step stays within some ranks, rank by rank and goal by goal.
-use Rattle.std.proofs.Common.{◌≡◌, ◌⊎◌, inl, inr, ℕ, ◌+◌, ◌<◌, Bool, true, ◌&&◌, ◌||◌, not, List, [], ◌∷◌, ◌++◌, Some}
-use Rattle.std.proofs.Common.{length, get_or, refl, sym, ap, ◌∙◌, subst, arith}
+use Rattle.std.proofs.Common.{◌≡◌, ◌⊎◌, inl, inr, ℕ, ◌+◌, ◌-◌, ◌<◌, Bool, true, ◌&&◌, ◌||◌, not, List, [], ◌∷◌}
+use Rattle.std.proofs.Common.{◌++◌, Some, length, reverse, get_or, refl, sym, ap, ◌∙◌, subst, arith}
 use Rattle.std.specs.Prelude.{slice_get}
-use Rattle.std.proofs.lemmas.List.{length_push}
+use Rattle.std.proofs.lemmas.List.{get_or-reverse, length-reverse, length_push}
 use Rattle.std.proofs.lemmas.Option.{slice_get-get_or, slice_get_within}
 use Rattle.tm_check.specs.declared.replies.Replies.{Replies}
 use Rattle.tm_check.specs.Good.{IsAnsweredWell}
@@ -10,20 +10,19 @@ use Rattle.tm_check.proofs.Growth.{sized_kept}
 use Rattle.tm_check.proofs.Pushed.{pushed_at}
 use Rattle.tm_check.specs.declared.leaving.Leaving.{Leaving}
 use Rattle.tm_check.specs.declared.loaded.DriverDiagrams.{DriverDiagrams}
-use Rattle.tm_check.specs.declared.loaded.RankedDiagrams.{RankedDiagrams}
 use Rattle.tm_check.specs.Leaving.{AreAnswers, AreLeaving, AreLeavingRanks, Plays}
-use Rattle.tm_check.specs.Loaded.{AreRankedDiagrams, row_at}
-use Rattle.tm_check.specs.Told.{IsTold}
+use Rattle.tm_check.specs.Loaded.{row_at}
+use Rattle.tm_check.specs.Told.{IsTold, last_within}
+use Rattle.tm_check.proofs.Found.{last_is}
 use Rattle.tm_game_bits.specs.AssignedStates.{state_of}
 use Rattle.tm_check.proofs.Keeping.{leaving_ranks_kept}
 use Rattle.tm_check.proofs.Parts.{ranked_here}
-use Rattle.tm_check.proofs.States.{states_none, states_or, states_same, states_without}
+use Rattle.tm_check.proofs.States.{states_or, states_same, states_without}
 use Rattle.tm_check.proofs.Staying.{answered_same, calm_same}
 use Rattle.tm_cir.specs.Answer.{Answers}
 use Rattle.tm_cir.specs.Tree.{BlockTree}
 use Rattle.tm_dd.specs.declared.node.NodeId.{NodeId}
-use Rattle.tm_dd.specs.declared.node.TheConstants.{FALSE}
-use Rattle.tm_dd.specs.Table.{Knows, Table, means}
+use Rattle.tm_dd.specs.Table.{Knows, means}
 use Rattle.tm_ddops.specs.Manager.{IsFunction}
 use Rattle.tm_verdict.specs.Found.{AnswerKeeps, MayLeave, within_rank}
 use Rattle.tm_game_bits.proofs.Extended.{IsSetOf-Extends}
@@ -114,50 +113,64 @@ may_leave_is d bs goal g h k l m n r plays gh hk kl lm mn test set valid turn ca
     from s (inr h) = inr h
 
 -- ---- rank by rank
--- those for the first numbers of ranks
-pub record AreFirstLeaving (d : DesignTree) (bs : List BlockTree) (c : DriverSets) (g : GameData) (goal count : ℕ)
+-- those for all of so many ranks, and for one less, and so on
+pub record AreFirstLeaving (d : DesignTree) (bs : List BlockTree) (c : DriverSets) (g : GameData) (goal ranks count : ℕ)
     (sets : List NodeId) : Type 0 where
   pub long : length sets ≡ count
   pub each : (ranked : List RankedSet) (k : ℕ) (id : NodeId) → AreRanked c goal ranked → slice_get sets k ≡ Some id →
-      IsStates d g.order g.diagrams.table (MayLeave d (Answers bs) (within_rank ranked k) goal) id
+      IsStates d g.order g.diagrams.table (MayLeave d (Answers bs) (within_rank ranked (ranks - k)) goal) id
 
-pub leaving_none : (d : DesignTree) (bs : List BlockTree) (c : DriverSets) (g : GameData) (goal : ℕ) →
-    AreFirstLeaving d bs c g goal 0 []
-leaving_none d bs c g goal = record { long = refl; each = λ ranked k id are there. absurd (cc) }
+pub leaving_none : (d : DesignTree) (bs : List BlockTree) (c : DriverSets) (g : GameData) (goal ranks : ℕ) →
+    AreFirstLeaving d bs c g goal ranks 0 []
+leaving_none d bs c g goal ranks = record { long = refl; each = λ ranked k id are there. absurd (cc) }
 
-pub leaving_more : (d : DesignTree) (bs : List BlockTree) (c : DriverSets) (g h : GameData) (goal count : ℕ)
-    (sets : List NodeId) (id : NodeId) → Grows g h → AreFirstLeaving d bs c g goal count sets →
+pub leaving_more : (d : DesignTree) (bs : List BlockTree) (c : DriverSets) (g h : GameData) (goal ranks count : ℕ)
+    (sets : List NodeId) (id : NodeId) → Grows g h → AreFirstLeaving d bs c g goal ranks count sets →
     ((ranked : List RankedSet) → AreRanked c goal ranked →
-    IsStates d h.order h.diagrams.table (MayLeave d (Answers bs) (within_rank ranked count) goal) id) →
-    AreFirstLeaving d bs c h goal (count + 1) (sets ++ id ∷ [])
-leaving_more d bs c g h goal count sets id grows so_far is = record {
+    IsStates d h.order h.diagrams.table (MayLeave d (Answers bs) (within_rank ranked (ranks - count)) goal) id) →
+    AreFirstLeaving d bs c h goal ranks (count + 1) (sets ++ id ∷ [])
+leaving_more d bs c g h goal ranks count sets id grows so_far is = record {
   long = omega (arith, length_push sets id, so_far.long);
   each = each;
 }
   where
     each : (ranked : List RankedSet) (k : ℕ) (x : NodeId) → AreRanked c goal ranked →
         slice_get (sets ++ id ∷ []) k ≡ Some x →
-        IsStates d h.order h.diagrams.table (MayLeave d (Answers bs) (within_rank ranked k) goal) x
+        IsStates d h.order h.diagrams.table (MayLeave d (Answers bs) (within_rank ranked (ranks - k)) goal) x
     each ranked k x are there = by (pushed_at sets id k x there)
       where
         by : (slice_get sets k ≡ Some x) ⊎ ((k ≡ length sets) × (id ≡ x)) →
-            IsStates d h.order h.diagrams.table (MayLeave d (Answers bs) (within_rank ranked k) goal) x
+            IsStates d h.order h.diagrams.table (MayLeave d (Answers bs) (within_rank ranked (ranks - k)) goal) x
         by (inl before) =
-            states_kept g h grows d (MayLeave d (Answers bs) (within_rank ranked k) goal) x
+            states_kept g h grows d (MayLeave d (Answers bs) (within_rank ranked (ranks - k)) goal) x
             (so_far.each ranked k x are before)
         by (inr (last, same)) =
             subst (λ (y : NodeId).
-            IsStates d h.order h.diagrams.table (MayLeave d (Answers bs) (within_rank ranked k) goal) y) same
+            IsStates d h.order h.diagrams.table (MayLeave d (Answers bs) (within_rank ranked (ranks - k)) goal) y) same
             (subst (λ (n : ℕ).
-            IsStates d h.order h.diagrams.table (MayLeave d (Answers bs) (within_rank ranked n) goal) id)
+            IsStates d h.order h.diagrams.table (MayLeave d (Answers bs) (within_rank ranked (ranks - n)) goal) id)
             (sym (last ∙ so_far.long)) (is ranked are))
 
-pub leaving_all : (d : DesignTree) (bs : List BlockTree) (c : DriverSets) (g : GameData) (goal count : ℕ)
-    (leaving : Leaving) → ((ranked : List RankedSet) → AreRanked c goal ranked → count ≡ 1 + length ranked) →
-    AreFirstLeaving d bs c g goal count leaving.sets.items → AreLeavingRanks d bs c g goal leaving
-leaving_all d bs c g goal count leaving all are = record {
-  count = λ ranked this. are.long ∙ all ranked this;
-  each = λ ranked k id this there. are.each ranked k id this there;
+-- in the other order they are those for no ranks, for one, and so on
+pub leaving_all : (d : DesignTree) (bs : List BlockTree) (c : DriverSets) (g : GameData) (goal ranks : ℕ)
+    (sets : List NodeId) (leaving : Leaving) → leaving.sets.items ≡ reverse sets →
+    ((ranked : List RankedSet) → AreRanked c goal ranked → ranks ≡ length ranked) →
+    AreFirstLeaving d bs c g goal ranks (ranks + 1) sets → AreLeavingRanks d bs c g goal leaving
+leaving_all d bs c g goal ranks sets leaving turned all are = record {
+  count = λ ranked this.
+      omega (arith, ap (λ (xs : List NodeId). length xs) turned, length-reverse sets, are.long, all ranked this);
+  each = λ ranked k id this there.
+      let at : slice_get (reverse sets) k ≡ Some id = sym (ap (λ (xs : List NodeId). slice_get xs k) turned) ∙ there in
+      let below : k < length sets = omega (arith, slice_get_within (reverse sets) k id at, length-reverse sets) in
+      let long = are.long in
+      let place : ℕ = length sets - 1 - k in
+      let same : Some (get_or (reverse sets) k id) ≡ Some id = sym (slice_get-get_or (reverse sets) k id
+      (slice_get_within (reverse sets) k id at)) ∙ at in
+      let is : get_or (reverse sets) k id ≡ id = cc in
+      let found : slice_get sets place ≡ Some id = slice_get-get_or sets place id (omega (arith, below))
+      ∙ ap (λ (x : NodeId). Some x) (sym (get_or-reverse sets k id below) ∙ is) in
+      subst (λ (n : ℕ). IsStates d g.order g.diagrams.table (MayLeave d (Answers bs) (within_rank ranked n) goal) id)
+      (omega (arith, below, long)) (are.each ranked place id this found);
 }
 
 -- ---- goal by goal
@@ -206,21 +219,25 @@ plays_of d bs c g told is answers are goal r there = record {
   replies = are.each goal r there;
 }
 
--- no state is in no rank
-pub none_within : (d : DesignTree) (g : GameData) (ranked : List RankedSet) →
-    IsStates d g.order g.diagrams.table (λ s. within_rank ranked 0 s ≡ true) FALSE
-none_within d g ranked =
-    states_none d g.order g.diagrams.table (λ s. within_rank ranked 0 s ≡ true) (λ s h. absurd (cc))
-
--- those of the first ranks
-pub within_at : (d : DesignTree) (order : List ℕ) (s : Table) (ranked : List RankedSet) (row : List RankedDiagrams)
-    (index : ℕ) (x : RankedDiagrams) → AreRankedDiagrams d order s ranked row → slice_get row index ≡ Some x →
-    IsStates d order s (λ t. within_rank ranked (1 + index) t ≡ true) x.within
-within_at d order s ranked row index x are at =
-    let spare : RankedSet = record { fair = 0; set = λ t. true } in
-    let below = slice_get_within row index x at in
-    (are.each index (get_or ranked index spare) x
-    (slice_get-get_or ranked index spare (omega (arith, below, are.count))) at).within
+-- where a set holds the states of all ranks, an id holds those from which not every step stays within these
+pub all_left : (d : DesignTree) (bs : List BlockTree) (c : DriverSets) (g h : GameData) (told : DriverDiagrams) →
+    IsTold d bs c g told → (goal ranks left : ℕ) (ranked : List RankedSet) → AreRanked c goal ranked →
+    ranks ≡ length (row_at told goal) → left ≡ ranks → (set id : NodeId) → set ≡ last_within (row_at told goal) →
+    Grows g h →
+    ((test : StateData → Bool) → IsStates d g.order g.diagrams.table (λ s. test s ≡ true) set →
+    IsStates d g.order h.diagrams.table (MayLeave d (Answers bs) test goal) id) →
+    IsStates d h.order h.diagrams.table (MayLeave d (Answers bs) (within_rank ranked left) goal) id
+all_left d bs c g h told is goal ranks left ranked are long same set id set_last grows leaves =
+    let row = is.diagrams.each goal ranked are in
+    let here = last_is d g.order g.diagrams.table ranked (row_at told goal) row in
+    let all = leaves (within_rank ranked (length ranked))
+    (subst (IsStates d g.order g.diagrams.table (λ s. within_rank ranked (length ranked) s ≡ true)) (sym set_last)
+    here) in
+    let at : length ranked ≡ left = omega (arith, row.count, long, same) in
+    subst (λ (n : ℕ). IsStates d h.order h.diagrams.table (MayLeave d (Answers bs) (within_rank ranked n) goal) id) at
+    (subst (λ (o : List ℕ).
+    IsStates d o h.diagrams.table (MayLeave d (Answers bs) (within_rank ranked (length ranked)) goal) id)
+    (sym grows.order) all)
 
 -- as many as the ranks, and one
 pub leaving_long : (d : DesignTree) (bs : List BlockTree) (c : DriverSets) (g : GameData) (told : DriverDiagrams) →

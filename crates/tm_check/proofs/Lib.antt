@@ -9,6 +9,7 @@ pub mod LeavingRanks
 pub mod Looping
 pub mod Moving
 pub mod OnePart
+pub mod OneRankLess
 pub mod Parts
 pub mod Placing
 pub mod Pushed

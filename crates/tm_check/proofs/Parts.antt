@@ -113,7 +113,7 @@ module _ (d : DesignTree) (order : List ℕ) (answers : StateData → ℕ → Mo
 -- ---- ranks
 module _ (ranked : List RankedSet) where
   -- with the region of an index
-  within_more : (k : ℕ) (r : RankedSet) (st : StateData) → slice_get ranked k ≡ Some r →
+  pub within_more : (k : ℕ) (r : RankedSet) (st : StateData) → slice_get ranked k ≡ Some r →
       within_rank ranked (1 + k) st ≡ (within_rank ranked k st || r.set st)
   within_more k r st at = by ranked k r at
     where

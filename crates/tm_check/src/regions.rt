@@ -176,8 +176,8 @@ fn goal_ranking(game: &mut Game, told: &DriverDiagrams, goal: usize) -> Result<V
     Ok(verdict)
 }
 
-// The states that have a rank for a goal.
-fn all_ranked(told: &DriverDiagrams, goal: usize) -> NodeId
+/// The states that have a rank for a goal.
+pub(crate) fn all_ranked(told: &DriverDiagrams, goal: usize) -> NodeId
     requires { goal < length told.now.goals.items }
     ensures { result ≡ last_within (row_at told.now goal) }
 {

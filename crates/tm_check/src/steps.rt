@@ -1,7 +1,6 @@
 //! The conditions on steps: C3 to C6.
 ghost use Rattle.std.specs.Prelude.{◌<◌, ◌∷◌, [], IfOk, List, length, map};
 ghost use Rattle.tm_check.specs.Leaving.{AddsRising, AddsStaying, AreAnswers, AreLeaving, HasAnswers, HasLeaving};
-ghost use Rattle.tm_check.specs.Leaving.{HasRank};
 ghost use Rattle.tm_check.specs.Loaded.{row_at};
 ghost use Rattle.tm_check.specs.Told.{HasTold, IsTold};
 ghost use Rattle.tm_check.specs.Tried.{AreTried, HavePassed};
@@ -14,7 +13,7 @@ ghost use Rattle.tm_syntax.specs.Design.{DesignTree};
 ghost use Rattle.tm_verdict.specs.Driver.{falls_when_fair, goals_of, is_answered, is_calm, never_rises};
 ghost use Rattle.tm_verdict.specs.Found.{Awaits};
 
-use crate::leaving::Leaving;
+use crate::leaving::{Leaving, of_rank};
 use crate::loaded::{DriverDiagrams, rank_count, ranked_at};
 use crate::trying::{try_part, without};
 use crate::{Replies, good_answers};
@@ -249,27 +248,6 @@ fn stays_at(
     let staying = game.and(waiting, leaving[goal].sets[index])?;
     let all = game.or(set, staying)?;
     Ok(all)
-}
-
-// The states that have a rank. They were asked for where it was tried whether the rank adds one, and are remembered.
-fn of_rank(
-    game: &mut Game,
-    told: &DriverDiagrams,
-    goal: usize,
-    index: usize,
-) -> Result<NodeId, AllocError>
-    requires told { HasTold game.old told.now }
-    requires goal { goal < length told.now.goals.items }
-    requires index { index < length (row_at told.now goal) }
-
-    ensures grows { Grows game.old game.new }
-    ensures states { IfOk result (λ id. (d : DesignTree) (bs : List BlockTree) (c : DriverSets)
-        → IsTold d bs c game.old told.now
-        → IsStates d game.new.order game.new.diagrams.table (HasRank c goal index) id) }
-{
-    let rank = ranked_at(told, goal, index);
-    let own = without(game, rank.set, rank.before)?;
-    Ok(own)
 }
 
 // The states of the region at which a goal fails.

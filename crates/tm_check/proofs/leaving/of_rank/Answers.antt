@@ -1,6 +1,6 @@
 use Rattle.tm_check.proofs.Found.{own}
 use Rattle.tm_check.proofs.StepParts.{rank_found}
-use Rattle.tm_check.proofs.steps.of_rank.Goals as goal
+use Rattle.tm_check.proofs.leaving.of_rank.Goals as goal
 use Rattle.tm_game.proofs.Growing.{grows_none}
 
 pub without-requires-clause-set : goal.without-requires-clause-set
