@@ -1,6 +1,7 @@
 //! Parts of drawn sets over the cells of predicates.
 ghost use Rattle.std.specs.Prelude.{◌<◌, All, IfOk};
-ghost use Rattle.tm_abs.specs.Tracked.{AreInPool, HasPooled};
+ghost use Rattle.tm_abs.specs.Cells.{AreCells};
+ghost use Rattle.tm_abs.specs.Tracked.{HasPooled};
 ghost use Rattle.tm_dd.specs.Table.{Knows};
 ghost use Rattle.tm_game.specs.Game.{Grows, IsSet};
 ghost use Rattle.tm_syntax.specs.Design.View.{design_tree};
@@ -44,7 +45,8 @@ pub fn parted(alloc: Global, design: &Design, side: Side, sets: u32) -> Result<S
     let order = order_of(alloc, design, "control")?;
     let mut game = ordered_game(alloc, design, &order)?;
     let pool = game.flat().pool.len();
-    let cells = first_cells(alloc, pool)?;
+    let numbers = first_numbers(alloc, pool)?;
+    let cells = Cells::new(alloc, &mut game, numbers)?;
     let counts = count(alloc, &mut game, &cells, side, sets)?;
     format!(in alloc;
         "{} bits, {} of {pool} predicates, {} nodes, {} made",
@@ -55,15 +57,15 @@ pub fn parted(alloc: Global, design: &Design, side: Side, sets: u32) -> Result<S
     )
 }
 
-// The cells of the first predicates of a pool of so many.
-fn first_cells(alloc: Global, pool: usize) -> Result<Cells, AllocError>
-    ensures { IfOk result (λ cells. All (λ k. k < pool) cells.tracked.items) }
+// The numbers of the first predicates of a pool of so many.
+fn first_numbers(alloc: Global, pool: usize) -> Result<Vec<u32>, AllocError>
+    ensures { IfOk result (λ numbers. All (λ k. k < pool) numbers.items) }
 {
-    let mut tracked = Vec::new(alloc);
+    let mut numbers = Vec::new(alloc);
     for number in 0..pool.min(MOST_TRACKED) {
-        tracked.push(number as u32)?;
+        numbers.push(number as u32)?;
     }
-    Ok(Cells { tracked })
+    Ok(numbers)
 }
 
 // Draws so many sets, and counts nodes.
@@ -75,7 +77,7 @@ fn count(
     sets: u32,
 ) -> Result<Counts, AllocError>
     requires pool { HasPooled game.old }
-    requires tracked { AreInPool game.old cells.now.tracked.items }
+    requires cells { AreCells game.old cells.now }
 {
     let mut counts = Counts { sets: 0, made: 0 };
     for seed in 0..sets {
@@ -96,7 +98,7 @@ fn part_of(
     set: NodeId,
 ) -> Result<NodeId, AllocError>
     requires pool { HasPooled game.old }
-    requires tracked { AreInPool game.old cells.now.tracked.items }
+    requires cells { AreCells game.old cells.now }
     requires set { IsSet game.old set }
     ensures grows { Grows game.old game.new }
     ensures known { IfOk result (λ part. Knows game.new.diagrams.table part) }

@@ -1,7 +1,9 @@
 pub mod Composing
+pub mod Copying
 pub mod Cutting
 pub mod Depending
 pub mod Joining
+pub mod Kept
 pub mod Marking
 pub mod Narrowing
 pub mod Narrows

@@ -1,5 +1,6 @@
 -- The upper part of a set is what the calls that make it leave.
 use Rattle.std.proofs.Common.{◌≡◌, inl, ℕ, ◌<◌, Bool, true, List, length, sym, ◌∙◌, subst, arith}
+use Rattle.std.proofs.Math.Logic.{∥∥₁_elim}
 use Rattle.std.specs.Prelude.{◌&&◌, All, Contains, slice_index_or}
 use Rattle.std.proofs.lemmas.List.Elements.{All-contains, Contains-get_or}
 use Rattle.tm_abs.proofs.Marking.{marked_within}
@@ -57,7 +58,7 @@ module _ (d : DesignTree) (g : GameData) (pooled : IsPooled d g) (order : IsOrde
     (set_valid : (v : Assignment) → means g.diagrams.table set v ≡ true → IsState d (state_of d g.order v)) (s : Table)
     (e : Extends g.diagrams.table s) (free marks : List Bool) (all joined left : List Atom) (reads levels : List ℕ)
     (count : length free ≡ length g.order) (atoms : All (IsAtom (length g.order) s) all)
-    (tracked : AreTracked d g s (tracked_of d numbers) free all) (are_read : AreRead s set reads)
+    (tracked : ∥ AreTracked d g s (tracked_of d numbers) free all ∥₁) (are_read : AreRead s set reads)
     (joining : IsJoining free reads all marks levels joined left)
     (none : All (λ (a : Atom). ReadsNone marks a.reads.items) left) where
   low : (k : ℕ) → is_marked_level marks k ≡ true → k < length g.order
@@ -94,6 +95,10 @@ module _ (d : DesignTree) (g : GameData) (pooled : IsPooled d g) (order : IsOrde
     within_at a there =
         All-contains (λ (b : Atom). ReadsWithin free marks b.reads.items) joined a joining.joined there
 
+    tracked_at : ∥ AreTracked d g t (tracked_of d numbers) free all ∥₁
+    tracked_at =
+        ∥∥₁_elim tracked (squash₁) (λ is. ∣ tracked_kept s t f d g (tracked_of d numbers) free all is ∣₁)
+
     none_at : (a : Atom) → Contains left a → ReadsNone marks a.reads.items
     none_at a there = All-contains (λ (b : Atom). ReadsNone marks b.reads.items) left a none there
 
@@ -122,7 +127,7 @@ module _ (d : DesignTree) (g : GameData) (pooled : IsPooled d g) (order : IsOrde
     part_itself no_level =
         tests set
         (set_states d g (coding_told d g pooled.of order) t (tracked_of d numbers) free marks all joined left
-        (tracked_kept s t f d g (tracked_of d numbers) free all tracked) count joining.all atom_at within_at none_at low
+        tracked_at count joining.all atom_at within_at none_at low
         joining.only_free set reads reads_at joining.set state_at valid_at
         (Knows-Extends g.diagrams.table t whole set is_set.known) no_level)
 
@@ -135,7 +140,7 @@ module _ (d : DesignTree) (g : GameData) (pooled : IsPooled d g) (order : IsOrde
     part_reached reached valid final is valid_is both =
         tests final
         (upper_states d g (coding_told d g pooled.of order) t (tracked_of d numbers) free marks all joined left
-        (tracked_kept s t f d g (tracked_of d numbers) free all tracked) count joining.all atom_at within_at none_at low
+        tracked_at count joining.all atom_at within_at none_at low
         joining.only_free set reads reads_at joining.set state_at valid_at reached
         (subst (λ (h : Function). IsReached t marks joined (length g.order) h reached) (sym between) is) valid final
         valid_is both)

@@ -1,5 +1,5 @@
 -- The diagram of the term of a predicate.
-use Rattle.std.proofs.Common.{◌≡◌, inl, inr, ℕ, suc, ◌+◌, ◌<◌, ◌≤◌, ◌==◌, Bool, true, false, cond, List, [], ◌∷◌, Some, None, Option, length, get_or, map, refl, sym, ap, ◌∙◌, subst, arith}
+use Rattle.std.proofs.Common.{◌≡◌, inl, inr, ℕ, suc, ◌+◌, ◌-◌, ◌<◌, ◌≤◌, ◌==◌, Bool, true, false, cond, List, [], ◌∷◌, Some, None, Option, length, get_or, map, take, refl, sym, ap, ◌∙◌, subst, arith}
 use Rattle.std.specs.Prelude.{All, IsSomeAnd, MatchOption, slice_get, sum}
 use Rattle.std.proofs.lemmas.Bool.{cases_lt, eqb-true}
 use Rattle.std.proofs.lemmas.Slice.Zip.{AllZip-right}
@@ -10,6 +10,7 @@ use Rattle.tm_abs.specs.Inner.Reading.{AreRead, IsPredicate, ReadsOnly, Tells, b
 use Rattle.tm_abs.specs.Tracked.{IsPooled}
 use Rattle.tm_base.specs.Arithmetic.{bit}
 use Rattle.tm_base.specs.Bits.{number_of}
+use Rattle.tm_blast.proofs.CallerLaws.{AreBits-extended, AreBits-more_terms}
 use Rattle.tm_blast.specs.Bits.{AreBits, input_values}
 use Rattle.tm_dd.specs.declared.node.NodeId.{NodeId}
 use Rattle.tm_dd.specs.declared.node.Node.{Node}
@@ -18,11 +19,12 @@ use Rattle.tm_dd.specs.Reduced.{IsNode}
 use Rattle.tm_dd.specs.Table.{Table, Knows, means}
 use Rattle.tm_dd.proofs.CallerLaws.{means-FALSE, means-TRUE}
 use Rattle.tm_ddops.specs.Support.{DependsOn, with_value}
+use Rattle.tm_flat.specs.Flat.{FlatTerms}
 use Rattle.tm_flat.specs.Inputs.{room}
 use Rattle.tm_flat_pool.specs.PoolTerms.{IsPredicateTerm}
 use Rattle.tm_flat_pool.specs.Predicates.{Predicate, pool, predicate_holds}
-use Rattle.tm_game.proofs.Ordered.{order_is}
-use Rattle.tm_game.specs.Game.{GameData}
+use Rattle.tm_game.proofs.Ordered.{order_is, widths_are}
+use Rattle.tm_game.specs.Game.{GameData, Grows, IsOf}
 use Rattle.tm_game.specs.Start.{state_bits_in}
 use Rattle.tm_game_bits.proofs.InputLevels.{are_bits, levels_fit, values_told}
 use Rattle.tm_game_bits.specs.AssignedStates.{state_of}
@@ -129,6 +131,26 @@ module _ (d : DesignTree) (g : GameData) (pooled : IsPooled d g) (k : ℕ) (term
         inputs = inputs_alone;
         tells = tells_it;
       }
+
+-- the bits of a term of a game are its bits in each game that has grown, whichever design that is of
+module _ (e d : DesignTree) (g k h : GameData) (of : IsOf e g) (now : IsOf d h) (gh : Grows g h) (kh : Grows k h) where
+  same_widths : state_widths e ≡ state_widths d
+  same_widths =
+      sym (widths_are g.terms e g.flat of.flat)
+      ∙ ap (λ (f : FlatTerms). take (length f.widths - 128) f.widths) (sym gh.flat)
+      ∙ widths_are h.terms d h.flat now.flat
+
+  pub bits_grown : (term : TermId) → IsKnown g.terms term → (ids : List NodeId) →
+      AreBits g.terms (input_levels g.order (state_widths e)) k.diagrams.table term ids →
+      AreBits h.terms (input_levels h.order (state_widths d)) h.diagrams.table term ids
+  bits_grown term known ids are =
+      subst (λ (o : List ℕ). AreBits h.terms (input_levels o (state_widths d)) h.diagrams.table term ids)
+      (sym gh.order)
+      (subst (λ (ws : List ℕ). AreBits h.terms (input_levels g.order ws) h.diagrams.table term ids) same_widths
+      (AreBits-more_terms g.terms h.terms (input_levels g.order (state_widths e)) h.diagrams.table term ids gh.terms
+      known
+      (AreBits-extended g.terms (input_levels g.order (state_widths e)) k.diagrams.table h.diagrams.table term ids
+      kh.diagrams are)))
 
 -- a node that is the bit of its level
 pub bit_node : (s : Table) (id : NodeId) (n : Node) → IsNode s id n → n.lo ≡ FALSE → n.hi ≡ TRUE →

@@ -1,17 +1,17 @@
--- A predicate is read in a game that has grown.
+-- A predicate is read, in a game that has grown.
 use Rattle.std.proofs.Common.{◌≡◌, ℕ, ◌+◌, ◌<◌, Bool, false, List, [], ◌∷◌, ◌++◌, Some, length, set, sym, ap, ◌∙◌, subst}
 use Rattle.std.specs.Prelude.{slice_get}
 use Rattle.tm_abs.proofs.Predicates.{term_known, told}
-use Rattle.tm_abs.proofs.Tracking.{tracked_atom, tracked_bit, tracked_kept}
+use Rattle.tm_abs.proofs.Tracking.{tracked_atom, tracked_bit}
 use Rattle.tm_abs.specs.declared.atoms.Atom.{Atom}
-use Rattle.tm_abs.specs.Inner.Atoms.{AreTracked, IsNumbered}
+use Rattle.tm_abs.specs.Inner.Atoms.{AreTracked}
 use Rattle.tm_abs.specs.Inner.Reading.{IsPoolFunction, IsPredicate, Tells, bit_at}
 use Rattle.tm_abs.specs.Tracked.{IsPooled, tracked_of}
 use Rattle.tm_blast.specs.Bits.{input_values}
 use Rattle.tm_dd.specs.declared.node.NodeId.{NodeId}
 use Rattle.tm_dd.specs.Table.{Table, means}
 use Rattle.tm_flat.specs.Flat.{FlatTerms}
-use Rattle.tm_flat_pool.specs.Predicates.{Predicate}
+use Rattle.tm_flat_pool.specs.Predicates.{Predicate, pool}
 use Rattle.tm_game.specs.Game.{GameData, Grows}
 use Rattle.tm_game_bits.specs.Functions.{Function}
 use Rattle.tm_game_bits.specs.Inputs.{input_levels}
@@ -45,26 +45,24 @@ module _ (d : DesignTree) (first g : GameData) (pooled : IsPooled d first) (grow
     tells = λ p at. subst (λ (o : List ℕ). Tells d o (means s id) p) grows.order (is.tells p at);
   }
 
-  module _ (h : GameData) (more : Grows g h) (before : List Predicate) (free : List Bool) (atoms : List Atom)
-      (tracked : AreTracked d first g.diagrams.table before free atoms) (k : ℕ) (id : NodeId)
-      (predicate : IsPredicate d g h.diagrams.table k id) where
-    now : AreTracked d first h.diagrams.table before free atoms
-    now = tracked_kept g.diagrams.table h.diagrams.table more.diagrams d first before free atoms tracked
+module _ (d : DesignTree) (g : GameData) (pooled : IsPooled d g) (before : List Predicate) (free : List Bool)
+    (atoms : List Atom) (tracked : AreTracked d g g.diagrams.table before free atoms) (k : ℕ) (id : NodeId)
+    (predicate : IsPredicate d g g.diagrams.table k id) where
+  its : (p : Predicate) × (slice_get (pool d) k ≡ Some p)
+  its = let of = told d g pooled k predicate.function.0 predicate.function.1 in (of.0, of.1)
 
-    its : IsPredicate d first h.diagrams.table k id
-    its = predicate_first h.diagrams.table k id predicate
+  -- as a bit
+  pub read_bit : (level : ℕ) → level < length free → means g.diagrams.table id ≡ bit_at level →
+      AreTracked d g g.diagrams.table (before ++ tracked_of d (k ∷ [])) (set free level false) atoms
+  read_bit level below same =
+      tracked_bit d g g.diagrams.table before free atoms tracked k its.0 its.1 id predicate level below same
 
-    -- as a bit
-    pub read_bit : (level : ℕ) → level < length free → means h.diagrams.table id ≡ bit_at level →
-        AreTracked d first h.diagrams.table (before ++ tracked_of d (k ∷ [])) (set free level false) atoms
-    read_bit level below same =
-        let of = told d first pooled k its.function.0 its.function.1 in
-        tracked_bit d first h.diagrams.table before free atoms now k of.0 of.1 id its level below same
-
-    -- as an atom
-    pub read_atom : (a : Atom) → a.holds ≡ id → IsNumbered d g h.diagrams.table a →
-        AreTracked d first h.diagrams.table (before ++ tracked_of d (k ∷ [])) free (atoms ++ a ∷ [])
-    read_atom a holds numbered =
-        let of = told d first pooled k its.function.0 its.function.1 in
-        tracked_atom d first h.diagrams.table before free atoms now k of.0 of.1 id its a holds
-        (numbered.0, numbered.1, function_first numbered.0 (means h.diagrams.table a.holds) numbered.2)
+  -- as an atom
+  pub read_atom : (a : Atom) → a.holds ≡ id → a.level + 1 + k ≡ g.diagrams.table.levels →
+      AreTracked d g g.diagrams.table (before ++ tracked_of d (k ∷ [])) free (atoms ++ a ∷ [])
+  read_atom a holds level =
+      tracked_atom d g g.diagrams.table before free atoms tracked k its.0 its.1 id predicate a holds (
+        k,
+        level,
+        subst (λ (x : NodeId). IsPoolFunction d g k (means g.diagrams.table x)) (sym holds) predicate.function,
+      )

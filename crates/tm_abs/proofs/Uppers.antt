@@ -1,5 +1,7 @@
 -- The upper part of a set by diagrams is the union of the cells that meet it.
 use Rattle.std.proofs.Common.{◌≡◌, ◌⊎◌, inl, inr, ℕ, ◌<◌, Bool, true, List, cond, length, refl, sym, ap, ◌∙◌, subst, arith, true≢false}
+use Rattle.std.proofs.Math.Logic.{∥∥₁_elim}
+use Rattle.std.proofs.Props.{props}
 use Rattle.std.specs.Prelude.{◌↔◌, ◌&&◌, Contains, slice_index_or}
 use Rattle.std.proofs.lemmas.Bool.{and_from, and_parts, cases_lt}
 use Rattle.std.proofs.lemmas.List.Elements.{All-contains, Contains-get_or}
@@ -38,7 +40,7 @@ picked_out gone w v k not_so =
 
 module _ (d : DesignTree) (g : GameData) (coding : IsCoding d (coding_of d g.order)) (s : Table)
     (predicates : List Predicate) (free gone : List Bool) (all joined left : List Atom)
-    (tracked : AreTracked d g s predicates free all) (count : length free ≡ length g.order)
+    (tracked : ∥ AreTracked d g s predicates free all ∥₁) (count : length free ≡ length g.order)
     (parted : (a : Atom) → Contains all a ↔ (Contains joined a ⊎ Contains left a))
     (atoms : (a : Atom) → Contains all a → IsAtom (length g.order) s a)
     (within : (a : Atom) → Contains joined a → ReadsWithin free gone a.reads.items)
@@ -59,11 +61,13 @@ module _ (d : DesignTree) (g : GameData) (coding : IsCoding d (coding_of d g.ord
   atom_state : (a : Atom) → Contains all a → (v w : Assignment) → IsState d (state_of d g.order v) →
       AreOneState (length g.order) v w → means s a.holds v ≡ means s a.holds w
   atom_state a inside v w valid same =
+      ∥∥₁_elim tracked (hlevel props)
+      (λ is.
       let told =
-      All-contains (λ (b : Atom). TellsOne d g.order predicates (means s b.holds)) all a tracked.told inside in
+      All-contains (λ (b : Atom). TellsOne d g.order predicates (means s b.holds)) all a is.told inside in
       let one = coding.same v w same in
       told.2 v valid ∙ ap (λ (t : StateData). predicate_holds d t told.0) one
-      ∙ sym (told.2 w (subst (IsState d) one valid))
+      ∙ sym (told.2 w (subst (IsState d) one valid)))
 
   module _ (id : NodeId) (reached : IsReached s gone joined (length g.order) (means s set) id) where
     -- ---- where the diagram is true
@@ -95,9 +99,10 @@ module _ (d : DesignTree) (g : GameData) (coding : IsCoding d (coding_of d g.ord
 
       one_cell : IsState d (state_of d g.order v) → SameCell d predicates (state_of d g.order v) (state_of d g.order w)
       one_cell valid k x below =
-          let p = slice_index_or predicates k x in
-          let shown = tracked.each p (Contains-get_or predicates k x below) in
-          sym (shown.2 v valid) ∙ sym (shown_alike shown.0 shown.1) ∙ shown.2 w (set_valid w there)
+          ∥∥₁_elim tracked (hlevel props)
+          (λ is.
+          let shown = is.each (slice_index_or predicates k x) (Contains-get_or predicates k x below) in
+          sym (shown.2 v valid) ∙ sym (shown_alike shown.0 shown.1) ∙ shown.2 w (set_valid w there))
 
       meets : IsState d (state_of d g.order v) →
           IsInUpper d predicates (λ t. means s set (assignment_of d g.order t)) (state_of d g.order v)
@@ -143,9 +148,11 @@ module _ (d : DesignTree) (g : GameData) (coding : IsCoding d (coding_of d g.ord
 
       bit_same : (k : ℕ) → IsKept free k → v k ≡ w k
       bit_same k is =
-          let bit = tracked.bits k is in
+          ∥∥₁_elim tracked (hlevel props)
+          (λ are.
+          let bit = are.bits k is in
           bit.2 v valid ∙ told bit.0 bit.1 ∙ sym (ap (λ (u : StateData). predicate_holds d u bit.0)
-          (coding.back t t_valid)) ∙ sym (bit.2 w (subst (IsState d) (sym (coding.back t t_valid)) t_valid))
+          (coding.back t t_valid)) ∙ sym (bit.2 w (subst (IsState d) (sym (coding.back t t_valid)) t_valid)))
 
       -- levels that are kept or quantified
       read_same : (levels : List ℕ) → ReadsWithin free gone levels → (k : ℕ) → Contains levels k →
@@ -178,12 +185,14 @@ module _ (d : DesignTree) (g : GameData) (coding : IsCoding d (coding_of d g.ord
       atom_same : (a : Atom) → Contains joined a → means s a.holds chosen ≡ means s a.holds v
       atom_same a is =
           let inside = (parted a).1 (inl is) in
+          ∥∥₁_elim tracked (hlevel props)
+          (λ are.
           let one =
-          All-contains (λ (b : Atom). TellsOne d g.order predicates (means s b.holds)) all a tracked.told inside in
+          All-contains (λ (b : Atom). TellsOne d g.order predicates (means s b.holds)) all a are.told inside in
           (atoms a inside).reads chosen near (read_same a.reads.items (within a is))
           ∙ one.2 near (subst (IsState d) (sym near_is) t_valid)
           ∙ ap (λ (u : StateData). predicate_holds d u one.0) near_is ∙ sym (told one.0 one.1)
-          ∙ sym (one.2 v valid)
+          ∙ sym (one.2 v valid))
 
       reached_there : means s id v ≡ true
       reached_there =

@@ -1,3 +1,4 @@
+pub mod Cells
 pub mod Inner
 pub mod Split
 pub mod Tracked

@@ -1,4 +1,8 @@
 //! Tracked predicates that are no state bits.
+ghost use Rattle.std.specs.Prelude.{◌≡◌, IfOk, map};
+ghost use Rattle.tm_abs.specs.Inner.Atoms.{data_of};
+
+use std::alloc::{AllocError, Global};
 use tm_dd::NodeId;
 
 /// A tracked predicate that is no state bit.
@@ -19,4 +23,28 @@ pub(crate) struct Tracked {
     pub(crate) free: Vec<bool>,
     /// Those that are no state bits.
     pub(crate) atoms: Vec<Atom>,
+}
+
+// The same atoms once more.
+pub(crate) fn copied(alloc: Global, atoms: &[Atom]) -> Result<Vec<Atom>, AllocError>
+    ensures { IfOk result (λ copies. map data_of copies.items ≡ map data_of atoms.now) }
+{
+    let mut copies = Vec::new(alloc);
+    for atom in atoms {
+        let copy = copy_of(alloc, atom)?;
+        copies.push(copy)?;
+    }
+    Ok(copies)
+}
+
+// The same atom once more.
+fn copy_of(alloc: Global, atom: &Atom) -> Result<Atom, AllocError>
+    ensures { IfOk result (λ copy. data_of copy ≡ data_of atom.now) }
+{
+    let reads = Vec::from_slice(alloc, &atom.reads)?;
+    Ok(Atom {
+        level: atom.level,
+        holds: atom.holds,
+        reads,
+    })
 }

@@ -1,5 +1,6 @@
 //! The lower and the upper part of a set of states (de Alfaro and Roy 2007).
-ghost use Rattle.std.specs.Prelude.{◌&&◌, IfOk};
+ghost use Rattle.std.specs.Prelude.{◌≡◌, ◌&&◌, IfOk};
+ghost use Rattle.tm_abs.specs.Cells.{AreCells};
 ghost use Rattle.tm_abs.specs.Tracked.{AreInPool, HasPooled, IsPooled, tracked_of};
 ghost use Rattle.tm_dd.specs.Table.{means};
 ghost use Rattle.tm_ddops.specs.Manager.{IsFunction};
@@ -10,24 +11,44 @@ ghost use Rattle.tm_game.specs.Start.{state_bits_in};
 ghost use Rattle.tm_game_bits.specs.Order.{IsOrder};
 ghost use Rattle.tm_syntax.specs.Design.{DesignTree};
 
+use crate::atoms::Tracked;
+use crate::reading::read_tracked;
 use crate::upper::upper_part;
 use std::alloc::{AllocError, Global};
 use tm_dd::NodeId;
 use tm_game::Game;
 
-/// The cells of some predicates: a cell is the set of valid states at which these have the same values.
+/// The cells of some predicates: a cell is the set of valid states at which these have the same values. They are those
+/// of the game that they were made in as long as its ids keep their meaning.
 #[derive(Drop)]
 pub struct Cells {
     /// The numbers of the tracked predicates in the pool of the game's design.
     pub tracked: Vec<u32>,
+    /// Their diagrams, as they were read.
+    pub(crate) read: Tracked,
 }
 
 impl Cells {
+    /// The cells of the predicates of these numbers in the pool of a game. Their diagrams are read here, for all parts.
+    ///
+    /// Every id keeps its meaning, also where memory runs out.
+    pub fn new(alloc: Global, game: &mut Game, tracked: Vec<u32>) -> Result<Cells, AllocError>
+        requires tracked { AreInPool game.old tracked.items }
+        requires pool { HasPooled game.old }
+
+        ensures grows { Grows game.old game.new }
+        ensures tracked { IfOk result (λ c. c.tracked.items ≡ tracked.items) }
+        ensures cells { IfOk result (AreCells game.new) }
+    {
+        let read = read_tracked(alloc, game, &tracked)?;
+        Ok(Cells { tracked, read })
+    }
+
     /// The states of the cells that lie in a set.
     ///
     /// Every id keeps its meaning, also where memory runs out.
     pub fn lower(&self, alloc: Global, game: &mut Game, c: NodeId) -> Result<NodeId, AllocError>
-        requires tracked { AreInPool game.old self.now.tracked.items }
+        requires cells { AreCells game.old self.now }
         requires pool { HasPooled game.old }
         requires set { IsSet game.old c }
 
@@ -37,7 +58,7 @@ impl Cells {
             (IsInLower d (tracked_of d self.now.tracked.items) (test_of d game.old c)) id) }
     {
         let outside = valid_part(game, c.complement())?;
-        let left = upper_part(alloc, game, &self.tracked, outside)?;
+        let left = upper_part(alloc, game, self, outside)?;
         valid_part(game, left.complement())
     }
 
@@ -45,7 +66,7 @@ impl Cells {
     ///
     /// Every id keeps its meaning, also where memory runs out.
     pub fn upper(&self, alloc: Global, game: &mut Game, c: NodeId) -> Result<NodeId, AllocError>
-        requires tracked { AreInPool game.old self.now.tracked.items }
+        requires cells { AreCells game.old self.now }
         requires pool { HasPooled game.old }
         requires set { IsSet game.old c }
 
@@ -55,7 +76,7 @@ impl Cells {
             (IsInUpper d (tracked_of d self.now.tracked.items) (test_of d game.old c)) id) }
     {
         let inside = valid_part(game, c)?;
-        upper_part(alloc, game, &self.tracked, inside)
+        upper_part(alloc, game, self, inside)
     }
 }
 

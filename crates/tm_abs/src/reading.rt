@@ -1,7 +1,6 @@
 //! The tracked predicates as diagrams. The game remembers the diagram of each.
-ghost use Rattle.std.specs.Prelude.{◌≡◌, ◌<◌, ◌++◌, ◌∷◌, [], All, IfOk, List, MatchOption, OnOk, length};
-ghost use Rattle.tm_abs.specs.declared.atoms.Atom.{Atom as AtomData};
-ghost use Rattle.tm_abs.specs.Inner.Atoms.{AreTracked, IsAtom, IsNumbered};
+ghost use Rattle.std.specs.Prelude.{◌≡◌, ◌+◌, ◌<◌, ◌++◌, ◌∷◌, [], All, IfOk, List, MatchOption, OnOk, length};
+ghost use Rattle.tm_abs.specs.Inner.Atoms.{AreTracked, IsAtom};
 ghost use Rattle.tm_abs.specs.Inner.Reading.{AreRead, IsPredicate, bit_at};
 ghost use Rattle.tm_abs.specs.Tracked.{AreInPool, HasPooled, IsPooled, tracked_of};
 ghost use Rattle.tm_dd.specs.Table.{Knows, means};
@@ -27,11 +26,10 @@ pub(crate) fn read_tracked(
     requires pool { HasPooled game.old }
 
     ensures grows { Grows game.old game.new }
-    ensures order { IsOrder (state_bits_in game.old.flat) game.old.order }
     ensures count { IfOk result (λ t. length t.free.items ≡ length game.old.order) }
     ensures atoms { IfOk result (λ t. All (IsAtom (length game.old.order) game.new.diagrams.table) t.atoms.items) }
-    ensures tracked { IfOk result (λ t. (d : DesignTree) → IsPooled d game.old → AreTracked d game.old
-        game.new.diagrams.table (tracked_of d numbers.now) t.free.items t.atoms.items) }
+    ensures tracked { IfOk result (λ t. (h : GameData) (d : DesignTree) → Grows game.new h → IsPooled d h
+        → AreTracked d h h.diagrams.table (tracked_of d numbers.now) t.free.items t.atoms.items) }
 {
     let mut free = equal_marks(alloc, true, game.order().len())?;
     let mut atoms = Vec::new(alloc);
@@ -57,10 +55,9 @@ fn read_predicate(
     ensures atoms { OnOk result
         (All (IsAtom (length game.old.order) game.old.diagrams.table) atoms.old.items
         → All (IsAtom (length game.old.order) game.new.diagrams.table) atoms.new.items) }
-    ensures tracked { OnOk result ((d : DesignTree) (first : GameData) (before : List Predicate) → IsPooled d first
-        → Grows first game.old → AreTracked d first game.old.diagrams.table before free.old.items atoms.old.items
-        → AreTracked d first game.new.diagrams.table (before ++ tracked_of d (number ∷ [])) free.new.items
-        atoms.new.items) }
+    ensures tracked { OnOk result ((h : GameData) (d : DesignTree) (before : List Predicate) → Grows game.new h
+        → IsPooled d h → AreTracked d h h.diagrams.table before free.old.items atoms.old.items
+        → AreTracked d h h.diagrams.table (before ++ tracked_of d (number ∷ [])) free.new.items atoms.new.items) }
 {
     let holds = predicate(game, number)?;
     if let Some(level) = bit_level(game, holds) {
@@ -81,6 +78,8 @@ pub(crate) fn predicate(game: &mut Game, number: u32) -> Result<NodeId, AllocErr
     ensures order { IsOrder (state_bits_in game.old.flat) game.old.order }
     ensures predicate { IfOk result (λ id. (d : DesignTree) → IsPooled d game.old
         → IsPredicate d game.old game.new.diagrams.table number id) }
+    ensures always { IfOk result (λ id. (h : GameData) (d : DesignTree) → Grows game.new h → IsPooled d h
+        → IsPredicate d h h.diagrams.table number id) }
 {
     let _order = game.order();
     let term = game.flat().pool[number as usize];
@@ -113,8 +112,7 @@ fn atom_of(game: &Game, number: u32, holds: NodeId) -> Result<Atom, AllocError>
 
     ensures holds { IfOk result (λ a. a.holds ≡ holds) }
     ensures atom { IfOk result (IsAtom (length game.now.order) game.now.diagrams.table) }
-    ensures numbered { IfOk result (λ (a : AtomData). (d : DesignTree) (first : GameData)
-        → IsPredicate d first game.now.diagrams.table number holds → IsNumbered d first game.now.diagrams.table a) }
+    ensures numbered { IfOk result (λ a. a.level + 1 + number ≡ game.now.diagrams.table.levels) }
 {
     let reads = levels_read(game, holds)?;
     let _order = game.order();

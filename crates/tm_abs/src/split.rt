@@ -1,5 +1,6 @@
 //! Two states of a cell that a set cuts.
 ghost use Rattle.std.specs.Prelude.{◌≡◌, ◌<◌, ◌&&◌, ◌++◌, ◌∷◌, [], IfOk, List, MatchOption, length};
+ghost use Rattle.tm_abs.specs.Cells.{AreCells};
 ghost use Rattle.tm_abs.specs.Inner.Narrowed.{IsCutOff, IsSought};
 ghost use Rattle.tm_abs.specs.Split.{IsCut, PartsAreOne};
 ghost use Rattle.tm_abs.specs.Tracked.{AreInPool, HasPooled, IsPooled, tracked_of};
@@ -37,7 +38,7 @@ impl Cells {
         game: &mut Game,
         c: NodeId,
     ) -> Result<Option<(State, State)>, AllocError>
-        requires tracked { AreInPool game.old self.now.tracked.items }
+        requires cells { AreCells game.old self.now }
         requires pool { HasPooled game.old }
         requires set { IsSet game.old c }
 

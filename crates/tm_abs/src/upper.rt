@@ -1,10 +1,11 @@
 //! The upper part of a set of valid states.
 ghost use Rattle.std.specs.Prelude.{◌≡◌, ◌<◌, ◌&&◌, All, Bool, IfOk, List, length, map, not, true};
+ghost use Rattle.tm_abs.specs.Cells.{AreCells};
 ghost use Rattle.tm_abs.specs.Inner.Atoms.{AreApart, IsAtom};
 ghost use Rattle.tm_abs.specs.Inner.Marks.{AreListed};
 ghost use Rattle.tm_abs.specs.Inner.Quantified.{IsPutTo, IsQuantified, IsReached};
 ghost use Rattle.tm_abs.specs.Inner.Turns.{AreTurnsOf};
-ghost use Rattle.tm_abs.specs.Tracked.{AreInPool, HasPooled, IsPooled, tracked_of};
+ghost use Rattle.tm_abs.specs.Tracked.{HasPooled, IsPooled, tracked_of};
 ghost use Rattle.tm_abs.specs.declared.atoms.Atom.{Atom as AtomData};
 ghost use Rattle.tm_dd.specs.Table.{Knows, means};
 ghost use Rattle.tm_ddops.specs.Connective.{xor};
@@ -15,9 +16,10 @@ ghost use Rattle.tm_game.specs.Least.{test_of};
 ghost use Rattle.tm_game_bits.specs.Functions.{Assignment};
 ghost use Rattle.tm_syntax.specs.Design.{DesignTree};
 
-use crate::atoms::Atom;
+use crate::atoms::{Atom, copied};
+use crate::cells::Cells;
 use crate::joined::{Joined, join};
-use crate::reading::{levels_read, read_tracked};
+use crate::reading::levels_read;
 use crate::turns::{Turn, Turns, order_turns};
 use std::alloc::{AllocError, Global};
 use tm_dd::{FALSE, NodeId, TRUE};
@@ -27,10 +29,10 @@ use tm_game::Game;
 pub(crate) fn upper_part(
     alloc: Global,
     game: &mut Game,
-    numbers: &[u32],
+    cells: &Cells,
     set: NodeId,
 ) -> Result<NodeId, AllocError>
-    requires tracked { AreInPool game.old numbers.now }
+    requires cells { AreCells game.old cells.now }
     requires pool { HasPooled game.old }
     requires set { IsSet game.old set }
     requires valid { (v : Assignment) → means game.old.diagrams.table set v ≡ true
@@ -39,12 +41,13 @@ pub(crate) fn upper_part(
     ensures grows { Grows game.old game.new }
     ensures part { IfOk result (λ id. (d : DesignTree) → IsPooled d game.old
         → IsStates d game.old.order game.new.diagrams.table
-        (IsInUpper d (tracked_of d numbers.now) (test_of d game.old set)) id) }
+        (IsInUpper d (tracked_of d cells.now.tracked.items) (test_of d game.old set)) id) }
 {
     let valid = game.valid();
-    let mut tracked = read_tracked(alloc, game, numbers)?;
+    let _order = game.order();
     let reads = levels_read(game, set)?;
-    let joined = join(alloc, &tracked.free, &reads, &mut tracked.atoms)?;
+    let mut waiting = copied(alloc, &cells.read.atoms)?;
+    let joined = join(alloc, &cells.read.free, &reads, &mut waiting)?;
     if joined.gone.levels.is_empty() {
         return Ok(set);
     }

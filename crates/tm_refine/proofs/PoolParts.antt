@@ -24,7 +24,6 @@ use Rattle.tm_refine.specs.Parts.{TellCells, lower_part, upper_part}
 use Rattle.tm_refine.specs.PartLaws.{lower_holds, lower_when, upper_meets, upper_when}
 use Rattle.tm_refine.specs.Pooled.{CanBeDecided, CanDecide, pool_ids, term_test, tests_of}
 use Rattle.tm_refine.specs.Searching.{IsParted}
-use Rattle.tm_refine.specs.Sided.{side_part}
 use Rattle.tm_refine.specs.Solved.{IsOut}
 use Rattle.tm_refine.proofs.PoolKeeps.{pooled_of}
 use Rattle.tm_refine.specs.PoolTests.{pool_long, tests_tell, within_below, within_same}
@@ -138,21 +137,14 @@ pub pool_len : (g : GameData) (f : Flat) (n : ℕ) → flat_terms f ≡ g.flat �
     n ≡ length g.flat.pool
 pool_len g f n same e = e ∙ ap (λ (t : FlatTerms). length t.pool) same
 
--- ---- parts over numbers of which some name nothing
-module _ (g h : GameData) (ks js : List ℕ) (n : ℕ) (long : n ≡ length g.flat.pool)
+-- ---- numbers of which some name nothing
+module _ (g : GameData) (ks js : List ℕ) (n : ℕ) (long : n ≡ length g.flat.pool)
     (is : ks ≡ filter (λ k. nat_lt k n) js) where
-  tests_same : tests_of g ks ≡ tests_of g js
+  pub tests_same : tests_of g ks ≡ tests_of g js
   tests_same = ap (λ (ids : List TermId). map (term_test g) ids) (within_same g.flat.pool n ks js long is)
 
   pub in_pool : AreInPool g ks
   in_pool = subst (λ (m : ℕ). All (λ k. k < m) ks) long (within_below n ks js is)
-
-  pub side_told : (upper : Bool) (a : StateSet) (id : NodeId) →
-      Is (exact_game g).states (pool_ids h) id (side_part upper (exact_game g).states (tests_of g ks) a) →
-      Is (exact_game g).states (pool_ids h) id (side_part upper (exact_game g).states (tests_of g js) a)
-  side_told upper a id =
-      subst (λ (ps : List StateSet). Is (exact_game g).states (pool_ids h) id
-      (side_part upper (exact_game g).states ps a)) tests_same
 
 -- ---- what is found of cells
 module _ (d : DesignTree) (g : GameData) (can : CanDecide d g) (ks js : List ℕ) (n : ℕ)
@@ -267,7 +259,3 @@ module _ (d : DesignTree) (g h : GameData) (can : CanDecide d g) (grows : Grows 
       IsOut d (set_of g set) (is_some o)
   out_told None none = none_found none
   out_told (Some s) least = out_found s least.here
-
--- numbers of the pool stay such
-pub pool_kept : (g h : GameData) → Grows g h → (ks : List ℕ) → AreInPool g ks → AreInPool h ks
-pool_kept g h grows ks within = subst (λ (f : FlatTerms). All (λ k. k < length f.pool) ks) (sym grows.flat) within

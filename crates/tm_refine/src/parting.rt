@@ -1,6 +1,6 @@
 //! Two states of one cell that are not one.
 ghost use Rattle.std.specs.Prelude.{◌<◌, IfOk, MatchOption, length};
-ghost use Rattle.tm_abs.specs.Tracked.{AreInPool};
+ghost use Rattle.tm_abs.specs.Cells.{AreCells};
 ghost use Rattle.tm_flat_pool.specs.Predicates.{pool};
 ghost use Rattle.tm_game.specs.Game.{Grows};
 ghost use Rattle.tm_game_pool.specs.Separating.{Separates, predicates_at};
@@ -29,8 +29,7 @@ pub(crate) fn apart(
         (λ p. IsParted d (predicates_at (pool d) tracked.now) p.0 p.1)) }
     ensures kept { Keeps game.old game.new }
 {
-    tell(game);
-    let cells = cells_of(alloc, tracked, game.flat().pool.len())?;
+    let cells = cells_of(alloc, game, tracked)?;
     let found = first_cut(alloc, game, &cells);
     tell(game);
     found
@@ -43,7 +42,7 @@ fn first_cut(
     cells: &Cells,
 ) -> Result<Option<(State, State)>, AllocError>
     requires can { CanBeDecided game.old }
-    requires tracked { AreInPool game.old cells.now.tracked.items }
+    requires cells { AreCells game.old cells.now }
     ensures apart { IfOk result (λ o. (d : DesignTree) → CanDecide d game.old → MatchOption o
         (Separates d (predicates_at (pool d) cells.now.tracked.items))
         (λ p. IsParted d (predicates_at (pool d) cells.now.tracked.items) p.0 p.1)) }
@@ -67,7 +66,7 @@ fn cut_by_bit(
     level: u32,
 ) -> Result<Option<(State, State)>, AllocError>
     requires can { CanBeDecided game.old }
-    requires tracked { AreInPool game.old cells.now.tracked.items }
+    requires cells { AreCells game.old cells.now }
     requires level { level < length game.old.order }
     ensures cut { IfOk result (λ o. (d : DesignTree) → CanDecide d game.old → MatchOption o
         (HasOneBit d game.old.order (predicates_at (pool d) cells.now.tracked.items) level)

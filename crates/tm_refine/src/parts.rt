@@ -1,8 +1,8 @@
 //! The parts of sets over the cells of tracked predicates, and states of one cell.
 ghost use Rattle.std.specs.List.{filter};
-ghost use Rattle.std.specs.Prelude.{◌≡◌, ◌++◌, ◌∷◌, [], IfOk, MatchOption, OnOk, nat_lt};
+ghost use Rattle.std.specs.Prelude.{◌≡◌, ◌++◌, ◌∷◌, [], IfOk, MatchOption, OnOk, length, nat_lt};
+ghost use Rattle.tm_abs.specs.Cells.{AreCells};
 ghost use Rattle.tm_abs.specs.Split.{IsCut, PartsAreOne};
-ghost use Rattle.tm_abs.specs.Tracked.{AreInPool};
 ghost use Rattle.tm_flat_pool.specs.Predicates.{pool};
 ghost use Rattle.tm_game.specs.Game.{Grows};
 ghost use Rattle.tm_game_pool.specs.Separating.{predicates_at};
@@ -20,15 +20,31 @@ use tm_dd::NodeId;
 use tm_game::Game;
 use tm_sem::state::State;
 
-// The cells of predicates of these numbers, of which there are so many; other numbers name none.
-pub(crate) fn cells_of(alloc: Global, numbers: &[u32], count: usize) -> Result<Cells, AllocError>
-    ensures { IfOk result (λ c. c.tracked.items ≡ filter (λ k. nat_lt k count) numbers.now) }
+// The cells of predicates of these numbers; other numbers name none.
+pub(crate) fn cells_of(alloc: Global, game: &mut Game, numbers: &[u32]) -> Result<Cells, AllocError>
+    requires can { CanBeDecided game.old }
+    ensures tracked { IfOk result (λ c.
+        c.tracked.items ≡ filter (λ k. nat_lt k (length game.old.flat.pool)) numbers.now) }
+    ensures cells { IfOk result (AreCells game.new) }
+    ensures kept { Keeps game.old game.new }
 {
-    let mut tracked = Vec::new(alloc);
+    tell(game);
+    let count = game.flat().pool.len();
+    let tracked = numbers_below(alloc, numbers, count)?;
+    let cells = Cells::new(alloc, game, tracked);
+    tell(game);
+    cells
+}
+
+// Those of some numbers that are below a bound.
+fn numbers_below(alloc: Global, numbers: &[u32], bound: usize) -> Result<Vec<u32>, AllocError>
+    ensures { IfOk result (λ ks. ks.items ≡ filter (λ k. nat_lt k bound) numbers.now) }
+{
+    let mut below = Vec::new(alloc);
     for number in numbers {
-        push_below(&mut tracked, *number, count)?;
+        push_below(&mut below, *number, bound)?;
     }
-    Ok(Cells { tracked })
+    Ok(below)
 }
 
 // Puts a number behind others, if it is below a bound.
@@ -42,27 +58,8 @@ fn push_below(numbers: &mut Vec<u32>, number: u32, bound: usize) -> Result<(), A
     Ok(())
 }
 
-// The upper or the lower part of a set over the cells of tracked predicates.
-pub(crate) fn side(
-    alloc: Global,
-    game: &mut Game,
-    tracked: &[u32],
-    upper: bool,
-    set: NodeId,
-) -> Result<NodeId, AllocError>
-    requires can { CanBeDecided game.old }
-    requires set { IsStateSet game.old set }
-    ensures value { IfOk result (λ id. Is (exact_game game.old).states (pool_ids game.new) id
-        (side_part upper (exact_game game.old).states (tests_of game.old tracked.now) (set_of game.old set))) }
-    ensures kept { Keeps game.old game.new }
-{
-    tell(game);
-    let cells = cells_of(alloc, tracked, game.flat().pool.len())?;
-    part_over(alloc, game, &cells, upper, set)
-}
-
 // The cells that meet a set, or those that lie in it.
-fn part_over(
+pub(crate) fn part_over(
     alloc: Global,
     game: &mut Game,
     cells: &Cells,
@@ -70,7 +67,7 @@ fn part_over(
     set: NodeId,
 ) -> Result<NodeId, AllocError>
     requires can { CanBeDecided game.old }
-    requires tracked { AreInPool game.old cells.now.tracked.items }
+    requires cells { AreCells game.old cells.now }
     requires set { IsStateSet game.old set }
     ensures value { IfOk result (λ id. Is (exact_game game.old).states (pool_ids game.new) id
         (side_part upper (exact_game game.old).states (tests_of game.old cells.now.tracked.items)
@@ -126,8 +123,7 @@ pub(crate) fn split(
         (λ p. IsCut d (predicates_at (pool d) tracked.now) (set_of game.old set) p.0 p.1)) }
     ensures kept { Keeps game.old game.new }
 {
-    tell(game);
-    let cells = cells_of(alloc, tracked, game.flat().pool.len())?;
+    let cells = cells_of(alloc, game, tracked)?;
     let found = cells.split(alloc, game, set);
     tell(game);
     found

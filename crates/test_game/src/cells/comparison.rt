@@ -9,7 +9,6 @@ use crate::states::{Formula, is_true};
 use crate::steps::{Draw, number_at, word};
 use case_rows::numbers;
 use std::alloc::{AllocError, Global};
-use tm_abs::Cells;
 use tm_game::{Game, numbers_of};
 use tm_plain::Machine;
 use tm_sem::state::State;
@@ -83,33 +82,33 @@ fn agrees(
     alloc: Global,
     game: &mut Game,
     grid: &Grid,
-    cells: &Cells,
+    tracked: Vec<u32>,
     formula: &Formula,
     counts: &mut Counts,
 ) -> Result<bool, AllocError>
     requires pool { HasPooled game.old }
     ensures { HasPooled game.new }
 {
-    let wanted = Wanted::of(alloc, grid, &cells.tracked, formula)?;
-    match parts_of(alloc, game, cells, formula)? {
+    let wanted = Wanted::of(alloc, grid, &tracked, formula)?;
+    match parts_of(alloc, game, tracked, formula)? {
         Some(parts) => are_wanted(alloc, game, grid, &wanted, &parts, counts),
         None => Ok(false),
     }
 }
 
-/// Fewer predicates than a bound, of so many.
-fn drawn_cells(
+/// The numbers of fewer predicates than a bound, of so many.
+fn drawn_numbers(
     alloc: Global,
     draw: &mut Draw,
     pool: usize,
     bound: usize,
-) -> Result<Cells, AllocError> {
+) -> Result<Vec<u32>, AllocError> {
     let count = draw.below(bound);
     let mut tracked = Vec::new(alloc);
     for _ in 0..count {
         tracked.push(word(draw.below(pool) as u64))?;
     }
-    Ok(Cells { tracked })
+    Ok(tracked)
 }
 
 /// Compares what is answered of a set over the cells of a list, both of which are drawn.
@@ -124,9 +123,9 @@ fn drawn_agrees(
     requires pool { HasPooled game.old }
     ensures { HasPooled game.new }
 {
-    let cells = drawn_cells(alloc, draw, game.flat().pool.len(), bound)?;
+    let tracked = drawn_numbers(alloc, draw, game.flat().pool.len(), bound)?;
     let formula = Formula::drawn(alloc, draw, grid.fields.bits as usize)?;
-    agrees(alloc, game, grid, &cells, &formula, counts)
+    agrees(alloc, game, grid, tracked, &formula, counts)
 }
 
 /// Compares what is answered over so many lists: the number of the first that is not as it is wanted.

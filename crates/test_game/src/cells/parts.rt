@@ -1,5 +1,6 @@
 //! What is answered of sets over cells.
 ghost use Rattle.std.specs.Prelude.{◌<◌, All, IsTrue};
+ghost use Rattle.tm_abs.specs.Cells.{AreCells};
 ghost use Rattle.tm_abs.specs.Tracked.{AreInPool, HasPooled, IsPooled};
 ghost use Rattle.tm_game.specs.Game.{IsSet};
 ghost use Rattle.tm_syntax.specs.Design.{DesignTree};
@@ -47,7 +48,7 @@ fn parts_of_set(
     cells: &Cells,
     set: NodeId,
 ) -> Result<Parts, AllocError>
-    requires tracked { AreInPool game.old cells.now.tracked.items }
+    requires cells { AreCells game.old cells.now }
     requires pool { HasPooled game.old }
     requires set { IsSet game.old set }
     ensures { HasPooled game.new }
@@ -66,17 +67,18 @@ fn parts_of_set(
 pub fn parts_of(
     alloc: Global,
     game: &mut Game,
-    cells: &Cells,
+    tracked: Vec<u32>,
     formula: &Formula,
 ) -> Result<Option<Parts>, AllocError>
     requires pool { HasPooled game.old }
     ensures { HasPooled game.new }
 {
     let set = set_of(game, formula)?;
-    if !are_in_pool(game, &cells.tracked) {
+    if !are_in_pool(game, &tracked) {
         return Ok(None);
     }
-    Ok(Some(parts_of_set(alloc, game, cells, set)?))
+    let cells = Cells::new(alloc, game, tracked)?;
+    Ok(Some(parts_of_set(alloc, game, &cells, set)?))
 }
 
 /// The states that show how a set cuts a cell, as text.
@@ -86,7 +88,7 @@ fn split_text(
     cells: &Cells,
     set: NodeId,
 ) -> Result<String, AllocError>
-    requires tracked { AreInPool game.old cells.now.tracked.items }
+    requires cells { AreCells game.old cells.now }
     requires pool { HasPooled game.old }
     requires set { IsSet game.old set }
 {
@@ -104,25 +106,26 @@ fn split_text(
 fn split_kept(
     alloc: Global,
     game: &mut Game,
-    cells: &Cells,
+    tracked: Vec<u32>,
     words: &str,
 ) -> Result<String, AllocError>
     requires pooled { (d : DesignTree) × IsPooled d game.old }
 {
-    if !are_in_pool(game, &cells.tracked) {
+    if !are_in_pool(game, &tracked) {
         return String::from_str(alloc, "no predicates");
     }
     let set = kept_set(game, words);
-    split_text(alloc, game, cells, set)
+    let cells = Cells::new(alloc, game, tracked)?;
+    split_text(alloc, game, &cells, set)
 }
 
-/// The predicates of the numbers that words spell.
-fn cells_of(alloc: Global, words: &str) -> Result<Cells, AllocError> {
+/// The numbers that words spell.
+fn numbers_of(alloc: Global, words: &str) -> Result<Vec<u32>, AllocError> {
     let mut tracked = Vec::new(alloc);
     for number in numbers(alloc, words)? {
         tracked.push(word(number))?;
     }
-    Ok(Cells { tracked })
+    Ok(tracked)
 }
 
 /// The answer to a question for the states that show how a set cuts a cell.
@@ -130,6 +133,6 @@ pub fn split_answer(alloc: Global, game: &mut Game, words: &str) -> Result<Strin
     requires pooled { (d : DesignTree) × IsPooled d game.old }
 {
     let (set, list) = split_word(words);
-    let cells = cells_of(alloc, list)?;
-    split_kept(alloc, game, &cells, set)
+    let tracked = numbers_of(alloc, list)?;
+    split_kept(alloc, game, tracked, set)
 }

@@ -4,12 +4,17 @@
 use Rattle.std.specs.Prelude.{◌≡◌, ◌⊎◌, ℕ, ◌+◌, ◌<◌, ◌≤◌, true, false, Bool, List, All, Contains, length}
 use Rattle.tm_abs.specs.declared.atoms.Atom.{Atom}
 use Rattle.tm_abs.specs.Inner.Reading.{IsPoolFunction, ReadsOnly, Tells, TellsOne, bit_at}
+use Rattle.tm_dd.specs.declared.node.NodeId.{NodeId}
 use Rattle.tm_dd.specs.Table.{Table, Knows, means}
 use Rattle.tm_ddops.specs.Quantified.{is_marked_level}
 use Rattle.tm_flat_pool.specs.Predicates.{Predicate}
 use Rattle.tm_game.specs.Game.{GameData}
 use Rattle.tm_game_bits.specs.Functions.{Function}
 use Rattle.tm_syntax.specs.Design.{DesignTree}
+
+-- what an atom tells: its level, where it holds, and the levels that this reads
+abbrev pub data_of : Atom → ℕ × NodeId × List ℕ
+data_of a = (a.level, a.holds, a.reads.items)
 
 -- an atom's level lies behind those of all inputs and is there, its diagram is known, and it reads the levels of the
 -- list alone, which are levels of inputs

@@ -40,3 +40,13 @@ returns-clause-atom c =
       reads = c.in_ok-reads.reads;
     }) refl c.in_ok-reads.ensures (omega (arith, levels, room, below)) (omega (arith, order, pool, room))
     (omega (arith, pool, below))))
+
+pub returns-clause-numbered : goal.returns-clause-numbered
+returns-clause-numbered c =
+    let s = c.args.game.now.diagrams.table in
+    let levels : c.levels.result ≡ s.levels =
+    c.levels.ensures.value
+    ∙ ap (λ (t : Table). t.levels) (c.store.ensures.value ∙ ap (λ (m : Diagrams). m.table) c.manager.ensures) in
+    let room = c.order-order.ensures.predicates in
+    let below = c.requires.number in
+    omega (arith, levels, room, below)

@@ -1,13 +1,13 @@
-use Rattle.std.proofs.Common.{ℕ, List, ◌∷◌, [], ◌++◌, All, length, sym, ap, subst, arith}
+use Rattle.std.proofs.Common.{ℕ, List, ◌∷◌, [], ◌++◌, All, length, sym, ap, ◌∙◌, subst, arith}
 use Rattle.std.proofs.Math.Logic.{∥∥₁_elim}
 use Rattle.std.proofs.Props.{props}
 use Rattle.std.proofs.lemmas.List.Elements.{All-push}
 use Rattle.tm_abs.proofs.Readings.{read_atom, read_bit}
 use Rattle.tm_abs.proofs.Tracking.{atoms_kept}
-use Rattle.tm_abs.proofs.ValidParts.{pooled_kept}
 use Rattle.tm_abs.specs.declared.atoms.Atom.{Atom}
 use Rattle.tm_abs.specs.Inner.Atoms.{AreTracked, IsAtom}
 use Rattle.tm_abs.specs.Tracked.{tracked_of}
+use Rattle.tm_game.proofs.Growing.{means_kept}
 use Rattle.tm_abs.proofs.reading.read_predicate.Goals as goal
 
 pub bit_level-requires : goal.bit_level-requires
@@ -21,16 +21,16 @@ returns-in-Some-clause-atoms c = λ all.
     c.args.atoms.now.items all
 
 pub returns-in-Some-clause-tracked : goal.returns-in-Some-clause-tracked
-returns-in-Some-clause-tracked c = λ d first before pooled fg tracked.
-    let g = c.args.game.now in
-    let h = c.predicate.new.game in
+returns-in-Some-clause-tracked c = λ h d before grows pooled tracked.
+    let k = c.predicate.new.game in
     let found = c.in-Some.ensures in
     let below = found.0 in
     let count = c.requires.count in
     let order = ap (λ (o : List ℕ). length o) c.predicate.ensures.grows.order in
-    read_bit d first g pooled fg h c.predicate.ensures.grows before c.args.free.now.items c.args.atoms.now.items tracked
-    c.args.number c.in_ok-holds.holds (c.in_ok-holds.ensures.predicate d (pooled_kept d first g fg pooled))
-    c.in-Some.level (omega (arith, below, count, order)) found.1
+    let known = ∥∥₁_elim c.requires.pool (hlevel props) (λ x. (c.in_ok-holds.ensures.predicate x.0 x.1).known) in
+    read_bit d h pooled before c.args.free.now.items c.args.atoms.now.items tracked c.args.number c.in_ok-holds.holds
+    (c.in_ok-holds.ensures.always h d grows pooled) c.in-Some.level (omega (arith, below, count, order))
+    (means_kept k h grows c.in_ok-holds.holds known ∙ found.1)
 
 pub atom_of-requires-clause-pool : goal.atom_of-requires-clause-pool
 atom_of-requires-clause-pool c =
@@ -56,14 +56,12 @@ returns-clause-atoms c = λ all.
     (subst (λ (o : List ℕ). IsAtom (length o) t atom) c.predicate.ensures.grows.order c.in_ok-atom.ensures.atom))
 
 pub returns-clause-tracked : goal.returns-clause-tracked
-returns-clause-tracked c = λ d first before pooled fg tracked.
-    let g = c.args.game.now in
-    let h = c.predicate.new.game in
+returns-clause-tracked c = λ h d before grows pooled tracked.
     let free = c.args.free.now.items in
-    let predicate = c.in_ok-holds.ensures.predicate d (pooled_kept d first g fg pooled) in
-    subst (λ (xs : List Atom). AreTracked d first h.diagrams.table
+    let atom = c.in_ok-atom.ensures in
+    subst (λ (xs : List Atom). AreTracked d h h.diagrams.table
     (before ++ tracked_of d (c.args.number ∷ [])) free xs)
     (sym c.in_ok-push.ensures.items)
-    (read_atom d first g pooled fg h c.predicate.ensures.grows before free c.args.atoms.now.items tracked c.args.number
-    c.in_ok-holds.holds predicate c.in_ok-atom.atom c.in_ok-atom.ensures.holds
-    (c.in_ok-atom.ensures.numbered d g predicate))
+    (read_atom d h pooled before free c.args.atoms.now.items tracked c.args.number c.in_ok-holds.holds
+    (c.in_ok-holds.ensures.always h d grows pooled) c.in_ok-atom.atom atom.holds
+    (atom.numbered ∙ sym grows.diagrams.same_levels))

@@ -23,9 +23,11 @@ loop-number-init c =
           ∙ ap (λ (o : List ℕ). length o) c.order.ensures.value;
       atoms = subst (λ (xs : List Atom). All (IsAtom (length g.order) s) xs) (sym c.new-atoms.ensures.items)
           (All-nil (IsAtom (length g.order) s));
-      tracked = λ d pooled.
-          subst (λ (xs : List Atom). AreTracked d g s [] c.in_ok-free.free.items xs) (sym c.new-atoms.ensures.items)
-          (subst (λ (marks : List Bool). AreTracked d g s [] marks []) (sym all) (tracked_none d g s n));
+      tracked = λ h d grows pooled.
+          subst (λ (xs : List Atom). AreTracked d h h.diagrams.table [] c.in_ok-free.free.items xs)
+          (sym c.new-atoms.ensures.items)
+          (subst (λ (marks : List Bool). AreTracked d h h.diagrams.table [] marks []) (sym all)
+          (tracked_none d h h.diagrams.table n));
     }
 
 pub read_predicate-requires-clause-pool : goal.read_predicate-requires-clause-pool
@@ -54,17 +56,18 @@ loop-number-preserved c =
       atoms = subst (λ (o : List ℕ). All (IsAtom (length o) t) atoms) before.grows.order
           (read.atoms (subst (λ (o : List ℕ). All (IsAtom (length o) c.loop-number.game.diagrams.table)
           c.loop-number.atoms.items) (sym before.grows.order) before.atoms));
-      tracked = λ d pooled.
-          subst (λ (ps : List Predicate). AreTracked d g t ps free atoms)
+      tracked = λ h d grows pooled.
+          subst (λ (ps : List Predicate). AreTracked d h h.diagrams.table ps free atoms)
           (sym (ap (tracked_of d) (take_more numbers index 0 c.loop-number-test.true)
           ∙ predicates_at-append (pool d) (take index numbers) (number ∷ [])))
-          (read.tracked d g (tracked_of d (take index numbers)) pooled before.grows (before.tracked d pooled));
+          (read.tracked h d (tracked_of d (take index numbers)) grows pooled
+          (before.tracked h d (grows_then c.loop-number.game c.read_predicate.new.game h read.grows grows) pooled));
     }
 
 pub returns-clause-tracked : goal.returns-clause-tracked
-returns-clause-tracked c = λ d pooled.
+returns-clause-tracked c = λ h d grows pooled.
     let numbers = c.args.numbers.now in
-    subst (λ (ks : List ℕ). AreTracked d c.args.game.now c.loop-number.game.diagrams.table (tracked_of d ks)
-    c.loop-number.free.items c.loop-number.atoms.items)
+    subst (λ (ks : List ℕ). AreTracked d h h.diagrams.table (tracked_of d ks) c.loop-number.free.items
+    c.loop-number.atoms.items)
     (take_all c.loop-number.number-index numbers c.loop-number-test.false)
-    (c.loop-number.invariant.tracked d pooled)
+    (c.loop-number.invariant.tracked h d grows pooled)

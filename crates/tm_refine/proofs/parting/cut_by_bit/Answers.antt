@@ -1,5 +1,6 @@
 use Rattle.std.proofs.Common.{inl, ℕ, ◌<◌, List, length, subst, sym, arith}
 use Rattle.std.proofs.lemmas.Result.{IfOk-weaker}
+use Rattle.tm_abs.proofs.Kept.{cells_kept}
 use Rattle.tm_game.proofs.Growing.{grows_then}
 use Rattle.tm_refine.proofs.PoolBits.{bit_set, bit_told}
 use Rattle.tm_refine.proofs.PoolKeeps.{can_grown, decide_grown, has_pooled, pooled_of}
@@ -13,6 +14,10 @@ make-requires-clause-lo_deeper c = inl (omega arith)
 
 pub make-requires-clause-hi_deeper : goal.make-requires-clause-hi_deeper
 make-requires-clause-hi_deeper c = inl (omega arith)
+
+pub split-requires-clause-cells : goal.split-requires-clause-cells
+split-requires-clause-cells c =
+    cells_kept c.args.game.now c.make.new.self c.make.ensures.grows c.args.cells.now c.requires.cells
 
 pub split-requires-clause-pool : goal.split-requires-clause-pool
 split-requires-clause-pool c =

@@ -1,10 +1,10 @@
 use Rattle.std.proofs.Common.{◌≡◌, ℕ, List, length, ap, arith}
+use Rattle.tm_abs.proofs.Kept.{cells_kept}
 use Rattle.tm_flat_pool.specs.Predicates.{pool}
 use Rattle.tm_game.proofs.Growing.{grows_none, grows_then}
 use Rattle.tm_game_pool.specs.Separating.{predicates_at}
 use Rattle.tm_refine.proofs.PoolBits.{bits_separate, level_there, ones_more}
 use Rattle.tm_refine.proofs.PoolKeeps.{decide_grown}
-use Rattle.tm_refine.proofs.PoolParts.{pool_kept}
 use Rattle.tm_refine.proofs.RoundSides.{of_none, of_some}
 use Rattle.tm_refine.proofs.parting.first_cut.Goals as goal
 
@@ -15,10 +15,9 @@ loop-level-init c = record {
   ones = λ d can k below. absurd (omega (arith, below));
 }
 
-pub cut_by_bit-requires-clause-tracked : goal.cut_by_bit-requires-clause-tracked
-cut_by_bit-requires-clause-tracked c =
-    pool_kept c.args.game.now c.loop-level.game c.loop-level.invariant.grows c.args.cells.now.tracked.items
-    c.requires.tracked
+pub cut_by_bit-requires-clause-cells : goal.cut_by_bit-requires-clause-cells
+cut_by_bit-requires-clause-cells c =
+    cells_kept c.args.game.now c.loop-level.game c.loop-level.invariant.grows c.args.cells.now c.requires.cells
 
 pub cut_by_bit-requires-clause-level : goal.cut_by_bit-requires-clause-level
 cut_by_bit-requires-clause-level c =

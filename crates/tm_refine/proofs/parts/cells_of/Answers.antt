@@ -1,19 +1,33 @@
-use Rattle.std.proofs.Common.{sym, ap, ◌∙◌, arith}
+use Rattle.std.proofs.Common.{ℕ, ap, ◌∙◌}
+use Rattle.std.proofs.lemmas.Result.{IfOk-weaker}
 use Rattle.std.specs.List.{filter}
 use Rattle.std.specs.Prelude.{nat_lt}
-use Rattle.std.proofs.lemmas.List.{get_or_default, take_all}
-use Rattle.tm_refine.specs.PoolTests.{within_more}
+use Rattle.tm_abs.specs.declared.cells.Cells.{Cells}
+use Rattle.tm_refine.proofs.PoolKeeps.{has_pooled, keeps, keeps_none}
+use Rattle.tm_refine.proofs.PoolParts.{in_pool, pool_len}
 use Rattle.tm_refine.proofs.parts.cells_of.Goals as goal
 
-pub loop-number-preserved : goal.loop-number-preserved
-loop-number-preserved c =
-    within_more c.args.count c.args.numbers.now c.loop-number.number-index _ c.loop-number.tracked.items
-    c.push_below.new.numbers.items c.loop-number-test.true
-    (sym (get_or_default c.args.numbers.now c.loop-number.number-index _ _ c.loop-number-test.true))
-    c.in_ok-push_below.ensures c.loop-number.invariant
+pub new-cells-requires-clause-tracked : goal.new-cells-requires-clause-tracked
+new-cells-requires-clause-tracked c =
+    in_pool c.args.game.now c.in_ok-tracked.tracked.items c.args.numbers.now c.len-count.result
+    (pool_len c.args.game.now c.flat.result.now c.len-count.result c.flat.ensures
+    (c.len-count.ensures ∙ c.flat.result.now.pool.ok.0)) c.in_ok-tracked.ensures
 
-pub returns : goal.returns
-returns c =
-    c.loop-number.invariant
-    ∙ ap (λ ks. filter (λ k. nat_lt k c.args.count) ks)
-    (take_all c.loop-number.number-index c.args.numbers.now (omega arith))
+pub new-cells-requires-clause-pool : goal.new-cells-requires-clause-pool
+new-cells-requires-clause-pool c = has_pooled c.args.game.now c.requires.can
+
+pub returns-clause-tracked : goal.returns-clause-tracked
+returns-clause-tracked c =
+    let long = pool_len c.args.game.now c.flat.result.now c.len-count.result c.flat.ensures
+    (c.len-count.ensures ∙ c.flat.result.now.pool.ok.0) in
+    IfOk-weaker c.new-cells.result _ _
+    (λ (cells : Cells) same.
+    same ∙ c.in_ok-tracked.ensures
+    ∙ ap (λ (n : ℕ). filter (λ k. nat_lt k n) c.args.numbers.now) long) c.new-cells.ensures.tracked
+
+pub returns-clause-kept : goal.returns-clause-kept
+returns-clause-kept c =
+    keeps c.args.game.now c.new-cells.new.game c.requires.can c.new-cells.ensures.grows c.tell-2.ensures
+
+pub returns-in_err-tracked-clause-kept : goal.returns-in_err-tracked-clause-kept
+returns-in_err-tracked-clause-kept c = keeps_none c.args.game.now c.requires.can c.tell.ensures

@@ -1,5 +1,5 @@
-use Rattle.std.proofs.Common.{refl}
-use Rattle.tm_abs.proofs.ValidParts.{in_pool_kept, some_kept}
+use Rattle.tm_abs.proofs.Kept.{cells_kept}
+use Rattle.tm_abs.proofs.ValidParts.{some_kept}
 use Rattle.tm_game.proofs.Growing.{grows_then, set_kept}
 use Rattle.test_game.proofs.cells.parts.parts_of_set.Goals as goal
 
@@ -7,7 +7,7 @@ pub upper-requires : goal.upper-requires
 upper-requires c =
     let first = c.lower.ensures.grows in
     record {
-      tracked = in_pool_kept _ _ first _ _ refl c.requires.tracked;
+      cells = cells_kept _ _ first c.args.cells.now c.requires.cells;
       pool = some_kept _ _ first c.requires.pool;
       set = set_kept _ _ first c.args.set c.requires.set;
     }
@@ -16,7 +16,7 @@ pub split-requires : goal.split-requires
 split-requires c =
     let both = grows_then _ _ _ c.lower.ensures.grows c.upper.ensures.grows in
     record {
-      tracked = in_pool_kept _ _ both _ _ refl c.requires.tracked;
+      cells = cells_kept _ _ both c.args.cells.now c.requires.cells;
       pool = some_kept _ _ both c.requires.pool;
       set = set_kept _ _ both c.args.set c.requires.set;
     }

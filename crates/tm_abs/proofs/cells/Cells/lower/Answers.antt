@@ -1,14 +1,15 @@
-use Rattle.std.proofs.Common.{List, ℕ, ◌&&◌, IfOk, sym, subst}
+use Rattle.std.proofs.Common.{◌&&◌, IfOk, sym, subst}
 use Rattle.std.proofs.Math.Logic.{∥∥₁_elim}
 use Rattle.std.proofs.Props.{props}
 use Rattle.std.proofs.lemmas.Result.{IfOk-weaker}
-use Rattle.tm_abs.proofs.ValidParts.{complement_set, in_pool_kept, left_set, lower_made, pooled_kept, set_prop, some_kept, valid_only, valid_set}
+use Rattle.tm_abs.proofs.Kept.{cells_kept}
+use Rattle.tm_abs.proofs.ValidParts.{complement_set, left_set, lower_made, pooled_kept, set_prop, some_kept, valid_only, valid_set}
 use Rattle.tm_abs.specs.Tracked.{IsPooled, tracked_of}
 use Rattle.tm_dd.specs.declared.node.NodeId.{NodeId}
 use Rattle.tm_dd.specs.NodeId.{complement}
 use Rattle.tm_dd.specs.Table.{means}
 use Rattle.tm_ddops.specs.Manager.{IsFunction}
-use Rattle.tm_flat_pool.specs.Cells.{IsInLower, IsInUpper}
+use Rattle.tm_flat_pool.specs.Cells.{IsInLower}
 use Rattle.tm_game.proofs.Growing.{grows_then}
 use Rattle.tm_game.specs.Game.{IsSet, IsStates}
 use Rattle.tm_game.specs.Least.{test_of}
@@ -32,8 +33,7 @@ upper_part-requires c =
     let is = subst (λ (x : NodeId). IsFunction h.diagrams.table outside
     (λ v. means h.diagrams.table g.valid v && means h.diagrams.table x v)) c.complement.ensures.value part.part in
     record {
-      tracked = in_pool_kept g h part.grows c.deref.result.now c.args.self.now.tracked.items c.deref.ensures.value
-          c.requires.tracked;
+      cells = cells_kept g h part.grows c.args.self.now c.requires.cells;
       pool = some_kept g h part.grows c.requires.pool;
       set = ∥∥₁_elim c.requires.pool (set_prop h outside)
           (λ x.
@@ -65,9 +65,7 @@ valid_part-requires-2 c =
           (λ x.
           left_set x.0 g h k part.grows c.in_ok-left.ensures.grows x.1 part.order (part.valid x.0 x.1.of)
           (tracked_of x.0 numbers) c.args.c outside left c.requires.set is
-          (subst (λ (ks : List ℕ). IsStates x.0 h.order k.diagrams.table
-          (IsInUpper x.0 (tracked_of x.0 ks) (test_of x.0 h outside)) left) c.deref.ensures.value
-          (c.in_ok-left.ensures.part x.0 (pooled_kept x.0 g h part.grows x.1))))));
+          (c.in_ok-left.ensures.part x.0 (pooled_kept x.0 g h part.grows x.1)))));
     }
 
 pub returns-in_err-left-clause-grows : goal.returns-in_err-left-clause-grows
@@ -101,9 +99,7 @@ returns-clause-part c =
     (λ id final d pooled.
     lower_made d g h k part.grows c.in_ok-left.ensures.grows pooled part.order (part.valid d pooled.of)
     (tracked_of d numbers) c.args.c outside left c.requires.set is
-    (subst (λ (ks : List ℕ). IsStates d h.order k.diagrams.table
-    (IsInUpper d (tracked_of d ks) (test_of d h outside)) left) c.deref.ensures.value
-    (c.in_ok-left.ensures.part d (pooled_kept d g h part.grows pooled))) l c.valid_part-2.ensures.grows id final)
+    (c.in_ok-left.ensures.part d (pooled_kept d g h part.grows pooled)) l c.valid_part-2.ensures.grows id final)
     (subst (λ (x : NodeId). IfOk c.valid_part-2.result
     (λ (id : NodeId). IsFunction l.diagrams.table id
     (λ v. means l.diagrams.table k.valid v && means l.diagrams.table x v))) c.complement-2.ensures.value

@@ -63,7 +63,7 @@ pair_with-requires c =
     c.in_ok-cut.ensures.answer in
     let gk = grows_then g h k gh hk in
     record {
-      tracked = in_pool_kept g k gk numbers numbers refl c.requires.tracked;
+      tracked = in_pool_kept g k gk numbers numbers refl c.requires.cells.in_pool;
       cut = ∥∥₁_elim c.requires.pool (squash₁)
           (λ x.
           let d = x.0 in

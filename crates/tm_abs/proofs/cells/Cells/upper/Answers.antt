@@ -1,8 +1,8 @@
-use Rattle.std.proofs.Common.{List, ℕ, IfOk, subst}
 use Rattle.std.proofs.Math.Logic.{∥∥₁_elim}
 use Rattle.std.proofs.Props.{props}
 use Rattle.std.proofs.lemmas.Result.{IfOk-weaker}
-use Rattle.tm_abs.proofs.ValidParts.{in_pool_kept, pooled_kept, set_prop, some_kept, upper_valid, valid_only, valid_set}
+use Rattle.tm_abs.proofs.Kept.{cells_kept}
+use Rattle.tm_abs.proofs.ValidParts.{pooled_kept, set_prop, some_kept, upper_valid, valid_only, valid_set}
 use Rattle.tm_abs.specs.Tracked.{IsPooled, tracked_of}
 use Rattle.tm_dd.specs.declared.node.NodeId.{NodeId}
 use Rattle.tm_flat_pool.specs.Cells.{IsInUpper}
@@ -19,8 +19,7 @@ upper_part-requires c =
     let part = c.in_ok-inside.ensures in
     let inside = c.in_ok-inside.inside in
     record {
-      tracked = in_pool_kept g h part.grows c.deref.result.now c.args.self.now.tracked.items c.deref.ensures.value
-          c.requires.tracked;
+      cells = cells_kept g h part.grows c.args.self.now c.requires.cells;
       pool = some_kept g h part.grows c.requires.pool;
       set = ∥∥₁_elim c.requires.pool (set_prop h inside)
           (λ x.
@@ -54,6 +53,4 @@ returns-clause-part c =
     (λ id is d pooled.
     upper_valid d g h part.grows pooled.of part.order (part.valid d pooled.of) c.args.c inside c.requires.set part.part
     (tracked_of d numbers) k.diagrams.table id (is d (pooled_kept d g h part.grows pooled)))
-    (subst (λ (ks : List ℕ). IfOk c.upper_part.result
-    (λ (id : NodeId). (d : DesignTree) → IsPooled d h → IsStates d h.order k.diagrams.table
-    (IsInUpper d (tracked_of d ks) (test_of d h inside)) id)) c.deref.ensures.value c.upper_part.ensures.part)
+    c.upper_part.ensures.part
