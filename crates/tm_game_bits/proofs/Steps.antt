@@ -85,8 +85,8 @@ module _ (t : Table) (d : DesignTree) (order : List ℕ) (is : IsOrder (sum (sta
     told_listed : (v w : Assignment) → AgreeButUnlisted (choice_levels order) step.choices v w →
         told_outcome t d (inputs_at d order v) terms ≡ told_outcome t d (inputs_at d order w) terms
     told_listed v w agree =
-        let next = next_values (choice_levels order) step.choices (λ u. value_of t (inputs_at d order u)) terms of.choices
-        v w agree in
+        let next = next_values (choice_levels order) step.choices (λ u. value_of t (inputs_at d order u)) terms
+        of.choices v w agree in
         λ i. cond (eqb (of.choices.legal v w agree i) 0) NoOutcome
         (cond (eqb (of.choices.error v w agree i) 0) (Next (state_from d (next i))) Error)
 
