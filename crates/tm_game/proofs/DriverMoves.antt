@@ -25,6 +25,7 @@ use Rattle.tm_game_bits.specs.Diagrams.{IsSetOf, game_of, step_of}
 use Rattle.tm_game_bits.specs.Forcing as bits
 use Rattle.tm_game_bits.specs.Functions.{Assignment, StepFunctions, after}
 use Rattle.tm_game_bits.specs.States.{ReadsState}
+use Rattle.tm_game_bits.proofs.Choices.{chosen_among}
 use Rattle.tm_game_bits.proofs.Sets.{IsSetOf-same}
 use Rattle.tm_game.specs.declared.game.Game.TheInside.{Inside}
 use Rattle.tm_game.specs.declared.moves.MoveShape.TheVariants as shapes
@@ -43,9 +44,10 @@ use Rattle.tm_sem.specs.State.{StateData}
 use Rattle.tm_sem.specs.Step.{IsState, Step, is_driver_move, is_driver_turn, task_of}
 use Rattle.tm_sem.proofs.Turns.{at_turn}
 use Rattle.tm_syntax.specs.Design.{DesignTree}
+use Rattle.tm_term.specs.Value.{value_of}
 use Rattle.tm_syntax.specs.Design.Cells.{Called}
 use Rattle.tm_syntax.specs.Design.Locations.{is_magic_at}
-use Rattle.tm_game_bits.specs.Told.{IsFrom, IsIdle, IsOfTask, argument_levels, stands_at}
+use Rattle.tm_game_bits.specs.Told.{IsFrom, IsIdle, IsOfTask, argument_levels, choice_levels, inputs_at, stands_at}
 use Rattle.tm_game_bits.proofs.Steps.{is_move, state_chosen}
 use Rattle.tm_game_bits.proofs.Tables.{can_idle, idles_to, leaves_from, magic_is, magic_of, stands_within}
 use Rattle.tm_game_bits.proofs.Tasks.{has_tasks}
@@ -118,7 +120,8 @@ module _ (a : Inside) (is : IsGame a) (d : DesignTree) (of : IsOf d (game_data a
       IsFrom a.encoding.terms d a.order.items (flat_terms a.flat) true p k step → AgreeElsewhere step.choices v w →
       step.legal w ≡ true → stands_at d a.order.items p k v ≡ true
   stands_there p k step v w from given legal =
-      let chosen = subst (λ (levels : List ℕ). AgreeElsewhere levels v w) from.3.choices given in
+      let chosen = chosen_among (choice_levels a.order.items) step.choices
+      (λ u. value_of a.encoding.terms (inputs_at d a.order.items u)) from.1 from.3.choices v w given in
       ap (λ (u : StateData). eqb (slice_index u.places p) k)
       (sym (state_chosen a.encoding.terms d a.order.items
       (order_is (setting_of a.encoding) (flat_terms a.flat) a.order.items is.shape d of.flat) v w chosen))

@@ -11,20 +11,21 @@ use Rattle.tm_flat.specs.Flat.{FlatTerms, StepTerms, flat_terms}
 use Rattle.tm_flat.specs.Steps.{IsTerm}
 use Rattle.tm_game_bits.specs.Diagrams.{IsSetOf, game_of}
 use Rattle.tm_game_bits.specs.Functions.{Function, GameFunctions, StepFunctions}
+use Rattle.tm_game_bits.proofs.Choices.{lists_same}
 use Rattle.tm_game_bits.proofs.Sets.{IsSetOf-same}
 use Rattle.tm_game.specs.declared.game.Game.TheInside.{Inside}
 use Rattle.tm_game.specs.Game.{GameData, Grows, IsOf}
 use Rattle.tm_game.specs.Kept.{AreKept}
 use Rattle.tm_game.specs.Layout.{IsGame, game_data}
 use Rattle.tm_flat.proofs.Growth.{flat_kept}
-use Rattle.tm_game_steps.specs.Setting.{AreNumbers, IsReady, Setting, has_value, setting_of, values_at}
+use Rattle.tm_game_steps.specs.Setting.{AreNumbers, IsReady, Setting, choices_of, has_value, setting_of, values_at}
 use Rattle.tm_game_steps.specs.Sets.{IsAlwaysOneIn, IsOneIn}
 use Rattle.tm_game_steps.specs.Telling.{AreFrom, AreStepTerms, AreTasks, HasTerms, IsFrom, IsOfTask, TellsGame, TellsStep}
 use Rattle.tm_game_steps.proofs.Passing.{next_kept, values_same}
 use Rattle.tm_syntax.specs.Design.{DesignTree}
 use Rattle.tm_term.specs.declared.term.TermId.{TermId}
 use Rattle.tm_term.specs.Table.{Table as Terms, IsKnown}
-use Rattle.tm_term.specs.Value.{Extends}
+use Rattle.tm_term.specs.Value.{Extends, value_of}
 
 module _ (x : Setting) (t : Terms) (e : Extends x.terms t) where
   -- the setting with further terms
@@ -76,7 +77,10 @@ module _ (x : Setting) (t : Terms) (e : Extends x.terms t) where
     next = λ v.
         tells.next v
         ∙ sym (values_same x.terms t e (values_at x v) terms.next (λ i d below. (are.next.next i d below).0));
-    choices = tells.choices;
+    choices = lists_same (choices_of x) step.choices (λ v. value_of x.terms (values_at x v))
+        (λ v. value_of t (values_at x v)) terms (λ v. e.values (values_at x v) terms.legal are.legal.0)
+        (λ v. e.values (values_at x v) terms.error are.error.0)
+        (λ v n d below. e.values (values_at x v) (get_or terms.next n d) (are.next.next n d below).0) tells.choices;
     arguments = tells.arguments;
   }
 

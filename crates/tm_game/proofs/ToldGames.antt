@@ -6,11 +6,12 @@ use Rattle.std.proofs.lemmas.Option.{slice_get_within}
 use Rattle.tm_blast.specs.Bits as blasted
 use Rattle.tm_flat.specs.Flat.{FlatTerms, StepTerms}
 use Rattle.tm_flat.specs.IsFlat.{IsFlat}
+use Rattle.tm_game_bits.specs.Choices.{ListsChoices}
 use Rattle.tm_game_bits.specs.Functions.{Assignment, Function, GameFunctions, StepFunctions, after}
 use Rattle.tm_game.specs.Shape.{IsShape}
 use Rattle.tm_game.proofs.Shapes.{arguments_are, choices_are, passes_told, stands_is, state_values, values_are}
 use Rattle.tm_game_steps.specs.Places.{flag_at}
-use Rattle.tm_game_steps.specs.Setting.{Setting, arguments_of, has_value, values_at}
+use Rattle.tm_game_steps.specs.Setting.{Setting, arguments_of, choices_of, has_value, values_at}
 use Rattle.tm_game_steps.specs.Telling as made
 use Rattle.tm_game_steps.specs.Telling.{HasTerms, IsIdling, PassesTo, TellsGame, TellsStep}
 use Rattle.tm_syntax.specs.Design.{DesignTree}
@@ -18,6 +19,7 @@ use Rattle.tm_term.specs.declared.term.TermId.{TermId}
 use Rattle.tm_term.specs.Value.{value_of}
 use Rattle.tm_game_bits.specs.Told as told
 use Rattle.tm_game_bits.specs.Told.{IsIdle, IsOfDriver, IsStepOf, IsTold, Passes, argument_levels, idles, inputs_at, leaves, calls, stands_at}
+use Rattle.tm_game_bits.proofs.Choices.{lists_same}
 use Rattle.tm_game_bits.proofs.Tables.{magic_is}
 
 -- ---- lists
@@ -59,7 +61,12 @@ module _ (x : Setting) (f : FlatTerms) (order : List ℕ) (shape : IsShape x f o
         ∙ ap (λ n. blasted.input_values (take n x.levels) (after step.next v)) (sym long)
         ∙ tells.next v
         ∙ ap (λ vs. map (value_of x.terms vs) terms.next) (values_are x f order shape d flat v);
-    choices = tells.choices ∙ choices_are x f order shape d flat;
+    choices = subst (λ (levels : List ℕ).
+        ListsChoices levels step.choices (λ v. value_of x.terms (inputs_at d order v)) terms)
+        (choices_are x f order shape d flat)
+        (lists_same (choices_of x) step.choices (λ v. value_of x.terms (values_at x v))
+        (λ v. value_of x.terms (inputs_at d order v)) terms (λ v. value_is v terms.legal)
+        (λ v. value_is v terms.error) (λ v n e below. value_is v (get_or terms.next n e)) tells.choices);
     arguments = tells.arguments ∙ are;
   }
 

@@ -17,7 +17,7 @@ range_within a n k there =
     let is : a + there.0 ≡ k = sym (get_or-range_with_len a n there.0 k below) ∙ there.2 in
     (omega arith, omega arith)
 
-range_has : (a n k : ℕ) → a ≤ k → k < a + n → Contains (range_with_len a n) k
+pub range_has : (a n k : ℕ) → a ≤ k → k < a + n → Contains (range_with_len a n) k
 range_has a n k above below =
     let here : k - a < n = omega arith in
     let is : a + (k - a) ≡ k = omega arith in

@@ -11,6 +11,7 @@ use Rattle.tm_game_bits.specs.GameOf.{HasArgumentsBehind, IsDriverMove, IsEnviro
 use Rattle.tm_ddops.specs.Quantified.{AgreeElsewhere}
 use Rattle.tm_game_bits.specs.Functions.{Assignment, StepFunctions, GameFunctions, after}
 use Rattle.tm_term.specs.Table.{Table}
+use Rattle.tm_term.specs.Value.{value_of}
 use Rattle.tm_syntax.specs.Design.{DesignTree, IsDesign}
 use Rattle.tm_syntax.specs.Design.Locations.{is_magic_at}
 use Rattle.tm_sem.specs.declared.state.Move.{Move}
@@ -30,9 +31,10 @@ use Rattle.tm_flat.proofs.Telling.{process_steps_tell, task_steps_tell}
 use Rattle.tm_game_bits.specs.Order.{IsOrder}
 use Rattle.tm_game_bits.specs.Inputs.{arguments_at, choices_at}
 use Rattle.tm_game_bits.specs.AssignedStates.{coding_of, state_of}
+use Rattle.tm_game_bits.proofs.Choices.{chosen_among}
 use Rattle.tm_game_bits.proofs.Coded.{state_told}
 use Rattle.tm_game_bits.proofs.InputLevels.{are_bits, values_fit}
-use Rattle.tm_game_bits.specs.Told.{argument_levels, idles, inputs_at, leaves, calls, IsFrom, IsIdle, IsOfDriver, IsOfTask, IsTold, stands_at}
+use Rattle.tm_game_bits.specs.Told.{argument_levels, choice_levels, idles, inputs_at, leaves, calls, IsFrom, IsIdle, IsOfDriver, IsOfTask, IsTold, stands_at}
 use Rattle.tm_game_bits.proofs.Bits.{range_within, with_bits, with_bits-are, with_bits-elsewhere}
 use Rattle.tm_game_bits.proofs.Steps.{is_move, state_argued, state_chosen}
 use Rattle.tm_game_bits.proofs.Tasks.{has_tasks}
@@ -125,7 +127,8 @@ module _ (t : Table) (d : DesignTree) (order : List ℕ) (f : FlatTerms) (g : Ga
   stands_somewhere : (magic : Bool) (p k : ℕ) (step : StepFunctions) (v : Assignment) →
       IsFrom t d order f magic p k step → IsSomewhere step v → stands_at d order p k v ≡ true
   stands_somewhere magic p k step v from some =
-      let chosen = subst (λ (levels : List ℕ). AgreeElsewhere levels v some.0) from.3.choices some.1 in
+      let chosen = chosen_among (choice_levels order) step.choices (λ u. value_of t (inputs_at d order u)) from.1
+      from.3.choices v some.0 some.1 in
       ap (λ (u : StateData). eqb (slice_index u.places p) k) (sym (state_chosen t d order is v some.0 chosen))
       ∙ from.3.guarded some.0 some.2
 

@@ -1,5 +1,6 @@
 pub mod Bits
 pub mod CallerLaws
+pub mod Choices
 pub mod Coded
 pub mod Deciding
 pub mod Either

@@ -12,7 +12,7 @@ use Rattle.tm_game_bits.proofs.Deciding.{Contains-cases, Contains-head, Contains
 use Rattle.tm_game_bits.proofs.Either.{forced_or_stays, not_forced}
 use Rattle.tm_game_bits.proofs.GameSets.{forced_valid}
 
-contains_or_not : (levels : List ℕ) (k : ℕ) → Contains levels k ⊎ (¬ Contains levels k)
+pub contains_or_not : (levels : List ℕ) (k : ℕ) → Contains levels k ⊎ (¬ Contains levels k)
 contains_or_not [] k = inr (λ c. omega (arith, c.1))
 contains_or_not (l ∷ ls) k = by_first (eqb l k) refl (contains_or_not ls k)
   where
@@ -41,14 +41,14 @@ picked-second (inl p) a b h = absurd (h p)
 picked-second (inr not_so) a b h = refl
 
 -- w's values at the levels of a list, and v's elsewhere
-mixed : List ℕ → Assignment → Assignment → Assignment
+pub mixed : List ℕ → Assignment → Assignment → Assignment
 mixed levels v w k = picked (contains_or_not levels k) (w k) (v k)
 
-mixed-in : (levels : List ℕ) (v w : Assignment) (k : ℕ) → Contains levels k → mixed levels v w k ≡ w k
+pub mixed-in : (levels : List ℕ) (v w : Assignment) (k : ℕ) → Contains levels k → mixed levels v w k ≡ w k
 unfolding mixed
 mixed-in levels v w k h = picked-first (contains_or_not levels k) (w k) (v k) h
 
-mixed-out : (levels : List ℕ) (v w : Assignment) (k : ℕ) → (¬ Contains levels k) → mixed levels v w k ≡ v k
+pub mixed-out : (levels : List ℕ) (v w : Assignment) (k : ℕ) → (¬ Contains levels k) → mixed levels v w k ≡ v k
 unfolding mixed
 mixed-out levels v w k h = picked-second (contains_or_not levels k) (w k) (v k) h
 

@@ -2,6 +2,7 @@
 use Rattle.std.proofs.Common.{◌≡◌, ℕ, Bool, true, false, cond, eqb, List, length, map, refl, sym, ap, ◌∙◌, subst, arith}
 use Rattle.std.specs.Prelude.{sum}
 use Rattle.tm_base.specs.Arithmetic.{bit}
+use Rattle.tm_game_bits.specs.Choices.{AgreeButUnlisted}
 use Rattle.tm_game_bits.specs.GameOf.{outcome_in, IsMoveAt}
 use Rattle.tm_ddops.specs.Quantified.{AgreeElsewhere}
 use Rattle.tm_game_bits.specs.Functions.{Assignment, Function, StepFunctions, after}
@@ -19,8 +20,10 @@ use Rattle.tm_flat.specs.Steps.{told_outcome, Tells}
 use Rattle.tm_game_bits.specs.Order.{IsOrder}
 use Rattle.tm_game_bits.specs.Inputs.{arguments_at, choice_level, choices_at}
 use Rattle.tm_game_bits.specs.AssignedStates.{coding_of, state_of}
+use Rattle.tm_game_bits.proofs.Choices.{chosen_among, mixed-listed, next_values}
 use Rattle.tm_game_bits.proofs.Coded.{numbers_tell, told_same}
 use Rattle.tm_game_bits.proofs.InputLevels.{are_bits}
+use Rattle.tm_game_bits.proofs.StateSets.{mixed, mixed-out}
 use Rattle.tm_game_bits.specs.Told.{inputs_at, argument_levels, choice_levels, IsStepOf}
 use Rattle.tm_game_bits.proofs.Bits.{bits_agree, range_within, with_bits, with_bits-are, with_bits-elsewhere}
 
@@ -78,6 +81,15 @@ module _ (t : Table) (d : DesignTree) (order : List ℕ) (is : IsOrder (sum (sta
     inputs_chosen v w chosen =
         λ i. input_values (state_chosen v w chosen i) (choices_at order w) (arguments_chosen v w chosen i)
 
+    -- choices that are not listed make no difference
+    told_listed : (v w : Assignment) → AgreeButUnlisted (choice_levels order) step.choices v w →
+        told_outcome t d (inputs_at d order v) terms ≡ told_outcome t d (inputs_at d order w) terms
+    told_listed v w agree =
+        let next = next_values (choice_levels order) step.choices (λ u. value_of t (inputs_at d order u)) terms of.choices
+        v w agree in
+        λ i. cond (eqb (of.choices.legal v w agree i) 0) NoOutcome
+        (cond (eqb (of.choices.error v w agree i) 0) (Next (state_from d (next i))) Error)
+
     pub is_move : (move : Move) (v : Assignment) →
         ((w : Assignment) → state_of d order w ≡ state_of d order v → guard w ≡ true) →
         Tells t d terms (state_of d order v) move (arguments_at order v) →
@@ -90,12 +102,11 @@ module _ (t : Table) (d : DesignTree) (order : List ℕ) (is : IsOrder (sum (sta
           (led.0, subst (Step d (state_of d order v) move led.0) (sym same) led.1);
       all = λ choices o some made.
           let found = tells.all choices o some made in
-          let elsewhere = with_bits-elsewhere (choice_level order) found.0 v in
-          let same = told v (with_bits (choice_level order) found.0 v) elsewhere in (
-            with_bits (choice_level order) found.0 v,
-            subst (λ (levels : List ℕ). AgreeElsewhere levels v (with_bits (choice_level order) found.0 v))
-                (sym of.choices) elsewhere,
-            same
+          let elsewhere = with_bits-elsewhere (choice_level order) found.0 v in (
+            mixed step.choices v (with_bits (choice_level order) found.0 v),
+            λ k absent. mixed-out step.choices v (with_bits (choice_level order) found.0 v) k absent,
+            listed (with_bits (choice_level order) found.0 v) elsewhere
+                ∙ told v (with_bits (choice_level order) found.0 v) elsewhere
                 ∙ ap (λ bits.
                 told_outcome t d (input_values (state_of d order v) bits (arguments_at order v)) terms)
                 (with_bits-are (choice_level order) found.0 v found.1)
@@ -104,10 +115,23 @@ module _ (t : Table) (d : DesignTree) (order : List ℕ) (is : IsOrder (sum (sta
     }
       where
         chosen : (v w : Assignment) → AgreeElsewhere step.choices v w → AgreeElsewhere (choice_levels order) v w
-        chosen v w given = subst (λ (levels : List ℕ). AgreeElsewhere levels v w) of.choices given
+        chosen v w given =
+            chosen_among (choice_levels order) step.choices (λ u. value_of t (inputs_at d order u)) terms of.choices v w
+            given
 
         told : (u w : Assignment) → AgreeElsewhere (choice_levels order) v w → outcome_in (coding_of d order) step w
             ≡ told_outcome t d (input_values (state_of d order v) (choices_at order w) (arguments_at order v)) terms
         told u w given =
             leads_as_told w (holds w (state_chosen v w given))
             ∙ ap (λ values. told_outcome t d values terms) (inputs_chosen v w given)
+
+        -- with the listed ones of some choices alone
+        listed : (w : Assignment) → AgreeElsewhere (choice_levels order) v w →
+            outcome_in (coding_of d order) step (mixed step.choices v w) ≡ outcome_in (coding_of d order) step w
+        listed w given =
+            let here = chosen v (mixed step.choices v w) (λ k absent. mixed-out step.choices v w k absent) in
+            let agree = mixed-listed (choice_levels order) step.choices v w given in
+            leads_as_told (mixed step.choices v w)
+            (holds (mixed step.choices v w) (state_chosen v (mixed step.choices v w) here))
+            ∙ told_listed (mixed step.choices v w) w agree
+            ∙ sym (leads_as_told w (holds w (state_chosen v w given)))

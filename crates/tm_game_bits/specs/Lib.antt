@@ -1,4 +1,5 @@
 pub mod AssignedStates
+pub mod Choices
 pub mod Coding
 pub mod Diagrams
 pub mod Forcing

@@ -3,6 +3,7 @@ use Rattle.std.specs.Prelude.{◌≡◌, ◌↔◌, ℕ, ◌==◌, Bool, true, f
 use Rattle.std.specs.List.{range_with_len}
 use Rattle.std.specs.Option.{option_and_then}
 use Rattle.tm_base.specs.Arithmetic.{bit}
+use Rattle.tm_game_bits.specs.Choices.{ListsChoices}
 use Rattle.tm_game_bits.specs.Functions.{Assignment, Function, StepFunctions, GameFunctions, after}
 use Rattle.tm_term.specs.declared.term.TermId.{TermId}
 use Rattle.tm_term.specs.Table.{Table}
@@ -39,7 +40,7 @@ pub record IsStepOf (t : Table) (d : DesignTree) (order : List ℕ) (guard : Fun
   pub error : IsTruth t d order terms.error step.error
   pub next : (v : Assignment) →
       state_numbers (state_of d order (after step.next v)) ≡ map (value_of t (inputs_at d order v)) terms.next
-  pub choices : step.choices ≡ choice_levels order
+  pub choices : ListsChoices (choice_levels order) step.choices (λ v. value_of t (inputs_at d order v)) terms
   pub arguments : step.arguments ≡ given
 
 -- whether a process stands at a location

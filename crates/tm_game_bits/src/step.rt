@@ -3,6 +3,7 @@ ghost use Rattle.std.specs.Prelude.{◌≡◌, ◌⊎◌, true, IfOk};
 ghost use Rattle.tm_dd.specs.Reduced.{Extends};
 ghost use Rattle.tm_dd.specs.Table.{Knows, means};
 ghost use Rattle.tm_ddops.specs.Manager.{IsFunction};
+ghost use Rattle.tm_ddops.specs.Quantified.{IsExists};
 ghost use Rattle.tm_game_bits.specs.Functions.{leading_at};
 
 use std::alloc::AllocError;
@@ -18,7 +19,7 @@ pub struct StepDiagrams {
     pub error: NodeId,
     /// The levels of the state that the step changes, each once, with what they become.
     pub next: Vec<(u32, NodeId)>,
-    /// The levels of the choices.
+    /// The levels of the choices that the step reads.
     pub choices: Vec<u32>,
     /// The levels of the arguments. A step of the environment has none.
     pub arguments: Vec<u32>,
@@ -38,7 +39,7 @@ impl StepDiagrams {
             (IsSetOf dd.new.table (Leads (step_of dd.old.table self.now) (means dd.old.table into))) }
     {
         let outcomes = self.leading(dd, into)?;
-        dd.exists(outcomes, &self.choices)
+        for_some(dd, outcomes, &self.choices)
     }
 
     // For which choices the step errs or leads into a set.
@@ -77,7 +78,7 @@ impl StepDiagrams {
         ensures answer { IfOk result
             (IsSetOf dd.new.table (IsAllowed (means dd.old.table turn) (step_of dd.old.table self.now))) }
     {
-        let outcomes = dd.exists(self.legal, &self.choices)?;
+        let outcomes = for_some(dd, self.legal, &self.choices)?;
         dd.and_once(turn, outcomes)
     }
 
@@ -117,7 +118,7 @@ impl StepDiagrams {
             IsGoodForSome (means dd.old.table turn) (means dd.old.table set) v (step_of dd.old.table self.now))) }
     {
         let moves = self.good(dd, turn, set)?;
-        dd.exists(moves, &self.arguments)
+        for_some(dd, moves, &self.arguments)
     }
 
     // Where it is so, or a diagram holds.
@@ -159,4 +160,16 @@ impl StepDiagrams {
         let kept = self.keeps(dd, set)?;
         dd.and_once(other, kept)
     }
+}
+
+// Where a function is true for some values of levels. Many steps have no levels of choices or of arguments.
+fn for_some(dd: &mut Manager, f: NodeId, levels: &[u32]) -> Result<NodeId, AllocError>
+    requires { Knows dd.old.table f }
+    ensures extends { Extends dd.old.table dd.new.table }
+    ensures answer { IfOk result (IsExists dd.new.table levels.now f) }
+{
+    if levels.is_empty() {
+        return Ok(f);
+    }
+    dd.exists(f, levels)
 }

@@ -8,6 +8,7 @@ pub mod PlaceTerms
 pub mod Pushed
 pub mod Pushing
 pub mod Ranges
+pub mod Readings
 pub mod Ready
 pub mod SetsOf
 pub mod Telling

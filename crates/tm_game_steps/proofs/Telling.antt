@@ -14,18 +14,21 @@ use Rattle.tm_dd.proofs.CallerLaws.{Extends-trans}
 use Rattle.tm_flat.specs.declared.flat.FlatStep.{FlatStep}
 use Rattle.tm_flat.specs.Flat.{FlatTerms, StepTerms, step_terms}
 use Rattle.tm_game_bits.specs.declared.step.StepDiagrams.{StepDiagrams}
+use Rattle.tm_game_bits.specs.Choices.{ListsChoices}
 use Rattle.tm_game_bits.proofs.Extended.{Knows-Extends}
 use Rattle.tm_game_steps.specs.declared.places.Place.{Place}
 use Rattle.tm_game_steps.specs.Inner.Pushed.{IsTelling, MadeFrom, MadeOfTask}
 use Rattle.tm_game_steps.specs.Places.{IsPlace}
-use Rattle.tm_game_steps.specs.Setting.{IsGuarded, IsTruthIn, Setting, arguments_of, choices_of, has_value}
+use Rattle.tm_game_steps.specs.Setting.{IsGuarded, IsTruthIn, Setting, arguments_of, choices_of, has_value, values_at}
 use Rattle.tm_game_steps.specs.Telling.{HasStep}
+use Rattle.tm_term.specs.Value.{value_of}
 
 -- a step whose parts are those of terms
 pub step_is : (x : Setting) (s t u : Table) (test : List ℕ → Bool) (given : List ℕ) (terms : StepTerms)
     (step : StepDiagrams) → Extends s t → Extends t u → IsGuarded x s test terms.legal step.legal →
     IsTruthIn x t terms.error step.error → AreChanges x.terms x.levels u terms.next step.next.items →
-    step.choices.items ≡ choices_of x → step.arguments.items ≡ given → IsTelling x u test given terms step
+    ListsChoices (choices_of x) step.choices.items (λ v. value_of x.terms (values_at x v)) terms →
+    step.arguments.items ≡ given → IsTelling x u test given terms step
 step_is x s t u test given terms step first second guarded error changes choices arguments =
     let both = Extends-trans s t u first second in
     record {

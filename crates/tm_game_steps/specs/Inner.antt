@@ -4,5 +4,6 @@ pub mod BelowChanged
 pub mod Driving
 pub mod Inputs
 pub mod Pushed
+pub mod Reading
 pub mod Sides
 pub mod Turns

@@ -5,6 +5,7 @@ use Rattle.tm_blast.specs.Bits.{input_values}
 use Rattle.tm_flat.specs.Flat.{FlatTerms, StepTerms}
 use Rattle.tm_flat.specs.IsFlat.{step_from}
 use Rattle.tm_flat.specs.Steps.{IsTerm}
+use Rattle.tm_game_bits.specs.Choices.{ListsChoices}
 use Rattle.tm_game_bits.specs.Functions.{Assignment, Function, StepFunctions, GameFunctions, after}
 use Rattle.tm_game_steps.specs.Places.{flag_at}
 use Rattle.tm_game_steps.specs.Setting.{AreNumbers, Setting, arguments_of, choices_of, has_value, values_at}
@@ -42,7 +43,7 @@ pub record TellsStep (x : Setting) (test : List ℕ → Bool) (given : List ℕ)
   pub error : (v : Assignment) → value_of x.terms (values_at x v) terms.error ≡ bit (step.error v)
   pub next : (v : Assignment) → input_values (take (length terms.next) x.levels) (after step.next v)
       ≡ map (value_of x.terms (values_at x v)) terms.next
-  pub choices : step.choices ≡ choices_of x
+  pub choices : ListsChoices (choices_of x) step.choices (λ v. value_of x.terms (values_at x v)) terms
   pub arguments : step.arguments ≡ given
 
 -- a change that leaves the numbers of a state as they are, but for the last one

@@ -5,6 +5,7 @@ ghost use Rattle.tm_dd.specs.Table.{Knows, means};
 ghost use Rattle.tm_flat.specs.Flat.{flat_terms};
 ghost use Rattle.tm_game_steps.specs.Inner.Driving.{AreDriverSteps};
 ghost use Rattle.tm_game_steps.specs.Inner.Pushed.{MadeIdle};
+ghost use Rattle.tm_game_steps.specs.Inner.Reading.{AreReadings};
 ghost use Rattle.tm_game_steps.specs.Passing.{ArePassing};
 ghost use Rattle.tm_game_steps.specs.Places.{ArePlaces};
 ghost use Rattle.tm_game_steps.specs.Setting.{IsReady, setting_of};
@@ -33,12 +34,14 @@ impl Encoding {
         &self,
         flat: &Flat,
         places: &[Place],
+        reads: &[u64],
         turn: NodeId,
         idle: &[TermId],
         made: &mut TermBits,
         dd: &mut Manager,
     ) -> Result<DriverSteps, AllocError>
         requires terms { HasTerms (setting_of self.now) (flat_terms flat.now) }
+        requires reads { AreReadings self.now.terms (setting_of self.now).levels reads.now }
         requires places { ArePlaces self.now.terms (flat_terms flat.now).magic self.now.first places.now }
         requires turn { Knows dd.old.table turn }
         requires idle { ArePassing self.now.terms self.now.numbers 1 idle.now }
@@ -52,8 +55,8 @@ impl Encoding {
         let step = self.idle_step(turn, idle, made, dd)?;
         let mut list = Vec::new(self.alloc);
         list.push(step)?;
-        self.push_tasks(flat, &mut list, made, dd)?;
-        let movers = self.push_processes(flat, places, true, &mut list, made, dd)?;
+        self.push_tasks(flat, reads, &mut list, made, dd)?;
+        let movers = self.push_processes(flat, places, reads, true, &mut list, made, dd)?;
         Ok(DriverSteps { list, movers })
     }
 

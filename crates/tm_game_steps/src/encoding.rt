@@ -1,11 +1,12 @@
 //! Terms whose inputs are bits of levels, and their truths as diagrams.
 ghost use Rattle.std.specs.List.{range_with_len};
-ghost use Rattle.std.specs.Prelude.{◌≡◌, ◌+◌, ◌<◌, ◌^◌, ℕ, Bool, List, IfOk};
+ghost use Rattle.std.specs.Prelude.{◌≡◌, ◌+◌, ◌<◌, ◌≤◌, ◌^◌, ℕ, Bool, List, IfOk};
 ghost use Rattle.tm_base.specs.Arithmetic.{bit};
 ghost use Rattle.tm_game_steps.specs.Changes.{AreChanges};
 ghost use Rattle.tm_dd.specs.Reduced.{Extends};
 ghost use Rattle.tm_flat.specs.Inputs.{room};
 ghost use Rattle.tm_flat.specs.Steps.{IsTerm};
+ghost use Rattle.tm_game_steps.specs.Inner.Reading.{AreChoicesBelow};
 ghost use Rattle.tm_game_steps.specs.Setting.{AreNumbers, IsGuarded, IsReady, IsTruthIn, choices_of, setting_of};
 ghost use Rattle.tm_term.specs.Value.{value_of};
 
@@ -104,7 +105,17 @@ impl Encoding {
         ensures { IfOk result (λ levels. levels.items ≡ choices_of (setting_of self.now)) }
     {
         let first = self.state_levels + ROOM;
-        let levels = level_range(self.alloc, first)?;
+        let levels = level_range(self.alloc, first, ROOM)?;
+        Ok(levels)
+    }
+
+    // Levels of bits of choices, among them all that are below a number.
+    pub(crate) fn choices_below(&self, above: u64) -> Result<Vec<u32>, AllocError>
+        requires { self.now.state_levels + 128 < 2 ^ 32 }
+        ensures { IfOk result (λ levels. AreChoicesBelow (setting_of self.now) above levels.items) }
+    {
+        let first = self.state_levels + ROOM;
+        let levels = level_range(self.alloc, first, count_below(first, above))?;
         Ok(levels)
     }
 
@@ -113,19 +124,32 @@ impl Encoding {
         requires { self.now.state_levels + 128 < 2 ^ 32 }
         ensures { IfOk result (λ levels. levels.items ≡ range_with_len self.now.state_levels room) }
     {
-        let levels = level_range(self.alloc, self.state_levels)?;
+        let levels = level_range(self.alloc, self.state_levels, ROOM)?;
         Ok(levels)
     }
 }
 
-// As many levels as there is room for bits, from one on.
-fn level_range(alloc: Global, first: u32) -> Result<Vec<u32>, AllocError>
-    requires { first + 64 < 2 ^ 32 }
-    ensures { IfOk result (λ levels. levels.items ≡ range_with_len first room) }
+// So many levels from one on.
+fn level_range(alloc: Global, first: u32, count: u32) -> Result<Vec<u32>, AllocError>
+    requires { first + count < 2 ^ 32 }
+    ensures { IfOk result (λ levels. levels.items ≡ range_with_len first count) }
 {
     let mut levels = Vec::new(alloc);
-    for bit in 0..ROOM {
+    for bit in 0..count {
         levels.push(first + bit)?;
     }
     Ok(levels)
+}
+
+// How many bits have their levels below a number, where the first stands at a level, of those that there is room for.
+fn count_below(first: u32, above: u64) -> u32
+    ensures few { result ≤ 64 }
+    ensures all { (k : ℕ) → k < first + 64 → k < above → k < first + result }
+{
+    let passed = above.saturating_sub(first as u64);
+    if passed < ROOM as u64 {
+        passed as u32
+    } else {
+        ROOM
+    }
 }

@@ -7,6 +7,7 @@ mod encoding;
 mod making;
 mod passes;
 mod places;
+mod reading;
 mod sets;
 mod steps;
 mod truths;

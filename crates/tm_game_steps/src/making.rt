@@ -2,6 +2,7 @@
 ghost use Rattle.std.specs.Prelude.{IfOk};
 ghost use Rattle.tm_dd.specs.Reduced.{Extends};
 ghost use Rattle.tm_flat.specs.Flat.{flat_terms};
+ghost use Rattle.tm_game_steps.specs.Inner.Reading.{AreReadings};
 ghost use Rattle.tm_game_steps.specs.Inner.Sides.{AreTurns};
 ghost use Rattle.tm_game_steps.specs.Inner.Turns.{AreTests};
 ghost use Rattle.tm_game_steps.specs.Made.{IsMadeGame};
@@ -12,6 +13,7 @@ ghost use Rattle.tm_game_steps.specs.Telling.{HasTerms};
 
 use crate::encoding::Encoding;
 use crate::places::Place;
+use crate::reading::readings;
 use std::alloc::AllocError;
 use tm_blast::TermBits;
 use tm_dd::NodeId;
@@ -58,11 +60,39 @@ impl Encoding {
         ensures ready { IsReady (setting_of self.now) dd.new.table made.new }
         ensures game { IfOk result (IsMadeGame (setting_of self.now) (flat_terms flat.now) dd.new.table) }
     {
+        let reads = readings(self.alloc, &self.terms, &self.levels)?;
+        let game = self.steps(flat, places, &reads, stutter, idle, made, dd);
+        drop(reads);
+        game
+    }
+
+    // The same, where it is known how high the levels stand that terms read.
+    fn steps(
+        &self,
+        flat: &Flat,
+        places: &[Place],
+        reads: &[u64],
+        stutter: &[TermId],
+        idle: &[TermId],
+        made: &mut TermBits,
+        dd: &mut Manager,
+    ) -> Result<MadeGame, AllocError>
+        requires terms { HasTerms (setting_of self.now) (flat_terms flat.now) }
+        requires reads { AreReadings self.now.terms (setting_of self.now).levels reads.now }
+        requires places { ArePlaces self.now.terms (flat_terms flat.now).magic self.now.first places.now }
+        requires stutter { ArePassing self.now.terms self.now.numbers 0 stutter.now }
+        requires idle { ArePassing self.now.terms self.now.numbers 1 idle.now }
+        requires ready { IsReady (setting_of self.now) dd.old.table made.old }
+
+        ensures earlier { Extends dd.old.table dd.new.table }
+        ensures ready { IsReady (setting_of self.now) dd.new.table made.new }
+        ensures game { IfOk result (IsMadeGame (setting_of self.now) (flat_terms flat.now) dd.new.table) }
+    {
         let turns = self.turns(places, stutter, made, dd)?;
         let valid = self.truth(flat.valid, made, dd)?;
         let mut environment = Vec::new(self.alloc);
-        let _others = self.push_processes(flat, places, false, &mut environment, made, dd)?;
-        let driver = self.driver_steps(flat, places, turns.turn, idle, made, dd)?;
+        let _others = self.push_processes(flat, places, reads, false, &mut environment, made, dd)?;
+        let driver = self.driver_steps(flat, places, reads, turns.turn, idle, made, dd)?;
         Ok(MadeGame {
             steps: GameDiagrams {
                 valid,

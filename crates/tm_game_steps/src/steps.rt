@@ -4,12 +4,14 @@ ghost use Rattle.tm_dd.specs.Reduced.{Extends};
 ghost use Rattle.tm_flat.specs.Flat.{flat_terms, step_terms};
 ghost use Rattle.tm_game_bits.specs.declared.step.StepDiagrams.{StepDiagrams as Diagrams};
 ghost use Rattle.tm_game_steps.specs.Inner.Pushed.{AreProcesses, AreProcessesBelow, AreTaskSteps, IsTelling, MadeFrom, MadeOfTask};
+ghost use Rattle.tm_game_steps.specs.Inner.Reading.{AreReadings};
 ghost use Rattle.tm_game_steps.specs.Places.{ArePlaces, IsPlace};
 ghost use Rattle.tm_game_steps.specs.Setting.{IsGuarded, IsReady, setting_of};
 ghost use Rattle.tm_game_steps.specs.Telling.{AreStepTerms, HasTerms};
 
 use crate::encoding::Encoding;
 use crate::places::Place;
+use crate::reading::above_step;
 use std::alloc::AllocError;
 use tm_blast::TermBits;
 use tm_dd::NodeId;
@@ -23,10 +25,12 @@ impl Encoding {
         &self,
         flat: &Flat,
         place: Place,
+        reads: &[u64],
         made: &mut TermBits,
         dd: &mut Manager,
     ) -> Result<StepDiagrams, AllocError>
         requires terms { HasTerms (setting_of self.now) (flat_terms flat.now) }
+        requires reads { AreReadings self.now.terms (setting_of self.now).levels reads.now }
         requires place { IsPlace self.now.terms (flat_terms flat.now).magic self.now.first place }
         requires ready { IsReady (setting_of self.now) dd.old.table made.old }
 
@@ -38,7 +42,7 @@ impl Encoding {
         let step = &steps[place.location];
         let legal = self.guarded(place.stands, step.legal, made, dd)?;
         let arguments = Vec::new(self.alloc);
-        let moves = self.step(legal, step, arguments, made, dd)?;
+        let moves = self.step(legal, step, arguments, reads, made, dd)?;
         Ok(moves)
     }
 
@@ -47,10 +51,12 @@ impl Encoding {
         &self,
         flat: &Flat,
         task: usize,
+        reads: &[u64],
         made: &mut TermBits,
         dd: &mut Manager,
     ) -> Result<StepDiagrams, AllocError>
         requires terms { HasTerms (setting_of self.now) (flat_terms flat.now) }
+        requires reads { AreReadings self.now.terms (setting_of self.now).levels reads.now }
         requires task { task < length (flat_terms flat.now).tasks }
         requires ready { IsReady (setting_of self.now) dd.old.table made.old }
 
@@ -61,7 +67,7 @@ impl Encoding {
         let step = &flat.tasks[task];
         let legal = self.truth(step.legal, made, dd)?;
         let arguments = self.arguments()?;
-        let calls = self.step(legal, step, arguments, made, dd)?;
+        let calls = self.step(legal, step, arguments, reads, made, dd)?;
         Ok(calls)
     }
 
@@ -71,10 +77,12 @@ impl Encoding {
         legal: NodeId,
         step: &FlatStep,
         arguments: Vec<u32>,
+        reads: &[u64],
         made: &mut TermBits,
         dd: &mut Manager,
     ) -> Result<StepDiagrams, AllocError>
         requires terms { AreStepTerms (setting_of self.now) (step_terms step.now) }
+        requires reads { AreReadings self.now.terms (setting_of self.now).levels reads.now }
         requires ready { IsReady (setting_of self.now) dd.old.table made.old }
 
         ensures earlier { Extends dd.old.table dd.new.table }
@@ -85,7 +93,7 @@ impl Encoding {
     {
         let error = self.truth(step.error, made, dd)?;
         let next = self.changed(&step.next, made, dd)?;
-        let choices = self.choices()?;
+        let choices = self.choices_below(above_step(step, reads))?;
         Ok(StepDiagrams {
             legal,
             error,
@@ -100,12 +108,14 @@ impl Encoding {
         &self,
         flat: &Flat,
         place: Place,
+        reads: &[u64],
         list: &mut Vec<StepDiagrams>,
         movers: &mut Vec<usize>,
         made: &mut TermBits,
         dd: &mut Manager,
     ) -> Result<(), AllocError>
         requires terms { HasTerms (setting_of self.now) (flat_terms flat.now) }
+        requires reads { AreReadings self.now.terms (setting_of self.now).levels reads.now }
         requires place { IsPlace self.now.terms (flat_terms flat.now).magic self.now.first place }
         requires ready { IsReady (setting_of self.now) dd.old.table made.old }
 
@@ -115,7 +125,7 @@ impl Encoding {
             × MadeFrom (setting_of self.now) (flat_terms flat.now) dd.new.table place step) }
         ensures mover { OnOk result (movers.new.items ≡ movers.old.items ++ place.process ∷ []) }
     {
-        let step = self.process_step(flat, place, made, dd)?;
+        let step = self.process_step(flat, place, reads, made, dd)?;
         list.push(step)?;
         movers.push(place.process)?;
         Ok(())
@@ -126,6 +136,7 @@ impl Encoding {
         &self,
         flat: &Flat,
         places: &[Place],
+        reads: &[u64],
         index: usize,
         magic: bool,
         list: &mut Vec<StepDiagrams>,
@@ -134,6 +145,7 @@ impl Encoding {
         dd: &mut Manager,
     ) -> Result<(), AllocError>
         requires terms { HasTerms (setting_of self.now) (flat_terms flat.now) }
+        requires reads { AreReadings self.now.terms (setting_of self.now).levels reads.now }
         requires places { ArePlaces self.now.terms (flat_terms flat.now).magic self.now.first places.now }
         requires index { index < length places.now }
         requires ready { IsReady (setting_of self.now) dd.old.table made.old }
@@ -149,7 +161,7 @@ impl Encoding {
         if place.magic != magic {
             return Ok(());
         }
-        self.push_process(flat, place, list, movers, made, dd)?;
+        self.push_process(flat, place, reads, list, movers, made, dd)?;
         Ok(())
     }
 
@@ -159,12 +171,14 @@ impl Encoding {
         &self,
         flat: &Flat,
         places: &[Place],
+        reads: &[u64],
         magic: bool,
         list: &mut Vec<StepDiagrams>,
         made: &mut TermBits,
         dd: &mut Manager,
     ) -> Result<Vec<usize>, AllocError>
         requires terms { HasTerms (setting_of self.now) (flat_terms flat.now) }
+        requires reads { AreReadings self.now.terms (setting_of self.now).levels reads.now }
         requires places { ArePlaces self.now.terms (flat_terms flat.now).magic self.now.first places.now }
         requires ready { IsReady (setting_of self.now) dd.old.table made.old }
 
@@ -175,7 +189,17 @@ impl Encoding {
     {
         let mut movers = Vec::new(self.alloc);
         for index in 0..places.len() {
-            self.push_place(flat, places, index, magic, list, &mut movers, made, dd)?;
+            self.push_place(
+                flat,
+                places,
+                reads,
+                index,
+                magic,
+                list,
+                &mut movers,
+                made,
+                dd,
+            )?;
         }
         Ok(movers)
     }
@@ -184,11 +208,13 @@ impl Encoding {
     pub(crate) fn push_tasks(
         &self,
         flat: &Flat,
+        reads: &[u64],
         list: &mut Vec<StepDiagrams>,
         made: &mut TermBits,
         dd: &mut Manager,
     ) -> Result<(), AllocError>
         requires terms { HasTerms (setting_of self.now) (flat_terms flat.now) }
+        requires reads { AreReadings self.now.terms (setting_of self.now).levels reads.now }
         requires ready { IsReady (setting_of self.now) dd.old.table made.old }
 
         ensures earlier { Extends dd.old.table dd.new.table }
@@ -197,7 +223,7 @@ impl Encoding {
             dd.new.table list.old.items list.new.items (length (flat_terms flat.now).tasks)) }
     {
         for task in 0..flat.tasks.len() {
-            let step = self.task_step(flat, task, made, dd)?;
+            let step = self.task_step(flat, task, reads, made, dd)?;
             list.push(step)?;
         }
         Ok(())

@@ -37,7 +37,8 @@ use Rattle.tm_syntax.specs.Design.Sizes.{bits_of_number, type_bits}
 use Rattle.tm_term.specs.declared.term.TermId.{TermId}
 use Rattle.tm_term.specs.Table.{Table}
 use Rattle.tm_term.specs.Value.{value_of}
-use Rattle.tm_game_bits.specs.Told.{IsFrom, IsIdle, IsOfDriver, IsOfTask, IsStepOf, IsTold, Passes, argument_levels, idles, inputs_at, leaves, calls, magic_at, stands_at}
+use Rattle.tm_game_bits.specs.Told.{IsFrom, IsIdle, IsOfDriver, IsOfTask, IsStepOf, IsTold, Passes, argument_levels, choice_levels, idles, inputs_at, leaves, calls, magic_at, stands_at}
+use Rattle.tm_game_bits.proofs.Choices.{lists_all}
 use Rattle.tm_game_bits.proofs.Games.{is_game_of}
 use Rattle.tm_game_bits.proofs.Tables.{magic_is}
 use Rattle.tm_solve_exact.specs.Bits.{functions_in, idle_in, inputs_in, is_magic, listed_below, locations_in, next_in, passed_in, picks_in, stands_in, step_in, step_of_sort, steps_of_sort, tasks_in, truth_in}
@@ -203,7 +204,7 @@ module _ (t base : Table) (d : DesignTree) (f : FlatTerms) (order : List ℕ) (f
         (subst (λ (vs : List ℕ). AllZip Fits (state_widths d) (map (value_of t vs) terms.next)) (sym (inputs_are v))
         (zip_valued v (state_widths d) terms.next are.next))
         ∙ ap (λ vs. map (value_of t vs) terms.next) (inputs_are v);
-    choices = refl;
+    choices = lists_all (choice_levels order) (λ v. value_of t (inputs_at d order v)) terms;
     arguments = refl;
   }
 

@@ -1,6 +1,5 @@
 use Rattle.std.proofs.Common.{ap, sym, ◌≡◌, ◌∙◌, ◌+◌, ◌∷◌, ◌++◌, [], List, ℕ, arith}
 use Rattle.std.specs.List.{range_with_len}
-use Rattle.tm_flat.specs.Inputs.{room}
 use Rattle.tm_game_steps.proofs.Ranges.{range_more}
 use Rattle.tm_game_steps.proofs.encoding.level_range.Goals as goal
 
@@ -11,7 +10,6 @@ loop-bit-preserved c =
     ∙ sym (range_more c.args.first c.loop-bit.bit)
 
 pub returns : goal.returns
-unfolding room
 returns c =
-    let all : c.loop-bit.bit ≡ 64 = omega (arith, c.loop-bit.auto.bit-end) in
+    let all : c.loop-bit.bit ≡ c.args.count = omega (arith, c.loop-bit.auto.bit-end, c.loop-bit-test.false) in
     c.loop-bit.invariant ∙ ap (range_with_len c.args.first) all

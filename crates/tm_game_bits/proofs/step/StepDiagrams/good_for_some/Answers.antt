@@ -8,10 +8,10 @@ use Rattle.tm_game_bits.proofs.step.StepDiagrams.good_for_some.Goals as goal
 
 pub returns-clause-answer : goal.returns-clause-answer
 returns-clause-answer c =
-    let u = c.exists.new.self.table in
-    IfOk-weaker c.exists.result _ _
-    (λ id x. good_for_some_is c.good.new.dd.table u c.exists.ensures.grows.extends
+    let u = c.for_some.new.dd.table in
+    IfOk-weaker c.for_some.result _ _
+    (λ id x. good_for_some_is c.good.new.dd.table u c.for_some.ensures.extends
     (means c.args.dd.now.table c.args.turn) (means c.args.dd.now.table c.args.set)
     (step_of c.args.dd.now.table c.args.self.now) c.in_ok-moves.moves id c.in_ok-moves.ensures.answer
     (subst (λ (levels : List ℕ). IsExists u levels c.in_ok-moves.moves id) c.deref.ensures.value x))
-    c.exists.ensures.answer
+    c.for_some.ensures.answer

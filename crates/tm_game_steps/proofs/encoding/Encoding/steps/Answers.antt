@@ -4,7 +4,7 @@ use Rattle.tm_game_bits.specs.declared.step.StepDiagrams.{StepDiagrams}
 use Rattle.tm_game_steps.specs.Inner.Pushed.{AreProcesses}
 use Rattle.tm_game_steps.specs.Setting.{setting_of}
 use Rattle.tm_game_steps.proofs.Driving.{game_is}
-use Rattle.tm_game_steps.proofs.encoding.Encoding.game.Goals as goal
+use Rattle.tm_game_steps.proofs.encoding.Encoding.steps.Goals as goal
 
 pub returns-clause-game : goal.returns-clause-game
 returns-clause-game c =
