@@ -1,10 +1,10 @@
 -- How high the levels stand on which the values of terms depend.
-use Rattle.std.proofs.Common.{◌≡◌, ℕ, ◌+◌, ◌<◌, ◌≤◌, List, [], ◌∷◌, ◌++◌, length, get_or, map, inl, inr, refl, sym, ap, ◌∙◌, subst, arith, bit_and, bit_or, bit_xor, length-append}
+use Rattle.std.proofs.Common.{◌≡◌, ℕ, ◌+◌, ◌<◌, ◌≤◌, List, [], ◌∷◌, ◌++◌, length, get_or, map, inl, inr, refl, sym, ap, ◌∙◌, subst, arith, length-append}
 use Rattle.std.specs.Prelude.{All, slice_index}
 use Rattle.std.specs.List.{range_with_len}
 use Rattle.std.proofs.lemmas.Bool.{cases_lt}
 use Rattle.std.proofs.lemmas.List.{get_or-map, get_or_append_left}
-use Rattle.tm_base.specs.Arithmetic.{choice, complement, difference, equal, less, resize, shift_left, shift_right, sum}
+use Rattle.std.proofs.lemmas.List.Elements.{All-head, All-tail}
 use Rattle.tm_base.specs.Bits.{number_of}
 use Rattle.tm_blast.specs.Bits.{input_values}
 use Rattle.tm_flat.specs.Flat.{StepTerms}
@@ -16,122 +16,33 @@ use Rattle.tm_game_steps.specs.Inner.Reading.{AreChoicesBelow, AreReadings, AreR
 use Rattle.tm_game_steps.specs.Setting.{Setting, choices_of, values_at}
 use Rattle.tm_game_steps.specs.Telling.{AreStepTerms}
 use Rattle.tm_game_steps.proofs.Pushing.{last_of}
-use Rattle.tm_term.specs.declared.term.Parts.{Parts}
-use Rattle.tm_term.specs.declared.term.Parts.TheVariants as parts
 use Rattle.tm_term.specs.declared.term.Term.{Term}
-use Rattle.tm_term.specs.declared.term.Term.TheVariants.{Const, Input, Not, And, Or, Xor, Add, Sub, Shl, Shr, Eq, Less, Ite, Resize}
+use Rattle.tm_term.specs.declared.term.Term.TheVariants.{Input}
 use Rattle.tm_term.specs.declared.term.TermId.{TermId}
-use Rattle.tm_term.specs.Parts.{parts_of}
-use Rattle.tm_term.specs.Table.{Table, IsKnown, width_of}
-use Rattle.tm_term.specs.Value.{term_value, value_of, value_over}
+use Rattle.tm_term.specs.Table.{Table, IsKnown}
+use Rattle.tm_term.specs.Value.{term_value, value_of}
 use Rattle.tm_term.proofs.Growth.{TermId-ext}
 
--- ---- the value of a term from those of its parts
--- two ways to value terms agree on parts
-abbrev AgreeOnParts : (TermId → ℕ) → (TermId → ℕ) → Parts → Type 0
-AgreeOnParts f g parts.None = Unit {0}
-AgreeOnParts f g (parts.One a) = f a ≡ g a
-AgreeOnParts f g (parts.Two a b) = (f a ≡ g a) × (f b ≡ g b)
-AgreeOnParts f g (parts.Three c a b) = (f c ≡ g c) × (f a ≡ g a) × (f b ≡ g b)
+-- an input reads its levels
+pub input_below : (t : Table) (levels : List (List ℕ)) (id : TermId) (term : Term) →
+    ((values : List ℕ) → value_of t values id ≡ term_value t values term) → (input above : ℕ) →
+    term ≡ Input input → input < length levels → All (λ level. level < above) (get_or levels input []) →
+    ReadsBelow t levels id above
+input_below t levels id term is input above at within low v w agree =
+    is (input_values levels v) ∙ ap (term_value t (input_values levels v)) at
+    ∙ number v ∙ ap number_of (bits_same (get_or levels input []) low) ∙ sym (number w)
+    ∙ sym (is (input_values levels w) ∙ ap (term_value t (input_values levels w)) at)
+  where
+    number : (u : Assignment) → slice_index (input_values levels u) input ≡ number_of (map u (get_or levels input []))
+    number u = get_or-map (λ (bits : List ℕ). number_of (map u bits)) levels input [] 0 within
 
-over_same : (t : Table) (vs ws : List ℕ) (f g : TermId → ℕ) (term : Term) →
-    ((input : ℕ) → term ≡ Input input → slice_index vs input ≡ slice_index ws input) →
-    AgreeOnParts f g (parts_of term) → value_over t vs f term ≡ value_over t ws g term
-over_same t vs ws f g (Const width number) inputs same = refl
-over_same t vs ws f g (Input input) inputs same = inputs input refl
-over_same t vs ws f g (Not a) inputs same = ap (complement (width_of t a)) same
-over_same t vs ws f g (And a b) inputs same = λ i. bit_and (same.0 i) (same.1 i)
-over_same t vs ws f g (Or a b) inputs same = λ i. bit_or (same.0 i) (same.1 i)
-over_same t vs ws f g (Xor a b) inputs same = λ i. bit_xor (same.0 i) (same.1 i)
-over_same t vs ws f g (Add a b) inputs same = λ i. sum (width_of t a) (same.0 i) (same.1 i)
-over_same t vs ws f g (Sub a b) inputs same = λ i. difference (width_of t a) (same.0 i) (same.1 i)
-over_same t vs ws f g (Shl a by) inputs same = λ i. shift_left (width_of t a) (same i) by
-over_same t vs ws f g (Shr a by) inputs same = λ i. shift_right (same i) by
-over_same t vs ws f g (Eq a b) inputs same = λ i. equal (same.0 i) (same.1 i)
-over_same t vs ws f g (Less a b) inputs same = λ i. less (same.0 i) (same.1 i)
-over_same t vs ws f g (Ite c a b) inputs same = λ i. choice (same.0 i) (same.1 i) (same.2 i)
-over_same t vs ws f g (Resize width a) inputs same = ap (resize width) same
+    bits_same : (ls : List ℕ) → All (λ level. level < above) ls → map v ls ≡ map w ls
+    bits_same [] all = refl
+    bits_same (l ∷ ls) all =
+        λ i. agree l (All-head (λ level. level < above) l ls all) i
+        ∷ bits_same ls (All-tail (λ level. level < above) l ls all) i
 
--- with a greater number
-below_more : (t : Table) (levels : List (List ℕ)) (id : TermId) (m n : ℕ) → m ≤ n → ReadsBelow t levels id m →
-    ReadsBelow t levels id n
-below_more t levels id m n low reads v w agree = reads v w (λ k under. agree k (omega (arith, low, under)))
-
-module _ (t : Table) (levels : List (List ℕ)) (id : TermId) (term : Term)
-    (is : (values : List ℕ) → value_of t values id ≡ term_value t values term) where
-  over_parts : (above : ℕ) →
-      ((input : ℕ) → term ≡ Input input → (v w : Assignment) → ((k : ℕ) → k < above → v k ≡ w k) →
-      slice_index (input_values levels v) input ≡ slice_index (input_values levels w) input) →
-      ((v w : Assignment) → ((k : ℕ) → k < above → v k ≡ w k) →
-      AgreeOnParts (value_of t (input_values levels v)) (value_of t (input_values levels w)) (parts_of term)) →
-      ReadsBelow t levels id above
-  over_parts above inputs same v w agree =
-      is (input_values levels v)
-      ∙ over_same t (input_values levels v) (input_values levels w) (value_of t (input_values levels v))
-      (value_of t (input_values levels w)) term (λ input at. inputs input at v w agree) (same v w agree)
-      ∙ sym (is (input_values levels w))
-
-  -- a term that has parts is no input
-  no_input : (p : Parts) → parts_of term ≡ p → ¬ (p ≡ parts.None) → (input : ℕ) → ¬ (term ≡ Input input)
-  no_input p has some input at = some (sym has ∙ ap parts_of at)
-
-  pub one_below : (a : TermId) (above : ℕ) → parts_of term ≡ parts.One a → ReadsBelow t levels a above →
-      ReadsBelow t levels id above
-  one_below a above has reads =
-      over_parts above (λ input at. absurd (no_input (parts.One a) has (λ e. cc) input at))
-      (λ v w agree.
-      subst (AgreeOnParts (value_of t (input_values levels v)) (value_of t (input_values levels w))) (sym has)
-      (reads v w agree))
-
-  pub two_below : (a b : TermId) (m n above : ℕ) → parts_of term ≡ parts.Two a b → m ≤ above → n ≤ above →
-      ReadsBelow t levels a m → ReadsBelow t levels b n → ReadsBelow t levels id above
-  two_below a b m n above has low_a low_b reads_a reads_b =
-      over_parts above (λ input at. absurd (no_input (parts.Two a b) has (λ e. cc) input at))
-      (λ v w agree.
-      subst (AgreeOnParts (value_of t (input_values levels v)) (value_of t (input_values levels w))) (sym has) (
-        below_more t levels a m above low_a reads_a v w agree,
-        below_more t levels b n above low_b reads_b v w agree,
-      ))
-
-  pub three_below : (c a b : TermId) (l m n above : ℕ) → parts_of term ≡ parts.Three c a b → l ≤ above →
-      m ≤ above → n ≤ above → ReadsBelow t levels c l → ReadsBelow t levels a m → ReadsBelow t levels b n →
-      ReadsBelow t levels id above
-  three_below c a b l m n above has low_c low_a low_b reads_c reads_a reads_b =
-      over_parts above (λ input at. absurd (no_input (parts.Three c a b) has (λ e. cc) input at))
-      (λ v w agree.
-      subst (AgreeOnParts (value_of t (input_values levels v)) (value_of t (input_values levels w))) (sym has) (
-        below_more t levels c l above low_c reads_c v w agree,
-        below_more t levels a m above low_a reads_a v w agree,
-        below_more t levels b n above low_b reads_b v w agree,
-      ))
-
-  -- a constant reads no level
-  pub constant_below : (width number : ℕ) → term ≡ Const width number → ReadsBelow t levels id 0
-  constant_below width number at v w agree =
-      is (input_values levels v) ∙ ap (term_value t (input_values levels v)) at
-      ∙ sym (is (input_values levels w) ∙ ap (term_value t (input_values levels w)) at)
-
-  -- an input reads its levels
-  pub input_below : (input above : ℕ) → term ≡ Input input → input < length levels →
-      All (λ level. level < above) (get_or levels input []) → ReadsBelow t levels id above
-  input_below input above at within low v w agree =
-      is (input_values levels v) ∙ ap (term_value t (input_values levels v)) at
-      ∙ number v ∙ ap number_of (bits_same (get_or levels input []) low) ∙ sym (number w)
-      ∙ sym (is (input_values levels w) ∙ ap (term_value t (input_values levels w)) at)
-    where
-      number : (u : Assignment) → slice_index (input_values levels u) input ≡ number_of (map u (get_or levels input []))
-      number u = get_or-map (λ (bits : List ℕ). number_of (map u bits)) levels input [] 0 within
-
-      bits_same : (ls : List ℕ) → All (λ level. level < above) ls → map v ls ≡ map w ls
-      bits_same [] all = refl
-      bits_same (l ∷ ls) all =
-          λ i. agree l (Rattle.std.proofs.lemmas.List.Elements.All-head (λ level. level < above) l ls all) i
-          ∷ bits_same ls (Rattle.std.proofs.lemmas.List.Elements.All-tail (λ level. level < above) l ls all) i
-
--- ---- the numbers of all terms
-pub readings_none : (t : Table) (levels : List (List ℕ)) → AreReadingsBelow t levels 0 []
-readings_none t levels = record { long = refl; each = λ id below. absurd (omega arith) }
-
+-- one more term
 pub readings_more : (t : Table) (levels : List (List ℕ)) (count above : ℕ) (reads new : List ℕ) →
     AreReadingsBelow t levels count reads → ReadsBelow t levels (record { 0 = count }) above →
     new ≡ reads ++ above ∷ [] → AreReadingsBelow t levels (count + 1) new
