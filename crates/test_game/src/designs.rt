@@ -31,7 +31,7 @@ fn answer_by_game(
     }
 }
 
-/// The same, by a machine of the design.
+/// The answer to a question, by a machine of the design.
 fn answer_by_machine(
     alloc: Global,
     table: &str,
@@ -52,7 +52,7 @@ fn answer_by_machine(
     }
 }
 
-/// The same, by the tables of the design.
+/// The answer to a question, by the tables of the design.
 fn answer_by_tables(
     alloc: Global,
     table: &str,
@@ -73,7 +73,7 @@ fn answer_by_tables(
     }
 }
 
-/// The same, by the design alone.
+/// The answer to a question, by the design alone.
 fn answer_by_design(
     alloc: Global,
     table: &str,
@@ -93,7 +93,7 @@ fn answer_by_design(
     }
 }
 
-/// The same, by the text of the design.
+/// The answer to a question, by the text of the design: `faulty` where it has a fault.
 pub fn answer_to(
     alloc: Global,
     table: &str,

@@ -25,7 +25,7 @@ pub(crate) struct Tracked {
     pub(crate) atoms: Vec<Atom>,
 }
 
-// The same atoms once more.
+// Copies of atoms: the same levels, diagrams and lists of levels.
 pub(crate) fn copied(alloc: Global, atoms: &[Atom]) -> Result<Vec<Atom>, AllocError>
     ensures { IfOk result (λ copies. map data_of copies.items ≡ map data_of atoms.now) }
 {
@@ -37,7 +37,7 @@ pub(crate) fn copied(alloc: Global, atoms: &[Atom]) -> Result<Vec<Atom>, AllocEr
     Ok(copies)
 }
 
-// The same atom once more.
+// A copy of an atom.
 fn copy_of(alloc: Global, atom: &Atom) -> Result<Atom, AllocError>
     ensures { IfOk result (λ copy. data_of copy ≡ data_of atom.now) }
 {
