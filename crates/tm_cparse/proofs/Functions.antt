@@ -164,8 +164,8 @@ pub record IsCutAt (tokens front here : List Token) (place : ℕ) : Type 0 where
   pub front_is : take place tokens ≡ front
   pub here_is : drop place tokens ≡ here
 
-pub cut_at : (tokens front here : List Token) (place : ℕ) → tokens ≡ front ++ here → place + length here ≡ length tokens →
-    IsCutAt tokens front here place
+pub cut_at : (tokens front here : List Token) (place : ℕ) → tokens ≡ front ++ here →
+    place + length here ≡ length tokens → IsCutAt tokens front here place
 cut_at tokens front here place whole count =
     let len : length front ≡ place = omega (arith, ap length whole, length-append front here) in
     record {

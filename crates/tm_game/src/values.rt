@@ -43,8 +43,8 @@ pub(crate) fn bits_of_state(
     Ok(bits)
 }
 
-/// The numbers of a state: the values of its variables, the locations of its processes, and who moved last. The error is
-/// want of memory.
+/// The numbers of a state: the values of its variables, the locations of its processes, and who moved last. The error
+/// is want of memory.
 pub fn numbers_of(alloc: Global, state: &State) -> Result<Vec<u64>, AllocError>
     ensures { IfOk result (λ numbers. numbers.items ≡ state_numbers state.now) }
 {

@@ -98,10 +98,11 @@ module _ (d : DesignTree) where
   covered_or_not part decides = first_met_or_not (length (conditions d)) part decides
 
   -- where it is known of each state which conditions hold there, the stretch has a number of rounds
-  pub number_of_rounds : (stretch : List StateData) → AllByRecursion (IsFairOrNot d) stretch → (n : ℕ) × Rounds d n stretch
+  pub number_of_rounds : (stretch : List StateData) → AllByRecursion (IsFairOrNot d) stretch →
+      (n : ℕ) × Rounds d n stretch
   number_of_rounds stretch decides =
-      rounds_from (IsFairOrNot d) ((n : ℕ) × Rounds d n stretch) (λ part known on. on (covered_or_not part known)) [] stretch
-      tt decides covered_by_none (λ n rounds. (n, rounds))
+      rounds_from (IsFairOrNot d) ((n : ℕ) × Rounds d n stretch) (λ part known on. on (covered_or_not part known)) []
+      stretch tt decides covered_by_none (λ n rounds. (n, rounds))
 
   -- and no other one
   pub one_number : (n k : ℕ) (stretch : List StateData) → Rounds d n stretch → Rounds d k stretch → n ≡ k

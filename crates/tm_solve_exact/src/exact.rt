@@ -35,8 +35,8 @@ impl Exact {
     }
 }
 
-/// What a game tells of the sets that it keeps: a game that is of a design is as solving asks for it. It does nothing at
-/// run time but read.
+/// What a game tells of the sets that it keeps: a game that is of a design is as solving asks for it. It does nothing
+/// at run time but read.
 pub fn tell(game: &Game)
     ensures { (d : DesignTree) → IsOf d game.now → IsExactOf d game.now }
 {

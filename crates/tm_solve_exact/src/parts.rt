@@ -10,8 +10,9 @@ use std::alloc::AllocError;
 use tm_dd::NodeId;
 use tm_game::Game;
 
-/// The states from which the driver can stay in `z` and the goal holds, or it can stay in `y`, or it can stay in `x` and
-/// the fairness condition fails. The game remembers where the driver stays in `z` and in `y` while `x` alone changes.
+/// The states from which the driver can stay in `z` and the goal holds, or it can stay in `y`, or it can stay in `x`
+/// and the fairness condition fails. The game remembers where the driver stays in `z` and in `y` while `x` alone
+/// changes.
 ///
 /// Every id keeps its meaning, also where memory runs out.
 pub fn part(

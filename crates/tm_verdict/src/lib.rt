@@ -1,5 +1,5 @@
-//! What both checkers of certificates share: verdicts, where parts fail, the sets that certificates tell, and these sets
-//! as diagrams.
+//! What both checkers of certificates share: verdicts, where parts fail, the sets that certificates tell, and these
+//! sets as diagrams.
 #![tactic(auto)]
 
 mod environment;

@@ -53,8 +53,8 @@ returns-clause-first c = c.first_count.ensures ∙ c.in_ok-atoms.ensures.first
 pub returns-clause-pool : goal.returns-clause-pool
 returns-clause-pool c =
     pool_made (design_tree c.args.self.now.design.now) c.requires.markable.small c.args.terms.now
-    c.input_memory.new.terms c.atom_terms.new.terms c.bit_terms.new.terms (map atom_of (listed c.in_ok-atoms.atoms)) c.in_ok-ids.ids.items
-    c.in_ok-bits.bits.items _ c.requires.inputs c.in_ok-atoms.ensures.atoms c.in_ok-memory.ensures.grown
+    c.input_memory.new.terms c.atom_terms.new.terms c.bit_terms.new.terms (map atom_of (listed c.in_ok-atoms.atoms))
+    c.in_ok-ids.ids.items c.in_ok-bits.bits.items _ c.requires.inputs c.in_ok-atoms.ensures.atoms c.in_ok-memory.ensures.grown
     c.in_ok-ids.ensures c.in_ok-bits.ensures
     (c.in_ok-extend_from_slice.ensures.items ∙ ap (λ (l : List TermId). c.in_ok-ids.ids.items ++ l)
     c.as_slice-2.ensures.value)

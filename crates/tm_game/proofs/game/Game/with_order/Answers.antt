@@ -91,12 +91,14 @@ invariant_of-result c = record {
   );
   rises = RanksRise-Extends c.game-steps.new.dd.table c.kept_ids-ids.new.dd.table c.kept_ids-ids.ensures.earlier
       (length c.args.order.items)
-      (RanksRise-Extends c.in-Ok.given.table c.game-steps.new.dd.table c.game-steps.ensures.earlier (length c.args.order.items)
+      (RanksRise-Extends c.in-Ok.given.table c.game-steps.new.dd.table c.game-steps.ensures.earlier
+      (length c.args.order.items)
       (subst (λ (o : List ℕ). RanksRise (length o) c.in-Ok.given.table) c.deref.ensures.value
       c.in-Ok.ensures.rises));
   ready = c.kept_ids-ids.ensures.ready;
   steps = made_kept c.game-steps.new.dd.table c.kept_ids-ids.new.dd.table c.kept_ids-ids.ensures.earlier
-      (setting_of c.in-Ok-prepare.given.encoding) (flat_terms c.args.flat) c.in-Ok-steps.given c.in-Ok-steps.ensures.game;
+      (setting_of c.in-Ok-prepare.given.encoding) (flat_terms c.args.flat) c.in-Ok-steps.given
+      c.in-Ok-steps.ensures.game;
   answers = c.new.ensures c.kept_ids-ids.new.dd.table (game_of c.kept_ids-ids.new.dd.table c.in-Ok-steps.given.steps);
   kept = c.in-Ok-ids.ensures.kept;
 }
