@@ -19,7 +19,7 @@ level_set g level lo hi id below is_lo is_hi is =
     ∙ ap (λ (b : Bool). if w level then b else means g.diagrams.table lo v) (is_hi.reads v w same)
     ∙ ap (λ (b : Bool). if w level then means g.diagrams.table hi w else b) (is_lo.reads v w same))
 
--- the same, made in a game that has grown
+-- in a game that has grown, an id that chooses by one level between two sets of the old game is a set
 pub level_made : (g h : GameData) → Grows g h → (level : ℕ) (lo hi id : NodeId) → level < length g.order →
     IsSet g lo → IsSet g hi → IsFunction h.diagrams.table id
     (λ v. if v level then means h.diagrams.table hi v else means h.diagrams.table lo v) → IsSet h id

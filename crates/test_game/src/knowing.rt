@@ -67,7 +67,7 @@ fn knows_each(dd: &Manager, changes: &[(u32, NodeId)]) -> bool
     true
 }
 
-/// The same, as a step and a substitution ask for it.
+/// Whether a manager knows the functions of these changes, as a step and a substitution ask for it.
 pub fn knows_changes(dd: &Manager, changes: &[(u32, NodeId)]) -> bool
     ensures { IsTrue result → KnowsChanges dd.now.table changes.now }
 {

@@ -44,7 +44,7 @@ fn answer_by_machine(
     }
 }
 
-/// The same, by the tables of the design.
+/// The answer to the question of a row by a machine that is made of the tables of the design, at the last state.
 pub fn answer_to(
     alloc: Global,
     design: &Design,

@@ -53,7 +53,7 @@ fn answer_by_tables(
     }
 }
 
-/// The same, by tables that are made of the design.
+/// The answer to a question about a design by tables that are made of it, in a table of this name, behind a last state.
 fn answer_with_tables(
     alloc: Global,
     table: &str,
@@ -74,7 +74,8 @@ fn answer_with_tables(
     }
 }
 
-/// The same, by the design alone where that is enough.
+/// The answer to a question about a design by the design alone where that is enough, in a table of this name, behind a
+/// last state.
 fn answer_by_design(
     alloc: Global,
     table: &str,
@@ -94,7 +95,7 @@ fn answer_by_design(
     }
 }
 
-/// The same, by the text of the design.
+/// The answer to a question about a design by its text, in a table of this name, behind a last state, or `faulty`.
 fn answer_by_text(
     alloc: Global,
     table: &str,

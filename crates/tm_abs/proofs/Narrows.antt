@@ -92,7 +92,7 @@ module _ (d : DesignTree) (first m : GameData) (fm : Grows first m) (of : IsOf d
       least.here.0
       (ap (λ (o : List ℕ). means m.diagrams.table sought (assignment_of d o t)) (sym fm.order) ∙ least.here.1))
 
--- the same set
+-- what is narrowed to an id is narrowed to an equal id
 pub narrowed_same : (d : DesignTree) (first : GameData) (s : Table) (set : NodeId) (predicates : List Predicate)
     (state : StateData) (cell sought more : NodeId) → more ≡ sought →
     IsNarrowed d first s set predicates state cell sought → IsNarrowed d first s set predicates state cell more

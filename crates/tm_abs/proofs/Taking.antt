@@ -38,7 +38,7 @@ popped {X} whole old new x front pushed =
           ∙ get_or_at new x [] x (length new) refl,
     )
 
--- the same, said in another way
+-- what is eliminated stays eliminated where the levels and the relation are said in another way
 eliminated_same : (P Q : ℕ → Type 0) (R S : Assignment → Type 0) (f g : Function) → ((k : ℕ) → P k → Q k) →
     ((k : ℕ) → Q k → P k) → ((w : Assignment) → R w → S w) → ((w : Assignment) → S w → R w) →
     IsEliminated P R f g → IsEliminated Q S f g

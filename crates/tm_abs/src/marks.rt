@@ -30,7 +30,7 @@ pub(crate) fn mark_levels(
     Ok(())
 }
 
-// The same of one level.
+// Marks a level that is allowed and has no mark, and puts it to a list.
 fn mark_level(
     allowed: &[bool],
     level: u32,

@@ -144,7 +144,7 @@ module _ (d : DesignTree) (rank : Scope → ℕ) where
         Settles d rank w v (scope_of scope) (s ∷ part_stmts (Stmts slice))
     settles-held s slice left inner = settles-left d rank w u v (part scope (Stmts slice)) (s ∷ []) left inner
 
-    -- the same, where the row is a vector
+    -- a statement before a row that it holds, where the row is a vector
     pub settles-vector : (s : StmtTree) (a : Vec Stmt Global) (slice : Bor (List Stmt)) → slice.now ≡ a.items →
         Settles d rank w v (scope_of scope) (s ∷ part_stmts (Stmts slice)) →
         Settles d rank w v (scope_of scope) (s ∷ row_stmts (row_of (stmt_trees a.items)))
@@ -173,7 +173,7 @@ module _ (d : DesignTree) (rank : Scope → ℕ) where
       settles-left d rank w u x (part scope (Stmts second)) (s ∷ part_stmts (Stmts first)) left
       (settles-held u v x scope s first leave inner)
 
-  -- the same, where the rows are vectors
+  -- a statement before two rows that it holds, where the rows are vectors
   pub settles-vectors : (w x : WalkTables) (scope : SiteBody) (s : StmtTree) (a b : Vec Stmt Global)
       (first second : Bor (List Stmt)) → first.now ≡ a.items → second.now ≡ b.items →
       Settles d rank w x (scope_of scope) (s ∷ (part_stmts (Stmts first) ++ part_stmts (Stmts second))) →

@@ -18,7 +18,7 @@ pub refused_first : {A B : Type 0} (whole : Judged B) (first : Judged A) (next :
 refused_first whole first next Memory is h = tt
 refused_first whole first next (Bad fault) is h = is ∙ ap (λ j. and_then j next) h
 
--- the same fault
+-- what equals a judgement is refused with its fault
 pub refused_same : {A : Type 0} (whole other : Judged A) (e : ReadCertError)
     → whole ≡ other → IsRefusalOf other e → IsRefusalOf whole e
 refused_same whole other Memory is h = tt

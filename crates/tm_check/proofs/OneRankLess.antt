@@ -186,7 +186,7 @@ module _ (d : DesignTree) (order : List ℕ) (c : DriverSets) (goal index : ℕ)
         (λ st here before. lacks_before (within_rank ranked (1 + index) st) (within_rank ranked index st) before)
         g of sized s t left ending id left_is ending_is is
 
--- ---- the same of a certificate
+-- ---- the ranks up to one, of a certificate as its diagrams tell it
 module _ (d : DesignTree) (bs : List BlockTree) (c : DriverSets) (g : GameData) (told : DriverDiagrams)
     (is : IsTold d bs c g told) (goal index : ℕ) (ranked : List RankedSet) (are : AreRanked c goal ranked) where
   pub others_here : (h k : GameData) → Grows h k → (valid own others : NodeId) →

@@ -417,7 +417,7 @@ call_is d g r is s task widths nums fit bits parts there row are placed_so = rec
     worth : (ℕ → Bool) → List ℕ
     worth v = values_at d g.order r.goal nums v
 
-    -- the same with a part for each level of arguments
+    -- a part for each of the 64 levels of arguments
     all_parts : List (ℕ × NodeId)
     all_parts = map (placed (length g.order) bits) (range_with_len 0 64)
 

@@ -89,7 +89,7 @@ AddsRising d bs c g h goal index set id =
     IsStates d g.order g.diagrams.table (IsRisingBelow d bs c goal index) set →
     IsStates d h.order h.diagrams.table (IsRisingBelow d bs c goal (index + 1)) id
 
--- the same of the staying states
+-- where a set holds the staying states of the first ranks, an id holds those of one rank more
 abbrev pub AddsStaying : DesignTree → List BlockTree → DriverSets → GameData → GameData → ℕ → ℕ → NodeId → NodeId →
     Type 0
 AddsStaying d bs c g h goal index set id =

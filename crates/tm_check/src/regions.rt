@@ -37,7 +37,7 @@ pub(crate) fn regions(game: &mut Game, told: &DriverDiagrams) -> Result<Verdict,
     Ok(Verdict::Accepted)
 }
 
-// The same of the ranked regions of a goal.
+// C0 for one goal: each of its ranked regions lies in the region, and adds a state.
 fn goal_regions(game: &mut Game, told: &DriverDiagrams, goal: usize) -> Result<Verdict, AllocError>
     requires told { HasTold game.old told.now }
     requires goal { goal < length told.now.goals.items }
@@ -57,7 +57,7 @@ fn goal_regions(game: &mut Game, told: &DriverDiagrams, goal: usize) -> Result<V
     Ok(Verdict::Accepted)
 }
 
-// The same of a ranked region.
+// C0 for one ranked region: it lies in the region, and adds a state.
 fn ranked_region(
     game: &mut Game,
     told: &DriverDiagrams,
@@ -161,7 +161,7 @@ pub(crate) fn ranking(game: &mut Game, told: &DriverDiagrams) -> Result<Verdict,
     Ok(Verdict::Accepted)
 }
 
-// The same of a goal.
+// C2 for one goal: every state of the region has a rank for it.
 fn goal_ranking(game: &mut Game, told: &DriverDiagrams, goal: usize) -> Result<Verdict, AllocError>
     requires told { HasTold game.old told.now }
     requires goal { goal < length told.now.goals.items }

@@ -61,7 +61,8 @@ pub(crate) fn answering(
     Ok(Verdict::Accepted)
 }
 
-// The same while a goal is pending.
+// C4 for one goal: at the driver's turn in the region the answer while the goal is pending is allowed, does not err,
+// and ends in the region.
 fn goal_answering(
     alloc: Global,
     game: &mut Game,
@@ -111,7 +112,8 @@ pub(crate) fn never_rising(
     Ok(Verdict::Accepted)
 }
 
-// The same of a goal: all its ranks are joined before the least state is asked for.
+// C5 for one goal: where it fails no step of the region ends at a higher rank for it. All its ranks are joined before
+// the least state is asked for.
 fn goal_rising(
     game: &mut Game,
     told: &DriverDiagrams,
@@ -191,7 +193,8 @@ pub(crate) fn falling(
     Ok(Verdict::Accepted)
 }
 
-// The same of a goal.
+// C6 for one goal: where it fails and the rank's fairness condition holds, each step of the region ends at a lower
+// rank.
 fn goal_falling(
     game: &mut Game,
     told: &DriverDiagrams,

@@ -219,7 +219,7 @@ behind_at bs tokens rest place is some count =
     no_first [] e = refl
     no_first (t ∷ ts) e = cc
 
--- the same at slices
+-- the spots before what is left of a slice, with the tokens of what is left, are as many as all tokens
 pub count_of : (spots rest : List Spot) → length rest ≤ length spots →
     length spots - length rest + length (tokens_of rest) ≡ length (tokens_of spots)
 count_of spots rest within =

@@ -3,7 +3,7 @@ use Rattle.std.proofs.Common.{◌≡◌, List, [], ◌∷◌, ◌++◌, refl, sy
 use Rattle.tm_cir.specs.Text.Token.{Token}
 use Rattle.tm_cparse.specs.Inner.Reading.{first_of, IsBlocked, Moves}
 
--- the same tokens in front of tokens with the same first one
+-- rows of tokens that begin alike begin alike behind one front
 pub same_behind : (front a b : List Token) → first_of a ≡ first_of b → first_of (front ++ a) ≡ first_of (front ++ b)
 same_behind [] a b e = e
 same_behind (t ∷ front) a b e = refl

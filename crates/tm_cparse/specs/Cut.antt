@@ -77,7 +77,7 @@ abbrev pub MayStand : ℕ → Token → Type 0
 MayStand count (sign open_parenthesis) = count < most_open
 MayStand count _ = Unit {0}
 
--- the same of tokens in a row
+-- whether tokens in a row may all stand, where so many parentheses are open before the first
 abbrev pub MayAllStand : ℕ → List Token → Type 0
 MayAllStand count [] = Unit {0}
 MayAllStand count (t ∷ ts) = MayStand count t × MayAllStand (open_behind count t) ts

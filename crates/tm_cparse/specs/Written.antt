@@ -36,7 +36,7 @@ abbrev mutual
   TruthInRange (compare op a b) = NumInRange a × NumInRange b
   TruthInRange (join op t u) = TruthInRange t × TruthInRange u
 
--- the same of a block
+-- each shift in a block is by less than 64
 abbrev pub BlockInRange : BlockTree → Type 0
 BlockInRange (test t first second) = TruthInRange t
 BlockInRange (call k args) = All NumInRange args

@@ -53,7 +53,7 @@ pub fn read_driver(alloc: Global, design: &Design, text: &[u8]) -> Result<Blocks
     read_text(alloc, design, text)
 }
 
-/// The same, by what it answers alone.
+/// What `read_driver` answers. The contract tells what is read of a text or faulty in it, by the answer alone.
 fn read_text(alloc: Global, design: &Design, text: &[u8]) -> Result<Blocks, ReadDriverError>
     ensures read { IfOk result (λ blocks. IsDriverFile (design_tree design.now) text.now (trees_of blocks)) }
     ensures faulty { IfErr result (IsFaultOf (design_tree design.now) text.now) }

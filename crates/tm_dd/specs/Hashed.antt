@@ -14,7 +14,7 @@ mixed one two three = (((one * FACTOR % 2 ^ 64 + two) % 2 ^ 64) * FACTOR % 2 ^ 6
 abbrev pub are_same : ℕ → ℕ → ℕ → ℕ → ℕ → ℕ → Bool
 are_same a b c x y z = (a == x) && ((b == y) && (c == z))
 
--- the same three numbers are written alike
+-- three numbers are written as three others that equal them
 pub same_writes : (a b c x y z : ℕ) → IsTrue (are_same a b c x y z) → fed.u64 (mixed a b c) ≡ fed.u64 (mixed x y z)
 same_writes a b c x y z h =
     let first = and_parts (a == x) ((b == y) && (c == z)) h in

@@ -34,7 +34,8 @@ impl Manager {
         Ok(answer)
     }
 
-    /// The same. It remembers no result, so where none is asked for again it takes less.
+    /// The function `f` with the parts' functions in the places of their levels, all at once. It remembers no result,
+    /// so where none is asked for again it takes less.
     pub fn compose_once(&mut self, f: NodeId, parts: &[(u32, NodeId)]) -> Result<NodeId, AllocError>
         requires known { Knows self.old.table f }
         requires parts { (g : Id) → Contains (map (λ p. p.1) parts.now) g → Knows self.old.table g }
@@ -49,7 +50,7 @@ impl Manager {
         self.composed(f, parts)
     }
 
-    // The same, as the result of an operation.
+    // The function `f` with the parts' functions in the places of their levels, as the result of an operation.
     fn composed(&mut self, f: NodeId, parts: &[(u32, NodeId)]) -> Result<NodeId, AllocError>
         requires known { Knows self.old.table f }
         requires parts { (g : Id) → Contains (map (λ p. p.1) parts.now) g → Knows self.old.table g }

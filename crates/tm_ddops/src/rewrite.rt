@@ -92,8 +92,8 @@ impl Walks {
         self.rewrite_node(store, f, lo, hi, number, changes)
     }
 
-    // The same where the first branch became `TRUE` and the level of `f` is quantified. The other branch is not
-    // looked at.
+    // What the changes make of `f`, where the first branch became `TRUE` and the level of `f` is quantified. The other
+    // branch is not looked at.
     fn found_true(
         &mut self,
         store: &Store,
@@ -122,7 +122,7 @@ impl Walks {
         Ok(TRUE)
     }
 
-    // The same, from what became of the branches of `f`.
+    // What the changes make of `f`, from what became of its branches. It notes the visit.
     fn rewrite_node(
         &mut self,
         store: &mut Store,
@@ -157,7 +157,7 @@ impl Walks {
         Ok(answer)
     }
 
-    // The same. It notes no visit.
+    // What the changes make of `f`, from what became of its branches. It notes no visit.
     fn joined(
         &mut self,
         store: &mut Store,

@@ -188,7 +188,7 @@ either_operands : (d : DesignTree) (scope : Scope) (op : BinaryOperator) (asked 
 either_operands d scope OrElse asked a b is = refl
 either_operands d scope _ asked a b is = absurd (cc)
 
--- the same of an expression of a body
+-- what the type of an expression of a body says of its parts
 module _ (s : ScopedCells) where
   here : {ty own : Ty} {whole e : ExprTree} (h : HasTypeAt s ty whole) → HasType h.context own e → HasTypeAt s own e
   here h typed = record { context = h.context; stands = h.stands; typed = typed }

@@ -61,7 +61,8 @@ impl<'s> Updater<'s> {
         })
     }
 
-    // The same over terms that are lent: they stand in a course while it is made, and are put back whatever comes.
+    // The design as guarded updates, over terms that are lent: they stand in a course while it is made, and are put
+    // back whatever comes.
     fn updates_over(&self, alloc: Global, terms: &mut Terms) -> Result<Flat, AllocError>
         requires design { MayUpdate self.now }
         requires terms { AreOver self.now.design.now terms.old }
@@ -80,7 +81,7 @@ impl<'s> Updater<'s> {
     }
 }
 
-// The same, by the tables of a design.
+// A design as guarded updates, by its tables, its cells and the locations of its processes.
 fn flatten_in(
     alloc: Global,
     tables: &Tables<'_>,
@@ -99,7 +100,7 @@ fn flatten_in(
     updater.updates_over(alloc, terms)
 }
 
-// The same, by the tables of its text.
+// A design as guarded updates, by the tables of its text.
 fn flatten_by(alloc: Global, tables: &Tables<'_>, terms: &mut Terms) -> Result<Flat, AllocError>
     requires runnable { IsRunnable tables.now }
     requires terms { AreOver tables.now terms.old }

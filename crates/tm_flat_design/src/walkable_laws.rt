@@ -18,8 +18,8 @@ pub fn sound_designs_of_texts_are_walkable()
         (p first : ℕ) → AreLocations l (design_tree d) p → AreWalkable (walk_tables d l first) }
 {}
 
-/// Work items that fit into a room from a position on in one design fit into it in each design of the same text with
-/// the same instances and variables.
+/// Work items that fit into a room from a position on in one design fit into it in each design with its text, its
+/// instances and its variables.
 pub fn designs_of_one_text_fit_alike()
     ensures { (d e : DesignTree) → d.spec ≡ e.spec → d.instances ≡ e.instances → d.vars ≡ e.vars → (room : ℕ)
         (items : List WorkItem) (k : ℕ) → ItemsFit room d items k → ItemsFit room e items k }

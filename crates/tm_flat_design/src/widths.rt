@@ -15,7 +15,7 @@ use tm_plain::{Tables, locate};
 use tm_scope::Cells;
 use tm_syntax::design::Design;
 
-// The same, by the tables of a design.
+// The widths of the inputs of a design's terms, by its tables, its cells and the locations of its processes.
 fn inputs_in(
     alloc: Global,
     tables: &Tables<'_>,
@@ -34,7 +34,7 @@ fn inputs_in(
     Ok(widths)
 }
 
-// The same, by the tables of its text.
+// The widths of the inputs of a design's terms, by the tables of its text.
 fn inputs_by(alloc: Global, tables: &Tables<'_>) -> Result<Vec<u8>, AllocError>
     requires { IsRunnable tables.now }
     ensures { IfOk result (λ widths. widths.items ≡ input_widths (design_tree tables.now)) }

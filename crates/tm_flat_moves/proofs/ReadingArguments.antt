@@ -129,7 +129,7 @@ module _ (x : CellTables) (d : DesignTree) (at : SiteBody) (cell : CellNumber) (
           number.value u (Extends-trans l n u narrow.grown more) v are
           ∙ ap (number_at (argument_bits d v) k) width_is
 
-  -- the same, by what is told of the bits and values of its type
+  -- the argument of one parameter, by what is told of the bits and values of its type
   pub reads_by : (spec : SpecTree) → spec ≡ spec_tree x.spec → (first width size : ℕ) → first ≡ first_choice d + room →
       width ≡ type_bits spec ty → size ≡ type_size spec ty → (t l n : Table) (f h g : FlowTerms) (id : TermId) →
       IsFlow x t f → Makes t l width id (λ u v. number_at (choice_bit first v) k width) →

@@ -39,7 +39,7 @@ fn holds_by(
     Ok(found.value)
 }
 
-// The same by the reader that was found.
+// The term of a truth, by the reader that was found for its body.
 fn holds_found(
     found: &Option<TermReader<'_>>,
     terms: &mut Terms,

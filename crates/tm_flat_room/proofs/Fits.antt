@@ -37,7 +37,7 @@ module _ (d : DesignTree) (scope : Scope) (c : Context) (after : Called → ℕ 
   IsFine (choose _ blocks) = (1 ≤ length (blocks_of blocks)) × ChoiceFits blocks
   IsFine _ = Unit {0}
 
-  -- the same of statements
+  -- what is asked of each of some statements itself
   abbrev pub AreFine : List StmtTree → Type 0
   AreFine ss = AllByRecursion IsFine ss
 

@@ -57,7 +57,7 @@ pub one_more : {X : Type 0} (f : ℕ → X) (n : ℕ) (xs more : List X) (x : X)
 one_more f n xs more x listed is pushed =
     pushed ∙ (λ i. listed i ++ is i ∷ []) ∙ sym (map-range_with_len_more f 0 n n (omega arith))
 
--- the same of lists that are themselves listed
+-- one more of the lists that are listed by number
 pub more_lists : {X : Type 0} (f : ℕ → List X) (n : ℕ) (xs more : List (Vec X Global)) (x : Vec X Global) →
     map (λ (l : Vec X Global). l.items) xs ≡ map f (range_with_len 0 n) → x.items ≡ f n → more ≡ xs ++ x ∷ [] →
     map (λ (l : Vec X Global). l.items) more ≡ map f (range_with_len 0 (n + 1))

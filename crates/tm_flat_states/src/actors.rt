@@ -37,7 +37,7 @@ fn magic_truth(locations: &Locations<'_>, place: usize, always: TermId) -> Optio
     None
 }
 
-// The same for each location of a process, its start and its end included.
+// For each location of a process, its start and its end included, a truth where it is a magic block.
 fn magic_truths(
     alloc: Global,
     locations: &Locations<'_>,
@@ -67,7 +67,7 @@ fn legal_truth(locations: &Locations<'_>, steps: &[FlatStep], place: usize) -> O
     }
 }
 
-// The same for each location of a process, by its steps.
+// For each location of a process, by its steps, whether the step from it has an outcome, where it is no magic block.
 fn legal_truths(
     alloc: Global,
     locations: &Locations<'_>,

@@ -38,7 +38,7 @@ fn condition_by(
     Ok(found.value)
 }
 
-// The same by the reader that was found.
+// The term of a condition, by the reader that was found for what stands outside of all bodies of an instance.
 fn condition_found(
     found: &Option<TermReader<'_>>,
     terms: &mut Terms,

@@ -104,7 +104,7 @@ grows_so a dd recent e = record {
   turn = refl;
 }
 
--- the same, where contracts see it as other data
+-- what contracts see of a game as other data grows with its diagrams
 pub grows_from : (a : Inside) (g : GameData) → game_data a ≡ g → (dd : Diagrams) (recent : Recent) →
     Extends a.dd.table dd.table → Grows g (game_data (record a { dd = dd; recent = recent }))
 grows_from a g same dd recent e =

@@ -230,7 +230,7 @@ grows_terms a t e = record {
   turn = refl;
 }
 
--- the same, where contracts see it as other data
+-- what contracts see of a game as other data grows with its terms
 pub grows_terms_from : (a : Inside) (g : GameData) → game_data a ≡ g → (t : Terms) → Extends a.encoding.terms t →
     Grows g (game_data (record a { encoding = record a.encoding { terms = t } }))
 grows_terms_from a g same t e =

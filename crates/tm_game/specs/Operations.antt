@@ -39,8 +39,8 @@ pub record RemembersResult (operation : Operation) (old new : Diagrams) (answer 
   pub remembered : IfOk answer (Remembers new operation)
   pub answers : AnswersAgain operation old new answer
 
--- the same of an operation on two functions, which remembers the result of two inner nodes, and makes at most one node
--- for each pair of their inner nodes
+-- the result of an operation on two functions is remembered where both are inner nodes, and one that was remembered is
+-- answered again; at most one node is made for each pair of their inner nodes
 pub record RemembersPair (operation : Operation) (f g : NodeId) (old new : Diagrams) (answer : Answer) : Type 0 where
   pub remembered : AreTwoNodes f g → IfOk answer (Remembers new operation)
   pub answers : AnswersAgain operation old new answer

@@ -35,7 +35,7 @@ impl Game {
         }
     }
 
-    // The same of the move to idle.
+    // Whether the move to idle is one of the driver's that is allowed at a valid state.
     fn idle_allowed(&mut self, state: &State) -> Result<bool, AllocError>
         ensures grows { Grows self.old self.new }
         ensures answer { IfOk result (λ yes. (d : DesignTree) → IsOf d self.old → IsState d state.now
@@ -46,7 +46,7 @@ impl Game {
         Ok(self.dd.store().eval(permitted, &values))
     }
 
-    // The same of leaving the magic block at which a process stands.
+    // Whether leaving the magic block at which a process stands is a move that is allowed at a valid state.
     fn leave_allowed(&mut self, state: &State, process: u32) -> Result<bool, AllocError>
         ensures grows { Grows self.old self.new }
         ensures answer { IfOk result (λ yes. (d : DesignTree) → IsOf d self.old → IsState d state.now
@@ -58,7 +58,7 @@ impl Game {
         Ok(self.dd.store().eval(permitted, &values))
     }
 
-    // The same of a call.
+    // Whether a call is a move that is allowed at a valid state.
     fn call_allowed(
         &mut self,
         state: &State,

@@ -53,7 +53,7 @@ lists_all choices value terms = record {
         let both : v ≡ w = λ i k. agree k (λ there. there) i in
         ap (λ (u : Assignment). value u id) both
 
--- the same choices are listed where the values of the terms are the same
+-- choices stay listed where the values of the terms stay
 pub lists_same : (choices listed : List ℕ) (old new : Assignment → TermId → ℕ) (terms : StepTerms) →
     ((v : Assignment) → new v terms.legal ≡ old v terms.legal) →
     ((v : Assignment) → new v terms.error ≡ old v terms.error) →

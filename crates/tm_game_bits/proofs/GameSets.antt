@@ -270,7 +270,7 @@ stays_is s t u w x a b c e g known set calm acts settled id set_known in_t in_u 
       | inr none ↦ inl (means-complement s g.turn v ∙ ap not none)
     ]
 
--- the same, of the game as it is after the call
+-- where the driver stays in a set, told by the game as it is after the call
 pub stays_again : (s t : Table) → Extends s t → (g : GameDiagrams) → KnowsGame s g → (set id : NodeId) → Knows s set →
     IsSetOf t (Stays (game_of s g) (means s set)) id → IsSetOf t (Stays (game_of t g) (means t set)) id
 stays_again s t a g known set id set_known is =

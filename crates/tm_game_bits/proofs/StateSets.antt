@@ -92,7 +92,7 @@ module _ (count : ℕ) (step : StepFunctions) (over : IsStepOver count step) (a 
       reads (after step.next v) (after step.next w) (λ k below. after-same step.next v w
       (λ n d inside. over.next n d inside v w one.state one.choices one.arguments) k (one.state k below))
 
-  -- the same choices, from another assignment of the state
+  -- choices at one assignment, made at another one of the same state
   module _ (v w : Assignment) (state : AreOneState count v w) (arguments : AgreeOn step.arguments v w) where
     chosen-here : (u : Assignment) → WithChoices step v (mixed step.choices v u)
     chosen-here u = λ k h. mixed-out step.choices v u k h

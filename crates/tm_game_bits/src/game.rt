@@ -110,7 +110,8 @@ impl GameDiagrams {
         Ok(kept)
     }
 
-    // The same: the remembered answer, or a new one, which is not remembered.
+    // The valid states from which the driver stays in the set: the remembered answer, or a new one, which is not
+    // remembered.
     fn recalled(&self, dd: &mut Manager, recent: &Recent, set: NodeId) -> Result<NodeId, AllocError>
         requires game { KnowsGame dd.old.table self.now }
         requires recent { AreAnswers dd.old.table (game_of dd.old.table self.now) recent.now }
@@ -126,7 +127,7 @@ impl GameDiagrams {
         self.stays(dd, set)
     }
 
-    // The same, without the remembered answers.
+    // The valid states from which the driver stays in the set, without the remembered answers.
     fn stays(&self, dd: &mut Manager, set: NodeId) -> Result<NodeId, AllocError>
         requires game { KnowsGame dd.old.table self.now }
         requires set { Knows dd.old.table set }

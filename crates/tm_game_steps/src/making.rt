@@ -66,7 +66,7 @@ impl Encoding {
         game
     }
 
-    // The same, where it is known how high the levels stand that terms read.
+    // The game whose steps are those of guarded updates, where it is known how high the levels stand that terms read.
     fn steps(
         &self,
         flat: &Flat,

@@ -100,7 +100,7 @@ pub(crate) fn above_step(step: &FlatStep, reads: &[u64]) -> u64
     greater(truths, above_terms(&step.next, reads))
 }
 
-// The same of some terms.
+// A number above all levels that some terms read, where `reads` has one for each term.
 fn above_terms(ids: &[TermId], reads: &[u64]) -> u64
     requires { All (λ (id : Id). id.0 < length reads.now) ids.now }
     ensures { All (λ (id : Id). slice_index reads.now id.0 ≤ result) ids.now }

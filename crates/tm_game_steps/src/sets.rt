@@ -38,7 +38,8 @@ impl Encoding {
         Ok(both)
     }
 
-    /// The same of each of some terms.
+    /// Where a diagram is true and a term is 1, for each of some terms. Every id keeps its meaning, also where memory
+    /// runs out.
     pub fn sets(
         &self,
         valid: NodeId,
@@ -87,7 +88,8 @@ impl Encoding {
         Ok(both)
     }
 
-    /// The same of each of some terms.
+    /// Where a diagram is true and a term is 1 for all choices, for each of some terms. Every id keeps its meaning,
+    /// also where memory runs out.
     pub fn always_sets(
         &self,
         valid: NodeId,

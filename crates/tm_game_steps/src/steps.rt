@@ -131,7 +131,8 @@ impl Encoding {
         Ok(())
     }
 
-    // The same, where the place is of one sort; the step of another place is left out.
+    // Puts the step of a process from a place of one sort behind others, and the process behind theirs; the step of a
+    // place of the other sort is left out.
     fn push_place(
         &self,
         flat: &Flat,

@@ -70,7 +70,7 @@ fn parts_of(alloc: Global, spec: &Spec) -> Result<Parts, FrontError>
     parts
 }
 
-// The same, by the scopes of the specification.
+// What the design of a specification lists, by its scopes.
 fn parts_in(alloc: Global, scopes: &Scopes) -> Result<Parts, FrontError>
     requires typed { IsTyped (spec_tree scopes.now) }
     requires short { IsOfShortText (spec_tree scopes.now) }
@@ -85,7 +85,7 @@ fn parts_in(alloc: Global, scopes: &Scopes) -> Result<Parts, FrontError>
     }
 }
 
-// The same, given an order of its templates, of which none holds itself.
+// What the design of a specification lists, given an order of its templates, of which none holds itself.
 fn ordered_parts(
     alloc: Global,
     scopes: &Scopes,
@@ -105,7 +105,8 @@ fn ordered_parts(
     }
 }
 
-// The same, given an order of its tasks as well, where each limit that is counted over the text is kept.
+// What the design of a specification lists, given an order of its templates and one of its tasks, where each limit that
+// is counted over the text is kept.
 fn counted_parts(
     alloc: Global,
     scopes: &Scopes,

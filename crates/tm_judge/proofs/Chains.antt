@@ -19,7 +19,7 @@ module _ {A : Type 0} (size : A → ℕ) (xs : List A) where
       ap (greatest size) (drop_more xs i x below) in
       omega (arith, rest, ap size here, is, so_far)
 
--- the same of things that are seen otherwise
+-- the greatest size of things as they are seen, taken over the things themselves
 pub greatest_seen : {A B : Type 0} (see : A → B) (size : B → ℕ) (xs : List A) →
     greatest size (map see xs) ≡ greatest (λ x. size (see x)) xs
 greatest_seen see size [] = refl

@@ -26,7 +26,7 @@ flat_shape f wanted = record {
   wanted = wanted;
 }
 
--- the same by the plain meaning of the design
+-- what a certificate of a wanted kind has to fit, by the plain meaning of the design
 abbrev pub design_shape : DesignTree → Kind → CertShape
 design_shape d wanted = record {
   bits = sum (state_widths d);

@@ -11,7 +11,7 @@ use tm_cert::{CertShape, Kind};
 use tm_plain::{Tables, locate};
 use tm_syntax::design::Design;
 
-// The same, by the tables of a design.
+// The numbers of a design that its certificates of a wanted kind speak of, by its tables.
 fn shape_by_tables(alloc: Global, tables: &Tables, wanted: Kind) -> Result<CertShape, AllocError>
     requires { IsSound (design_tree tables.now) }
     ensures { IfOk result (λ shape. shape ≡ shape_of (design_tree tables.now) wanted) }

@@ -77,7 +77,7 @@ fn place_fields(alloc: Global, tables: &[Locations<'_>]) -> Result<Vec<Field>, A
     Ok(all)
 }
 
-// The same of a design, by its tables.
+// The numbers of the states of a design, with the greatest value of each, by its tables and its locations.
 fn fields_in(
     alloc: Global,
     tables: &Tables<'_>,
@@ -96,7 +96,7 @@ fn fields_in(
     Ok(all)
 }
 
-// The same, by the tables of its text.
+// The numbers of the states of a design, with the greatest value of each, by the tables of its text.
 fn fields_by(alloc: Global, tables: &Tables<'_>) -> Result<Vec<Field>, AllocError>
     requires { IsRunnable tables.now }
     ensures { IfOk result (λ all. AreFields (design_tree tables.now) all.items) }

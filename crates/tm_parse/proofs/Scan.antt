@@ -55,7 +55,7 @@ settle k [] h = state [] h
 settle k (joined s l g ∷ w) h = if nat_lt s k then state (joined s l g ∷ w) h else settle k w (max g h + 1)
 settle k (x ∷ w) h = state (x ∷ w) h
 
--- the same, of all that is known
+-- what is known where operators that bind at least so strongly have their right operands
 abbrev pub settled : ℕ → State → State
 settled k s = settle k s.waiting s.height
 

@@ -33,7 +33,7 @@ pub record Rest (May : List Token → ℕ → Type 0) (tokens : List Token) (w :
   pub height : ℕ
   pub here : Here May tokens (state w height) a
 
--- the same, where an expression may still wait for what goes on with it
+-- the scan has come to these tokens, and this waits, where an expression may still wait for what goes on with it
 pub record Ends (May : List Token → ℕ → Type 0) (tokens : List Token) (w : List Waiting) (a : List Token) :
     Type 0 where
   pub last : State
@@ -41,7 +41,7 @@ pub record Ends (May : List Token → ℕ → Type 0) (tokens : List Token) (w :
   pub here : Here May tokens last a
   pub ends : settled 0 last ≡ state w height
 
--- the same, where an `else if` may still wait
+-- the scan has come to these tokens, and this waits, where an `else if` may still wait
 pub record Calm (May : List Token → ℕ → Type 0) (tokens : List Token) (w : List Waiting) (a : List Token) :
     Type 0 where
   pub waiting : List Waiting

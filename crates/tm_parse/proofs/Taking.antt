@@ -15,7 +15,7 @@ same_kind [] (u ∷ b) e = absurd (cc)
 same_kind (t ∷ a) [] e = absurd (cc)
 same_kind (t ∷ a) (u ∷ b) e = let same : t ≡ u = cc in ap (λ (v : Token). Some v.kind) same
 
--- the same tokens in front of tokens with the same first one
+-- rows of tokens that begin alike begin alike behind one front
 pub same_behind : (front a b : List Token) → first_of a ≡ first_of b → first_of (front ++ a) ≡ first_of (front ++ b)
 same_behind [] a b e = e
 same_behind (t ∷ front) a b e = refl
@@ -206,7 +206,7 @@ both_word {Is} v o = record {
       );
 }
 
--- the same where the first part ends with a token of its own
+-- two parts were read, where the first one ends with a token of its own
 pub takes_then : {X Y : Type 0} {Is : Reach → X → List Token → List Token → Type 0}
     {Or : X → Reach → Y → List Token → List Token → Type 0} {Stops : Option TokenKind → Type 0} {x : X} {y : Y}
     {a b c : List Token} → Takes Is Nothing x a b → Takes (Or x) Stops y b c → Takes (Both Is Or) Stops (x, y) a c

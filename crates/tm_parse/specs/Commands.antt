@@ -108,7 +108,7 @@ mutual
         IsOpening (token.Word word.If) depth reach p a b → IsIfFrom text reach (depth + 1) s b c →
         IsElseFrom text reach depth (then s nothing) a c
 
--- the same three, as forms
+-- what stands behind the word `if`, as a form
 abbrev pub AnIfFrom : List ℕ → ℕ → Reach → StmtTree → List Token → List Token → Type 0
 AnIfFrom text depth reach s a b = IsIfFrom text reach depth s a b
 
@@ -180,7 +180,7 @@ pub data IsSorted (text : List ℕ) (depth : ℕ) (reach : Reach) :
   is_magic : {p : Place} {a b : List Token} → IsShort (token.Sign sign.Ellipsis) reach p a b →
       IsSorted text depth reach (sort.Flat flat.Magic) (magic p) a b
 
--- the same, as a form
+-- a statement of a sort, as a form
 abbrev pub AStmtOf : List ℕ → ℕ → StmtSort → Reach → StmtTree → List Token → List Token → Type 0
 AStmtOf text depth k reach s a b = IsSorted text depth reach k s a b
 

@@ -101,7 +101,7 @@ pub data IsDeclared (text : List ℕ) (reach : Reach) : DeclSort → DeclTree �
   is_procedure : {d : TaskTree} {a b : List Token} → IsProcedure text 0 reach d a b →
       IsDeclared text reach sort.Procedure (a_task d) a b
 
--- the same, as a form
+-- a declaration of a sort, as a form
 abbrev pub ADeclOf : List ℕ → DeclSort → Reach → DeclTree → List Token → List Token → Type 0
 ADeclOf text k reach d a b = IsDeclared text reach k d a b
 

@@ -101,7 +101,7 @@ pub data IsTail (text : List ℕ) (least depth : ℕ) (reach : Reach) :
       IsBound reach a (height l + 1) → IsJoined text depth reach l at op e b c →
       IsTail text least depth reach (infix_strength op) e f c d → IsTail text least depth reach most l f a d
 
--- the same, as a form
+-- what operators join to an operand, as a form
 abbrev pub ATail : List ℕ → ℕ → ℕ → ExprTree → Reach → ExprTree → List Token → List Token → Type 0
 ATail text least depth left reach e a b = IsTail text least depth reach 9 left e a b
 

@@ -106,7 +106,7 @@ module _ (d : Design) (at : SiteBody) where
       (r : Result A Halt) → DoesRow f.reader ss from to r → DoesRow (body_of d at) ss from to r
   done_there f frame ss from to r does = subst (λ s. DoesRow s ss from to r) frame.reader does
 
-  -- the same of statements that are those of a node's work
+  -- statements that are those of a node's work fit the frame, and what its reader does with them is done in the body
   module _ (f : Frame) (frame : IsFrame d at f) (ss ts : List StmtTree) (same : ss ≡ ts) where
     pub work_fits : (e : Design) → e ≡ d → (ss ≡ [] → ⊥) → StmtsStand tree (scope_of at) ss → RowFits e f ts
     work_fits e own filled stand =

@@ -28,26 +28,29 @@ use Rattle.tm_plain_bodies.specs.Tables.{body_of, tables_of}
 use Rattle.tm_states.specs.Promised.{IsPromised}
 use Rattle.tm_plain_bodies.specs.Runs.{BlocksAt, RowAt, StmtAt}
 
--- a statement, a row, blocks or a body of a design that may be done: the text promises of it what it has to, and its
--- calls nest no deeper than the frame lets them
+-- a statement of a design that may be done: the text promises of it what it has to, and its calls nest no deeper than
+-- the frame lets them
 pub record StmtFits (d : Design) (f : Frame) (s : StmtTree) : Type 0 where
   pub tables : f.reader.tables ≡ tables_of d
   pub promised : StmtAt f.reader s
   pub nested : NestsWithin f.depth (design_tree d) (scope_of f.reader.at) (stmt_calls s)
 
--- the same of the statements of a row
+-- the statements of a row of a design that may be done: the text promises of them what it has to, and their calls nest
+-- no deeper than the frame lets them
 pub record RowFits (d : Design) (f : Frame) (ss : List StmtTree) : Type 0 where
   pub tables : f.reader.tables ≡ tables_of d
   pub promised : RowAt f.reader ss
   pub nested : NestsWithin f.depth (design_tree d) (scope_of f.reader.at) (row_calls (row_of ss))
 
--- the same of blocks
+-- blocks of a design that may be done: the text promises of them what it has to, and their calls nest no deeper than
+-- the frame lets them
 pub record BlocksFit (d : Design) (f : Frame) (bs : List StmtRow) : Type 0 where
   pub tables : f.reader.tables ≡ tables_of d
   pub promised : BlocksAt f.reader bs
   pub nested : NestsWithin f.depth (design_tree d) (scope_of f.reader.at) (block_calls (alternatives_of bs))
 
--- the same of a body
+-- a body of a design that may be done: the text promises of its statements what it has to, and its calls nest no deeper
+-- than the frame lets them
 pub record BodyFits (d : Design) (f : Frame) (body : BodyTree) : Type 0 where
   pub tables : f.reader.tables ≡ tables_of d
   pub context : Context
@@ -55,11 +58,11 @@ pub record BodyFits (d : Design) (f : Frame) (body : BodyTree) : Type 0 where
   pub promised : AllByRecursion (IsPromised context) (stmts_in body)
   pub nested : NestsWithin f.depth (design_tree d) (scope_of f.reader.at) (body_calls body)
 
--- the declarations of locals, as the assignments that they are
+-- the declaration of a local, as the assignment that it is
 abbrev pub local_stmt : LocalTree → StmtTree
 local_stmt l = assign (l.name ∷ []) None l.value
 
--- the same of several
+-- the declarations of several locals, as the assignments that they are
 abbrev pub local_stmts : List LocalTree → List StmtTree
 local_stmts ls = map local_stmt ls
 

@@ -82,36 +82,36 @@ item_of s trail stmt = perform (scope_of s.at) trail stmt ∷ []
 abbrev pub behind : List Place → Course → Course
 behind calls c = record c { trail = c.trail ++ calls }
 
--- a machine does a statement, a row or a body, whatever calls have led to where its trail begins
+-- a machine does a statement, whatever calls have led to where its trail begins
 abbrev pub DoesStmt : {A : Type 0} → ScopedCells → StmtTree → Course → Course → Result A Halt → Type 0
 DoesStmt s stmt from to r =
     (calls : List Place) → Does s.tables (item_of s (from.trail ++ calls) stmt) (behind calls from) (behind calls to) r
 
--- the same of a row
+-- a machine does a row, whatever calls have led to where its trail begins
 abbrev pub DoesRow : {A : Type 0} → ScopedCells → List StmtTree → Course → Course → Result A Halt → Type 0
 DoesRow s stmts from to r =
     (calls : List Place) →
     Does s.tables (items_of s (from.trail ++ calls) stmts) (behind calls from) (behind calls to) r
 
--- the same of a body, which a trail has reached
+-- a machine does a body that a trail has reached, whatever calls have led to where the trail begins
 abbrev pub DoesBody : {A : Type 0} → ScopedCells → List Place → BodyTree → Course → Course → Result A Halt → Type 0
 DoesBody s trail body from to r =
     (calls : List Place) →
     Does s.tables (body_work s (trail ++ calls) body) (behind calls from) (behind calls to) r
 
--- a statement of a body of an instance is promised with all that stand within it, and so is a row or blocks
+-- a statement of a body of an instance is promised with all that stand within it
 pub record StmtAt (s : ScopedCells) (stmt : StmtTree) : Type 0 where
   pub context : Context
   pub stands : context_at s ≡ Some context
   pub promised : StmtIsPromised context stmt
 
--- the same of a row
+-- a row of a body of an instance is promised with all that stand within it
 pub record RowAt (s : ScopedCells) (stmts : List StmtTree) : Type 0 where
   pub context : Context
   pub stands : context_at s ≡ Some context
   pub promised : RowIsPromised context (row_of stmts)
 
--- the same of blocks
+-- blocks of a body of an instance are promised with all that stand within them
 pub record BlocksAt (s : ScopedCells) (blocks : List StmtRow) : Type 0 where
   pub context : Context
   pub stands : context_at s ≡ Some context
@@ -121,11 +121,11 @@ pub record BlocksAt (s : ScopedCells) (blocks : List StmtRow) : Type 0 where
 abbrev pub crossing : Context → List Ident → Bool
 crossing c names = call_crosses c.spec c.template names
 
--- a statement is not sure to cross, nor are those of a row: what a run gets through is neither
+-- a statement is not sure to cross, as none that a run gets through is
 abbrev pub StmtMayPass : ScopedCells → StmtTree → Type 0
 StmtMayPass s stmt = (c : Context) → context_at s ≡ Some c → stmt_crosses (crossing c) stmt ≡ false
 
--- the same of a row
+-- a row is not sure to cross, as no row that a run gets through is
 abbrev pub RowMayPass : ScopedCells → List StmtTree → Type 0
 RowMayPass s stmts = (c : Context) → context_at s ≡ Some c → row_crosses (crossing c) (row_of stmts) ≡ false
 

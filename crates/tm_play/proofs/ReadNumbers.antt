@@ -51,7 +51,7 @@ digits_some n d m ds some =
     m some
     ∙ ap (λ k. digits_after k ds) (guard_value _ (n * 10 + (d - 48)) m some)
 
--- the same at a place of a text
+-- what is no number with the byte at a place of a text is none with all bytes from that place on
 pub digits_none_at : (field : List ℕ) (i n d : ℕ) → i < length field → d ≡ get_or field i 0 →
     digits_after n (d ∷ []) ≡ None → digits_after n (drop i field) ≡ None
 digits_none_at field i n d within is none =

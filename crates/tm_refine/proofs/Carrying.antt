@@ -93,7 +93,7 @@ not_both : (b : Bool) → b ≡ true → not b ≡ true → ⊥
 not_both true e f = cc
 not_both false e f = cc
 
--- the same tests
+-- tests are as fine as themselves
 one_test : (ps : List StateSet) (g : Game) (s t : StateData) → IsAmong s g.states → IsAmong t g.states →
     alike ps s t ≡ true → alike ps s t ≡ true
 one_test ps g s t in_s in_t like = like

@@ -231,7 +231,7 @@ module _ (d : DesignTree) (first : ℕ) (added : List Added) (upper : Bool) (oth
 pub of_nothing : {X : Type 0} (o : Option X) (P : Type 0) (Q : X → Type 0) → MatchOption o P Q → o ≡ None → P
 of_nothing o P Q m e = subst (λ (p : Option _). MatchOption p P Q) e m
 
--- the same side
+-- where no sets are one of the other side, none are where the side is said in another way
 pub other_at : (d : DesignTree) (u v : Bool) → v ≡ u → NoOther d u → NoOther d v
 other_at d u v same other = subst (λ (w : Bool). NoOther d w) (sym same) other
 

@@ -70,7 +70,7 @@ parted_of_cut d predicates a s t cut = record {
   two = λ e. true_false (a t) (subst (λ (x : StateData). a x ≡ true) e cut.inside_it) cut.out_of_it;
 }
 
--- the same where the tracked numbers were copied
+-- two states of a cell are apart where the tracked numbers were copied, too
 module _ (d : DesignTree) (ks js : List ℕ) (same : ks ≡ js) where
   pub cut_parted : (a : StateSet) (s t : StateData) → IsCut d (predicates_at (pool d) ks) a s t →
       IsParted d (predicates_at (pool d) js) s t

@@ -117,7 +117,7 @@ module _ (ks js : List ℕ) (same : ks ≡ js) (T : List ℕ → List StateSet) 
       InRegion (lower_game (T js) g) s → b.means id s ≡ true
   start_above mono holds s among r = part_is.same s among ∙ lower_start (T js) g mono region holds s among r
 
-  -- the same after a call that leaves the game and the tests
+  -- the start stays one over a call that leaves the game and the tests
   module _ (T' : List ℕ → List StateSet) (g' : Game) (tests : T' ≡ T) (game : g' ≡ g) where
     pub union_there : IsUnionOf g'.states (T' js) (b.means id)
     union_there =

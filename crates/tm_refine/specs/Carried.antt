@@ -33,7 +33,7 @@ union_ids d predicates ids = record {
 abbrev pub IsCarried : DesignTree → List Predicate → Game → Ids → Iterates → Type 0
 IsCarried d predicates g ids it = IsBegun (upper_game (own_tests d predicates) g) (union_ids d predicates ids) it
 
--- the same over each prefix of the additions that is not shorter than this
+-- iterates from which a solution of the upper side may go on over each prefix of the additions not shorter than this
 pub record AreCarried (d : DesignTree) (first : ℕ) (added : List Added) (g : Game) (ids : Ids) (low : ℕ)
     (it : Iterates) : Type 0 where
   pub each : (m : ℕ) → low ≤ m → IsCarried d (tracked_at d first added m) g ids it

@@ -27,7 +27,7 @@ abbrev pub AreParts : GameData → Memory → Type 0
 AreParts g m =
     (c : Cells) → m.cells ≡ Some c → AreCells g c × ArePartsOver g c.tracked.items m.upper m.parts
 
--- the same, as a fact
+-- the cells and the parts of a memory are those of the game, as a fact
 abbrev pub Remembers : GameData → Memory → Type 0
 Remembers g m = ∥ AreParts g m ∥₁
 

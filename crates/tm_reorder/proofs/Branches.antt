@@ -65,7 +65,7 @@ keeps_then one two three first then_second = record {
       then_second.same id (omega (arith, below, first.rises)) v ∙ first.same id below v;
 }
 
--- the same value under each test
+-- branches with equal values have one value under each test
 same_branch : (b : Bool) {x y z w : Bool} → x ≡ z → y ≡ w → (if b then x else y) ≡ (if b then z else w)
 same_branch true one other = one
 same_branch false one other = other

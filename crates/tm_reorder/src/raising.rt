@@ -157,7 +157,7 @@ fn all_joined(
     Ok(joined)
 }
 
-// The same sets, with a level raised above all that have a greater rank.
+// The sets of these ids, with a level raised above all that have a greater rank.
 fn raised(
     alloc: Global,
     entries: &[Entry],
@@ -188,8 +188,8 @@ fn is_read(entries: &[Entry], level: u32) -> bool {
     false
 }
 
-// The same sets, with the levels raised one after the other, each among those above it, until they stand in the order
-// of their ranks.
+// The sets of these ids, with the levels raised one after the other, each among those above it, until they stand in the
+// order of their ranks.
 pub(crate) fn all_raised(
     alloc: Global,
     entries: &[Entry],

@@ -51,7 +51,7 @@ are_same one other =
     && (pointwise nat_eq one.name.now other.name.now
     && option_eq (λ a b. pointwise nat_eq a.now b.now) one.last other.last)
 
--- the same last part behind a name
+-- equal last parts behind a name make one path
 with_same_last : (name : List ℕ) (one other : Option (Bor (List ℕ))) →
     IsTrue (option_eq (λ a b. pointwise nat_eq a.now b.now) one other) → with_last name one ≡ with_last name other
 with_same_last name None None same = refl
@@ -59,7 +59,7 @@ with_same_last name None (Some b) same = absurd (true≢false (sym same))
 with_same_last name (Some a) None same = absurd (true≢false (sym same))
 with_same_last name (Some a) (Some b) same = ap (λ l. name ++ 46 ∷ l) ((bytes_decides a.now b.now).0 same)
 
--- the same parts have one hash
+-- paths with equal parts have one hash
 pub same_parts_hash : (one other : VariablePath) → IsTrue (are_same one other) → parts_hash one ≡ parts_hash other
 same_parts_hash one other same =
     let first = and_parts _ _ same in

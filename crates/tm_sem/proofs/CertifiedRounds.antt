@@ -78,7 +78,7 @@ module _ (d : DesignTree) (answers : StateData → ℕ → Move → Type 0) (c :
       made_of true is = inr (subst (λ h. answers s h e.move) waits.0 (answered.0 is))
       made_of false is = inl is
 
-  -- the same of a stretch anywhere in the play
+  -- the states of a stretch that waits, anywhere in the play, and then a stutter
   within : (g : ℕ) (s : StateData) (entries : List Entry) (before : List StateData) (x : StateData)
       (xs after : List StateData) → g < length d.goals → IsIn d c.region s → StepsAlong d s entries →
       AreAnswered d answers g s entries →

@@ -17,7 +17,7 @@ module _ (d : DesignTree) (rank : StateData → ℕ) (lowers : StateData → Typ
   Falls s [] = Unit {0}
   Falls s (t ∷ ts) = Awaits s × (rank t ≤ rank s) × (lowers s → rank t < rank s) × Falls t ts
 
-  -- the same of a list of states
+  -- along a list of states, ranks never rise, and fall where they have to
   abbrev pub AllFall : List StateData → Type 0
   AllFall [] = Unit {0}
   AllFall (s ∷ ss) = Falls s ss

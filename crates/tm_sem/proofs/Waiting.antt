@@ -28,7 +28,8 @@ pub record Carried (d : DesignTree) (goal q i : ℕ) (before : List StateData) :
   pub rounds : HasRounds d q done
   pub met : (c : ℕ) → c < i → IsMetAmong d part c
 
--- the same, with a further state at which the goal fails too, which may meet conditions
+-- some earlier states, then q whole rounds, then a part which with a further state meets the first i conditions; the
+-- goal fails from the rounds on, at the further state too
 pub record CarriedAt (d : DesignTree) (goal q i : ℕ) (before : List StateData) (s : StateData) : Type 0 where
   pub earlier : List StateData
   pub done : List StateData

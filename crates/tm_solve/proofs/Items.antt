@@ -55,7 +55,7 @@ seen_more f xs x k y e = at (get_more (map f xs) (f x) k y (ap (λ l. slice_get 
     at (inl h) = inl h
     at (inr h) = inr (h.0 ∙ length_mapped f xs, h.1)
 
--- the same item stands in equal options
+-- equal options hold one item
 pub some_same : {A : Type 0} {x y : A} → Some x ≡ Some y → x ≡ y
 some_same {A = A} {x = x} {y = y} e = ap (λ (o : Option A). or_else o) e
   where

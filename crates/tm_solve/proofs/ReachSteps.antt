@@ -100,7 +100,7 @@ module _ (g : Game) (mono : IsMonotone g) (z : StateSet) (j : ℕ) where
                   (absorb.wait z y over.set over.set j k i w).within u u_in (over.holds u u_in here);
             }) t over.here)
 
-    -- the same iterate is the fixpoint
+    -- an iterate that stays as it was is the fixpoint
     pub reach_ends : {a b : Ids} (y : NodeId) (t : Turned) (items : List RankSet) (r : Reached) → ReachSoFar g a z j y →
         IsTurned g b z (a.means y) j t → IsRanked g b z j t.set items → Extends a b → t.set ≡ y → r.set ≡ y →
         r.ranks.sets.items ≡ items → r.chains.items ≡ t.chains.items → IsReached g b z j r

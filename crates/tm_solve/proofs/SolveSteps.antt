@@ -105,7 +105,7 @@ module _ (g : Game) where
         (remaining.region.set.only s among (subst (λ (m : StateSet). m s ≡ true)
         (sym (ap b.means same_id ∙ same_set)) here)).1
 
-    -- the same iterate is the region
+    -- an iterate that stays as it was is the region
     pub region_ends : Holds g.states (b.means z) (InRegion g)
     region_ends = subst (λ (m : StateSet). Holds g.states m (InRegion g)) (sym same_set) (record {
       only = λ s among here. record {

@@ -101,7 +101,7 @@ module _ (g : Game) (mono : IsMonotone g) (z y : StateSet) (j i : ℕ) where
       new s among k (inr e) stay =
           or_right _ _ (waited.set.all s among (subst (λ (n : ℕ). InStay g z y j n s) e stay))
 
-  -- the same, of the list that a push left
+  -- the union with the states that wait for one more condition, where a push left the list of chains
   pub turn_continues : {a b c : Ids} (set grown : NodeId) (chains more : List Chain) (w : Waited) →
       TurnsSoFar g a z y j i set chains → IsWaited g b z y j i w → i < g.fairs → Extends a b → Extends b c →
       Is g.states c grown (λ s. b.means set s || b.means w.set s) → more ≡ chains ++ w.chain ∷ [] →

@@ -105,7 +105,7 @@ module _ (g : Game) (mono : IsMonotone g) (z y : StateSet) (j i : ℕ) where
             }));
       }
 
-  -- the same, of the list that a push left
+  -- one more iterate, where a push left the list of what iterates leave out
   pub wait_continues : {a b c : Ids} (whole x next removed : NodeId) (items more : List NodeId) →
       WaitsSoFar g a z y j i x items → Is g.states a whole everywhere →
       Is g.states b next (g.part z y (a.means x) j i) →
@@ -135,7 +135,7 @@ module _ (g : Game) (mono : IsMonotone g) (z y : StateSet) (j i : ℕ) where
       subst (λ (m : StateSet). count g.states m < count g.states (a.means x)) (sym (bc.same next is.known))
       (fewer x next items far is ab exact differ)
 
-  -- the same iterate is the fixpoint
+  -- an iterate that stays as it was is the fixpoint
   pub wait_ends : {a b : Ids} (x next : NodeId) (items : List NodeId) (w : Waited) → WaitsSoFar g a z y j i x items →
       Is g.states b next (g.part z y (a.means x) j i) → Extends a b → next ≡ x → w.set ≡ x →
       w.chain.sets.items ≡ items →

@@ -31,7 +31,7 @@ pub record PlainLevel : Type 0 where
 abbrev pub plain_level : LevelSet → PlainLevel
 plain_level l = record { goal = l.goal; set = l.set; chains = map ids_of l.chains.items }
 
--- the same set and the same levels, without ranked sets
+-- a copy has the set and the levels of other iterates, and no ranked sets
 pub record IsCopy (it copy : Iterates) : Type 0 where
   pub region : copy.region ≡ it.region
   pub ranks : copy.ranks.items ≡ []

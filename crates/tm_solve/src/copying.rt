@@ -5,7 +5,7 @@ ghost use Rattle.tm_solve.specs.Begun.{IsCopy, ids_of, plain_level};
 use crate::iterates::{Chain, Iterates, LevelSet};
 use std::alloc::{AllocError, Global};
 
-/// The same set with the same levels, and no ranked sets. Want of memory is the only error.
+/// A copy of a set and its levels, without ranked sets. Want of memory is the only error.
 pub fn copied(alloc: Global, it: &Iterates) -> Result<Iterates, AllocError>
     ensures { IfOk result (IsCopy it.now) }
 {

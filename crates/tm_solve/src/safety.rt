@@ -62,8 +62,8 @@ pub(crate) fn safe_states<P: Pre>(
     }
 }
 
-// The same by the first goal and the first condition. Each removal is a level of its own: from what is removed the
-// environment forces an error or a state that is lost already, whatever condition is waited for.
+// The safe states of a set, by the first goal and the first condition. Each removal is a level of its own: from what is
+// removed the environment forces an error or a state that is lost already, whatever condition is waited for.
 fn stay_within<P: Pre>(
     alloc: Global,
     pre: &mut P,

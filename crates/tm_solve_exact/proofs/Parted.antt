@@ -17,7 +17,7 @@ use Rattle.tm_solve_exact.proofs.Growing.{same_coding, same_fair, same_goal, sam
 bool_prop : (a b : Bool) → IsProp (a ≡ b)
 bool_prop a b = hlevel props
 
--- the same set, by the names of another one
+-- an id of a set is one of each set that agrees with it, over an equal list of states
 pub changed : (n m : List StateData) (ids : Ids) (id : NodeId) (a b : StateSet) → m ≡ n → Is m ids id a →
     ((s : StateData) → IsAmong s n → a s ≡ b s) → Is n ids id b
 changed n m ids id a b same is each =

@@ -56,7 +56,7 @@ abbrev pub stays_where : (g : GameFunctions) (into : Function) (v : Assignment) 
 stays_where g into v (inl valid) = is_second (forced_or_stays (outside into) into (λ w. refl) g v valid)
 stays_where g into v (inr not_so) = false
 
--- the same where the values tell a valid state, and nowhere else
+-- whether values tell a valid state, and the driver stays there in all that a set leaves out
 abbrev pub stays_out : GameFunctions → Function → Assignment → Bool
 stays_out g into v = stays_where g into v (true_or_false (g.valid v))
 

@@ -215,7 +215,7 @@ module _ (g h : GameData) (of : HasDesign g) (carried : Carried g h) (pairs : No
       (λ v. means g.diagrams.table pairs (with_bits (length g.order) bits v)) (reads x.0 x.1) (within x.0 x.1)
       (constant_set g pairs bits) (λ s. refl) id (composed function))
 
-  -- the same of a list that has these parts
+  -- the states at which pairs hold with constant arguments, by a list that has the parts of these
   pub placed_states : (first n : ℕ) (given parts : List (ℕ × NodeId)) → given ≡ parts →
       parts ≡ constant_parts first bits n → n ≡ 64 → first ≡ length g.order →
       (Knows g.diagrams.table pairs → All (λ (p : ℕ × NodeId). Knows g.diagrams.table p.1) given →

@@ -93,7 +93,7 @@ test_there d g h grows c tests ids count k p id are below within is =
     (test_of_kept d g h grows c (get_or tests k p) (id_in ids k)
     (are.each k (get_or tests k p) below (slice_get-get_or tests k p within)))
 
--- the same of lists under other names
+-- ids belong to their tests also where both lists have other names and the game has grown
 pub tests_read : (d : DesignTree) (g h : GameData) → Grows g h → (c : Counts) (tests others : List Predicate)
     (ids more : List NodeId) → others ≡ tests → more ≡ ids → AreTestsOf d g c tests ids (length tests) →
     AreTestsOf d h c others more (length others)

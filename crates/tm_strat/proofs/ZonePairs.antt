@@ -86,7 +86,7 @@ pairs_from d g m h states target legal id shape one two known some there are ans
     legal_same : (v : Assignment) → means h.diagrams.table legal v ≡ means m.diagrams.table legal v
     legal_same v = ap (λ f. f v) (means-Extends m.diagrams.table h.diagrams.table two.diagrams legal are.known)
 
--- the same sets where the game has grown
+-- where the game has grown, an id is still of the set that it was of
 pub in_set_kept : (d : DesignTree) (g h : GameData) → Grows g h → (id : NodeId) → Knows g.diagrams.table id →
     in_set d h id ≡ in_set d g id
 in_set_kept d g h grows id known =

@@ -67,7 +67,7 @@ choice g tests goals pending = record {
   pending = pending;
 }
 
--- the same with the game, and its ids of sets of states
+-- what blocks are chosen from while a goal is pending, with the game and its ids of sets of states
 abbrev pub setting_of : GameData → List NodeId → List GoalMoves → ℕ → Setting
 setting_of g tests goals pending = record {
   symbolic = g;

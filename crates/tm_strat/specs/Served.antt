@@ -74,7 +74,7 @@ pub record ServesOne (d : DesignTree) (g : GameData) (zones targets : List NodeI
   pub known : Knows g.diagrams.table pairs
   pub given : IsGivenFor d g shapes b x
 
--- the same of several
+-- what is known of pairs and arguments from which the states of several blocks are found
 pub record ServesFrom (d : DesignTree) (g : GameData) (zones targets : List NodeId) (shapes : List MoveShape)
     (blocks : List BlockTree) (pairs : List NodeId) (given : List Given) : Type 0 where
   pub of : IsExactOf d g

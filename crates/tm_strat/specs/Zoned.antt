@@ -29,7 +29,7 @@ pub record IsMoveFrom (d : DesignTree) (zone target : ℕ → StateData → Type
   pub some : ¬ (id_in targets at ≡ FALSE)
   pub good : IsGoodMove d (target at) s move
 
--- the same, where zones and targets are ids
+-- at a state of one of the zones a move is good for the zone's target, where zones and targets are ids
 abbrev pub IsZoneMove : DesignTree → GameData → List NodeId → List NodeId → ℕ → StateData → Move → Type 0
 IsZoneMove d g zones targets count =
     IsMoveFrom d (λ k. in_set d g (id_in zones k)) (λ k. in_set d g (id_in targets k)) targets count

@@ -142,7 +142,7 @@ roots_more g h ids later ds es fs goal test own root at same is roots first join
     (λ (q : Game). (a b : StateSet) → IsMade q es own a → IsMade q es root b →
     Makes q later es fs at (chosen (passes q test) a b)) same joins) end blocks
 
--- the same roots at a game while another goal is pending
+-- roots at a game while another goal is pending are roots at the game
 pub roots_at : (g h : Game) (j : ℕ) (ds : List Draft) (root n : ℕ) → h ≡ turned g j → HasRoots h ds root n →
     HasRoots g ds root n
 roots_at g h j ds root n same roots =

@@ -45,7 +45,7 @@ pub record Makes (g : Game) (ids : Ids) (old new : List Draft) (at : ℕ) (set :
   pub stay : Stay (blocks_of old) (blocks_of new)
   pub made : IsMade g new at set
 
--- the same, or none of them was found for the set, and they stay
+-- drafts went on, and one of them ends well at each state of a set; or none of them was found for it, and they stay
 abbrev pub MakesOrNot : Game → Ids → List Draft → List Draft → StateSet → Option ℕ → Type 0
 MakesOrNot g ids old new set None = new ≡ old
 MakesOrNot g ids old new set (Some at) = Makes g ids old new at set

@@ -14,7 +14,7 @@ pub record Setting : Type 1 where
   pub game : Game
   pub ids : Ids
 
--- the same while another goal is pending
+-- a setting while another goal is pending
 abbrev pub at_goal : ℕ → Setting → Setting
 at_goal goal s = record s { game = turned s.game goal }
 

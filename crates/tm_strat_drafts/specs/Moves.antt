@@ -35,7 +35,7 @@ good_now g m = g.good g.pending m
 abbrev pub region_now : Game → StateSet
 region_now g = g.region g.pending
 
--- the same while another goal is pending
+-- what blocks are chosen from while another goal is pending
 abbrev pub turned : Game → ℕ → Game
 turned g goal = record g { pending = goal }
 

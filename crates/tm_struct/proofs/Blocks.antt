@@ -63,7 +63,7 @@ module _ (d : DesignTree) (p : ProgramTree) (fits : FitsProgram d p) (before bs 
           subst (AnswersSo p s g)
           (same_answer (turned_over first bs) s g (to found.0 found.1) answers) found.1
 
--- the same of blocks that were made of what was laid
+-- blocks that were made of what was laid fit the design, and answer as the driver does
 module _ (d : DesignTree) (p : ProgramTree) (fits : FitsProgram d p) (before bs made : List BlockTree)
     (starts named : List ℕ) (shown : List ActionTree) (first : ℕ) (laid : AreLaid before starts shown)
     (shown_is : shown ≡ p.functions) (main : IsLaid before bs named first p.main) (named_is : named ≡ starts)

@@ -183,7 +183,7 @@ arguments_common [] = tt
 arguments_common (x ∷ xs) =
     common_append (num_tokens x) (flat_map (λ b. sign comma ∷ num_tokens b) xs) (num_common x) (more_common xs)
 
--- the same text and tokens, without the empty ones behind them
+-- a text and its tokens, without the empty ones behind them
 with_nothing : (d : DesignTree) (text rest : List ℕ) (ts us : List Token) →
     AreTokens d ((text ++ []) ++ rest) ((ts ++ []) ++ us) → AreTokens d (text ++ rest) (ts ++ us)
 with_nothing d text rest ts us are =

@@ -143,7 +143,7 @@ test_laid before one two after starts i j number t a b second first put =
           (fit_then d two (test t i j) (first.fit d fits.1 (second.fit d fits.2 fit)) fits.0);
     }
 
--- the same of actions as the code has them
+-- a test behind its branches, with actions as the code has them
 pub test_there : (before one two after : List BlockTree) (starts : List ℕ) (i j number : ℕ) (t copy : TruthTree)
     (a b x y whole : ActionTree) → IsLaid before one starts j y → y ≡ b → IsLaid one two starts i x → x ≡ a → copy ≡ t →
     IsPut two after number (test copy i j) → whole ≡ choose t a b → IsLaid before after starts number whole

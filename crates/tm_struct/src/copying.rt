@@ -5,7 +5,7 @@ ghost use Rattle.tm_cir.specs.View.{num_tree, truth_tree};
 use std::alloc::{AllocError, Global};
 use tm_cir::{Num64, Truth};
 
-/// The same numbers.
+/// A copy of each of some numbers.
 pub fn copied_nums(alloc: Global, nums: &[Num64]) -> Result<Vec<Num64>, AllocError>
     ensures { IfOk result (λ copy. map num_tree copy.items ≡ map num_tree nums.now) }
 {
@@ -16,7 +16,7 @@ pub fn copied_nums(alloc: Global, nums: &[Num64]) -> Result<Vec<Num64>, AllocErr
     Ok(copy)
 }
 
-/// The same number.
+/// A copy of a number.
 #[cycle(copying)]
 pub fn copied_num(alloc: Global, num: &Num64) -> Result<Num64, AllocError>
     ensures { IfOk result (λ copy. num_tree copy ≡ num_tree num.now) }
@@ -43,7 +43,7 @@ pub fn copied_num(alloc: Global, num: &Num64) -> Result<Num64, AllocError>
     }
 }
 
-/// The same truth value.
+/// A copy of a truth value.
 #[cycle(copying)]
 pub fn copied_truth(alloc: Global, truth: &Truth) -> Result<Truth, AllocError>
     ensures { IfOk result (λ copy. truth_tree copy ≡ truth_tree truth.now) }

@@ -130,7 +130,7 @@ fault_named d line body spots last whole p (ForwardCall at) scan is written faul
       (split d ((place_after first_place (tokens_of spots)).functions) (omega arith) fault),
 )
 
--- the same of spots that are handed on
+-- the first fault in the names of spots that are handed on is the fault of the file
 pub named_fault : (d : DesignTree) (line : ℕ) (body : List ℕ) (spots found : List Spot) (last : ℕ) (whole : Bool)
     (p : WrittenProgram) (bad : BadStructured) → found ≡ spots → IsScan d line body spots last whole → IsTrue whole →
     AreWritten (tokens_of spots) p →
@@ -181,7 +181,7 @@ not_whole spots found last whole p same written other =
     at_end (subst (λ (l : List Spot). Begins (tokens_of l)) same (begins_all (tokens_of found) p written))
     (λ is. absurd (other is))
 
--- the same by what a look-up tells
+-- where no driver goes on with a token that a look-up tells, the text is at fault in the line of that token
 pub token_there : (spots found : List Spot) (last : ℕ) (whole : Bool) (place : ℕ) (s : Spot) →
     IsStuckAt (tokens_of spots) place → found ≡ spots → ltb place (length found) ≡ true → s ≡ get_or found place s →
     IsTextLine spots last whole s.line

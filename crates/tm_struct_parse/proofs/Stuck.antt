@@ -118,7 +118,7 @@ behind_at p tokens rest place is some count =
     no_first [] e = refl
     no_first (t ∷ ts) e = cc
 
--- the same at slices
+-- no driver goes on where a reader of the spots of a text was stopped
 pub stopped_at : (spots rest : List Spot) → IsBlocked (IsProgram []) (tokens_of spots) (tokens_of rest) →
     IsStuckAt (tokens_of spots) (length spots - length rest)
 stopped_at spots rest h =

@@ -35,7 +35,7 @@ ActionInRange open_ifs (choose t a b) =
 ActionInRange open_ifs (call k args) = All NumInRange args
 ActionInRange open_ifs a = Unit {0}
 
--- the same of a function
+-- each shift in a function is by less than 64, and each `if` may be open, where none is open around the function
 abbrev pub FunctionInRange : WrittenFunction → Type 0
 FunctionInRange f = ActionInRange 0 f.action
 

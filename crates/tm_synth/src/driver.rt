@@ -158,7 +158,7 @@ fn texts_of(
     })
 }
 
-// The same, where the checker accepts the driver, as it does with each certificate that meets all conditions.
+// The texts of a driver. The checker accepts it, as it does with each certificate that meets all conditions.
 fn judged(
     alloc: Global,
     design: &Design,

@@ -46,7 +46,8 @@ fn write_cert(
     written
 }
 
-// The same, where the checker accepts the certificate, as it does with each that meets all conditions.
+// The text of a certificate in the weight order. The checker accepts the certificate, as it does with each that meets
+// all conditions.
 fn judged(
     alloc: Global,
     design: &Design,

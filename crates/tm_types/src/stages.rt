@@ -156,7 +156,7 @@ fn part_fault(
     )
 }
 
-// The same, where memory sufficed to divide the text.
+// `F4`, or else `F5`, `F6` or `F7`, of a text that memory sufficed to divide.
 fn divided_fault(
     alloc: Global,
     text: &Result<DividedText, AllocError>,

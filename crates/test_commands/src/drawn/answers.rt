@@ -95,7 +95,7 @@ pub fn push_answers(
     Ok(())
 }
 
-/// The same of a structured driver.
+/// Pushes a line for each state: its numbers, the pending goal, and the answer of a structured driver.
 pub fn push_structured_answers(
     alloc: Global,
     design: &Design,

@@ -36,7 +36,7 @@ fn counted(
     format!(in alloc; "{} {}", atoms.len(), atoms.first())
 }
 
-/// The same, in words where calls go in a circle.
+/// What is told of the atoms of a text, or that its calls go in a circle.
 fn told(alloc: Global, scopes: &Scopes, design: &Design) -> Result<String, AllocError> {
     match pausing(alloc, scopes)? {
         Some(pausing) => counted(alloc, scopes, &pausing, design),

@@ -35,7 +35,7 @@ fn number_from_main(scopes: &Scopes, table: &[Instance], along: &[Ident]) -> Opt
     Sites::new(scopes, table).number_along(0, along)
 }
 
-/// The same as text.
+/// The number of the instance to which a path leads from the first one, or `none`, as text.
 fn number_text(alloc: Global, scopes: &Scopes, along: &[Ident]) -> Result<String, AllocError> {
     let table = instances(alloc)?;
     match number_from_main(scopes, &table, along) {

@@ -21,7 +21,7 @@ pub record IsNarrowed (d : DesignTree) (first : GameData) (s : Table) (set : Nod
   pub sought_is : IsStates d first.order s
       (λ t. SameCell d predicates state t × (test_of d first set t ≡ true)) sought
 
--- the same of some state
+-- some state is a valid one of the set, the one id is its cell, and the other is what of the set lies in that cell
 abbrev pub IsSought : DesignTree → GameData → Table → NodeId → List Predicate → NodeId → NodeId → Type 0
 IsSought d first s set predicates cell sought =
     (state : StateData) × IsNarrowed d first s set predicates state cell sought

@@ -17,29 +17,29 @@ use Rattle.tm_cparse.specs.Faults.{names_item, TakesArguments}
 abbrev pub TokenList : Type 0
 TokenList = List Token
 
--- what stands before the token behind this one
+-- what stands before the token behind this word
 abbrev pub before_of_word : Word → Before
 before_of_word goto = Goto
 before_of_word termite_leave = Leave
 before_of_word w = Other
 
--- the same, behind a sign
+-- what stands before the token behind this sign
 abbrev pub before_of_sign : Before → Sign → Before
 before_of_sign Leave open_parenthesis = Process
 before_of_sign before s = Other
 
--- the same, behind any token
+-- what stands before the token behind any token
 abbrev pub before_behind : Before → Token → Before
 before_behind before (word w) = before_of_word w
 before_behind before (sign s) = before_of_sign before s
 before_behind before t = Other
 
--- the number of blocks that have begun behind a token
+-- the number of blocks that have begun behind a label, by what stands before it
 abbrev pub labels_of_label : ℕ → Before → ℕ
 labels_of_label labels Goto = labels
 labels_of_label labels before = labels + 1
 
--- the same, behind any token
+-- the number of blocks that have begun behind any token
 abbrev pub labels_behind : ℕ → Before → Token → ℕ
 labels_behind labels before (label k) = labels_of_label labels before
 labels_behind labels before t = labels
@@ -76,7 +76,7 @@ IsRight d count at (task k) others =
     TakesArguments d k (length args)
 IsRight d count at t others = Unit {0}
 
--- the same of all tokens from a place on
+-- all tokens from a place on, of a driver with so many blocks, name what there is, as far as their numbers tell
 abbrev pub AreRight : DesignTree → ℕ → TokenPlace → List Token → Type 0
 AreRight d count at [] = Unit {0}
 AreRight d count at (t ∷ ts) = IsRight d count at t ts × AreRight d count (place_behind at t) ts

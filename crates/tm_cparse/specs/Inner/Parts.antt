@@ -157,7 +157,7 @@ FitsPart s (join_part op t) = (s ≡ sorts.Truth) × TruthInRange t
 FitsPart s (then_part t) = TruthInRange t
 FitsPart s (else_part t a) = TruthInRange t × NumInRange a
 
--- the same of all parts
+-- each of the parts that were begun may stand where it does in a whole of this sort, with its shifts in range
 abbrev pub FitParts : Sort → List PartTree → Type 0
 FitParts s [] = Unit {0}
 FitParts s (p ∷ ps) = FitsPart (wanted s ps) p × FitParts s ps

@@ -50,17 +50,17 @@ abbrev pub constant_value : Token → Option ℕ
 constant_value (constant n) = Some n
 constant_value _ = None
 
--- nothing was taken, since no label, no constant, or no constant below 64 stands in front
+-- nothing was taken, since no label stands in front
 abbrev pub IsNoLabel : List Spot → Stop → Type 0
 IsNoLabel spots (Unexpected here) = (here.now ≡ spots) × ((k : ℕ) → first_of (tokens_of spots) ≢ Some (label k))
 IsNoLabel spots Memory = Unit {0}
 
--- the same of a constant
+-- nothing was taken, since no constant stands in front
 abbrev pub IsNoConstant : List Spot → Stop → Type 0
 IsNoConstant spots (Unexpected here) = (here.now ≡ spots) × ((n : ℕ) → first_of (tokens_of spots) ≢ Some (constant n))
 IsNoConstant spots Memory = Unit {0}
 
--- the same of a constant below 64
+-- nothing was taken, since no constant below 64 stands in front
 abbrev pub IsNoAmount : List Spot → Stop → Type 0
 IsNoAmount spots (Unexpected here) =
     (here.now ≡ spots) × ((n : ℕ) → n < 64 → first_of (tokens_of spots) ≢ Some (constant n))

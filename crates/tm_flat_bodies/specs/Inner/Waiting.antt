@@ -39,7 +39,7 @@ use Rattle.tm_flat_bodies.specs.Walks.{InEach, IsStand, IsStanding, RowLeads, Ro
 abbrev pub StmtGoal : WalkTables → Stand → StmtTree → Course → FlowTerms → Course → Option FlowTerms → Type 0
 StmtGoal w f s from flow now g = StmtLeads w f s from now flow g
 
--- the same of a row
+-- what a row leads to, as a goal
 abbrev pub RowGoal : WalkTables → Stand → StmtRow → Course → FlowTerms → Course → Option FlowTerms → Type 0
 RowGoal w f row from flow now g = RowLeads w f row from now flow g
 

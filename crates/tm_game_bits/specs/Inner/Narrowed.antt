@@ -13,7 +13,8 @@ pub record IsCleared (s : Table) (f : NodeId) (level : ℕ) (id : NodeId) : Type
   pub least : (v w : ℕ → Bool) → means s id v ≡ true → means s f w ≡ true → w level ≡ false → v level ≡ false
   pub whole : (v w : ℕ → Bool) → means s id v ≡ true → means s f w ≡ true → w level ≡ v level → means s id w ≡ true
 
--- the same of some levels, of which the first decides
+-- an id is a part of f in which some levels, of which the first decides, have the least values that they have in f, and
+-- all of that part
 pub record IsNarrowed (s : Table) (f : NodeId) (levels : List ℕ) (id : NodeId) : Type 0 where
   pub known : Knows s id
   pub within : (v : ℕ → Bool) → means s id v ≡ true → means s f v ≡ true

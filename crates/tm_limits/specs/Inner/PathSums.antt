@@ -56,7 +56,7 @@ paths_in paths m = unwrap_or (lookup (same_task m) paths) nothing_chosen
 abbrev pub called_paths : SpecTree → ℕ → List (Member × Paths) → List Ident → Paths
 called_paths spec from paths path = option_map_or (paths_in paths) (task_number spec from path) nothing_chosen
 
--- the same, from a body
+-- the paths of the body that a path of names calls, from the body of a table
 abbrev pub call_paths : PathTable → List Ident → Paths
 call_paths x path = called_paths (spec_tree x.place.spec) x.from x.paths path
 

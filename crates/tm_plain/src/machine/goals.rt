@@ -40,7 +40,7 @@ fn condition_by(
     Ok(reader.holds_outside(&store, e))
 }
 
-// The same by the reader that was found.
+// Whether a condition holds at a state, by the reader that was found.
 fn condition_holds(
     alloc: Global,
     found: &Option<Reader<'_>>,

@@ -51,7 +51,7 @@ pub record RoundSoFar (g : Game) (ids : Ids) (z : StateSet) (j : ℕ) (region : 
   pub known : ids.knows region
   pub set : Holds g.states (ids.means region) (λ s. (z s ≡ true) × ((k : ℕ) → k < j → InReach g z k s))
 
--- the same of all goals, with their ranked sets
+-- the states of Z from which all goals are reached, and the ranked sets of all goals
 pub record IsRemaining (g : Game) (ids : Ids) (z : StateSet) (r : Remaining) : Type 0 where
   pub region : RoundSoFar g ids z g.goals r.region
   pub ranks : AreReached g ids z g.goals r.ranks.items

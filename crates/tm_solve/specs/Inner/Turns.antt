@@ -38,7 +38,8 @@ pub record IsTurned (g : Game) (ids : Ids) (z y : StateSet) (j : ℕ) (t : Turne
   pub set : Holds g.states (ids.means t.set) (λ s. (y s ≡ true) ⊎ InSome g z y j s)
   pub chains : AreChains g ids z y j g.fairs t.chains.items
 
--- the same of the first conditions
+-- a set that holds Y and all states that wait for one of the first conditions, and beside these only states that wait
+-- for some condition; and a chain for each of the first conditions
 pub record TurnsSoFar (g : Game) (ids : Ids) (z y : StateSet) (j i : ℕ) (set : NodeId)
     (chains : List Chain) : Type 0 where
   pub known : ids.knows set

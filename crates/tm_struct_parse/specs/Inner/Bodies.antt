@@ -43,7 +43,7 @@ IsSmall (choose t a b) = IsSmall a × IsSmall b
 IsSmall (leave p) = p < 2 ^ 32
 IsSmall a = Unit {0}
 
--- the same of a function
+-- the numbers of the processes that leave in a function have 32 bits
 abbrev pub IsSmallFunction : WrittenFunction → Type 0
 IsSmallFunction f = IsSmall f.action
 

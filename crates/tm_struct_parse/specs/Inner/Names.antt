@@ -15,18 +15,18 @@ use Rattle.tm_struct_parse.specs.declared.names.Before.{Before}
 use Rattle.tm_struct_parse.specs.declared.names.Before.TheVariants.{Void, Leave, Process, Other}
 use Rattle.tm_struct_parse.specs.declared.names.TokenPlace.{TokenPlace}
 
--- what stands before the token behind this word, this sign, and any token
+-- what stands before the token behind this word
 abbrev pub before_of_word : Word → Before
 before_of_word void = Void
 before_of_word termite_leave = Leave
 before_of_word w = Other
 
--- the same, behind a sign
+-- what stands before the token behind this sign
 abbrev pub before_of_sign : Before → Sign → Before
 before_of_sign Leave open_parenthesis = Process
 before_of_sign before s = Other
 
--- the same, behind any token
+-- what stands before the token behind any token
 abbrev pub before_behind : Before → Token → Before
 before_behind before (word w) = before_of_word w
 before_behind before (sign s) = before_of_sign before s
@@ -37,7 +37,7 @@ abbrev pub begun_behind : ℕ → Before → ℕ
 begun_behind functions Void = functions + 1
 begun_behind functions before = functions
 
--- the same, behind any token
+-- the number of functions that have begun behind any token
 abbrev pub functions_behind : TokenPlace → Token → ℕ
 functions_behind at (label k) = begun_behind at.functions at.before
 functions_behind at t = at.functions
@@ -87,7 +87,7 @@ IsRight d at (task k) others =
     TakesArguments d k (length args)
 IsRight d at t others = Unit {0}
 
--- the same of all tokens from a place on
+-- all tokens from a place on name what there is, as far as their numbers tell
 abbrev pub AreRight : DesignTree → TokenPlace → List Token → Type 0
 AreRight d at [] = Unit {0}
 AreRight d at (t ∷ ts) = IsRight d at t ts × AreRight d (place_behind at t) ts

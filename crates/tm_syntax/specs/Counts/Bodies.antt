@@ -21,7 +21,7 @@ weight_below weight (suc depth) b =
     sum_by (λ s. weight s + sum_by (λ path. option_map_or (weight_below weight depth) (callee b.context path) 0)
     (own_calls s)) (stmts_in b.body)
 
--- the same, as deep as calls nest
+-- the sum of a weight over a body's statements, and over those of called bodies at each call, as deep as calls nest
 abbrev pub weight_of : (StmtTree → ℕ) → BodyAt → ℕ
 weight_of weight b = weight_below weight (suc (call_depth b.context.spec)) b
 

@@ -86,15 +86,15 @@ is_lasting (a_choice e a b) = is_lasting e && is_lasting a && is_lasting b
 is_lasting (a_cast _ e) = is_lasting e
 is_lasting (an_element _ e) = is_lasting e
 
--- whether two operators are one: they are spelled alike
+-- whether two unary operators are one: they are spelled alike
 abbrev pub same_unary : UnaryOperator → UnaryOperator → Bool
 same_unary a b = pointwise nat_eq (sign_text (unary_sign a)) (sign_text (unary_sign b))
 
--- the same of binary operators
+-- whether two binary operators are one: they are spelled alike
 abbrev pub same_binary : BinaryOperator → BinaryOperator → Bool
 same_binary a b = pointwise nat_eq (sign_text (binary_sign a)) (sign_text (binary_sign b))
 
--- the same of shifts
+-- whether two operators of shifts are one: they are spelled alike
 abbrev pub same_shift : ShiftOperator → ShiftOperator → Bool
 same_shift a b = pointwise nat_eq (sign_text (shift_sign a)) (sign_text (shift_sign b))
 

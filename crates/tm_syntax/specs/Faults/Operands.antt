@@ -163,19 +163,19 @@ index_fits (task_body _) _ e = is_number_typed e
 abbrev pub judged : List Place → Bool → Place → List Place
 judged within fits at = place_unless fits at ++ within
 
--- the faults of an operator, given those of its operands and their types
+-- the faults of a unary operator, given those of its operand and that operand's type
 abbrev pub unary_faults : Place → UnaryOperator → List Place → Option Ty → List Place
 unary_faults at op x tx = judged x (operand_fits op (finding x tx)) at
 
--- the same of a binary operator
+-- the faults of a binary operator, given those of its operands and their types
 abbrev pub binary_faults : Place → BinaryOperator → List Place → Option Ty → List Place → Option Ty → List Place
 binary_faults at op x tx y ty = judged (x ++ y) (operands_fit op (finding x tx) (finding y ty)) at
 
--- the same of a shift
+-- the faults of a shift, given those of its operand and that operand's type
 abbrev pub shift_faults : Place → List Place → Option Ty → List Place
 shift_faults at x tx = judged x (may_be_uint (finding x tx)) at
 
--- the same of a conditional
+-- the faults of a conditional, given those of its test and branches and their types
 abbrev pub conditional_faults : Place → List Place → Option Ty → List Place → Option Ty → List Place → Option Ty →
     List Place
 conditional_faults at x tx y ty z tz =
