@@ -11,4 +11,5 @@ pub mod Operation
 pub mod Parts
 pub mod Quantified
 pub mod Reached
+pub mod Remembering
 pub mod Support

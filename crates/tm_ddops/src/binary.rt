@@ -1,10 +1,11 @@
 //! The binary operations.
-ghost use Rattle.std.specs.Prelude.{◌≡◌, ◌&&◌, ◌||◌, ℕ, Bool, IfOk, Ok};
-ghost use Rattle.tm_dd.specs.Table.{Knows, kept, means};
+ghost use Rattle.std.specs.Prelude.{◌≡◌, ◌&&◌, ◌||◌, IfOk};
+ghost use Rattle.tm_dd.specs.Table.{Knows, means};
 ghost use Rattle.tm_dd.specs.declared.node.NodeId.{NodeId as Id};
-ghost use Rattle.tm_ddops.specs.Connective.{AreTwoNodes, connective_operation, connective_value, larger, smaller, xor};
+ghost use Rattle.tm_ddops.specs.Connective.{connective_operation, connective_value, larger, smaller, xor};
 ghost use Rattle.tm_ddops.specs.Manager.{Grows, IsFunction, IsManager, Remembers};
 ghost use Rattle.tm_ddops.specs.Reached.{RisesByPairs};
+ghost use Rattle.tm_ddops.specs.Remembering.{RemembersPair};
 ghost use Rattle.tm_ddops.specs.declared.operation.Operation.TheVariants as operation;
 
 use crate::connective::Connective;
@@ -31,14 +32,9 @@ impl Manager {
         ensures answer { IfOk result (λ id.
             IsFunction self.new.table id (λ v. means self.new.table f v && means self.new.table g v)) }
         ensures requests { RisesByPairs self.old.table f g steps.old steps.new }
-        ensures nodes { RisesByPairs self.old.table f g (kept self.old.table) (kept self.new.table) }
-        ensures remembered { AreTwoNodes f g →
-            IfOk result (Remembers self.new (operation.And (smaller f g) (larger f g))) }
+        ensures remembers { RemembersPair (operation.And (smaller f g) (larger f g)) f g self.old self.new result }
 
-        // A remembered result is answered again. That takes no memory and makes no request.
-        ensures again { (id : Id) → Remembers self.old (operation.And (smaller f g) (larger f g)) id → result ≡ Ok id }
-        ensures again_same { (id : Id) → Remembers self.old (operation.And (smaller f g) (larger f g)) id →
-            self.new.table ≡ self.old.table }
+        // A remembered result is answered again without a request.
         ensures again_free { (id : Id) → Remembers self.old (operation.And (smaller f g) (larger f g)) id →
             steps.new ≡ steps.old }
     {
@@ -62,14 +58,9 @@ impl Manager {
         ensures answer { IfOk result (λ id.
             IsFunction self.new.table id (λ v. means self.new.table f v || means self.new.table g v)) }
         ensures requests { RisesByPairs self.old.table f g steps.old steps.new }
-        ensures nodes { RisesByPairs self.old.table f g (kept self.old.table) (kept self.new.table) }
-        ensures remembered { AreTwoNodes f g →
-            IfOk result (Remembers self.new (operation.Or (smaller f g) (larger f g))) }
+        ensures remembers { RemembersPair (operation.Or (smaller f g) (larger f g)) f g self.old self.new result }
 
-        // A remembered result is answered again. That takes no memory and makes no request.
-        ensures again { (id : Id) → Remembers self.old (operation.Or (smaller f g) (larger f g)) id → result ≡ Ok id }
-        ensures again_same { (id : Id) → Remembers self.old (operation.Or (smaller f g) (larger f g)) id →
-            self.new.table ≡ self.old.table }
+        // A remembered result is answered again without a request.
         ensures again_free { (id : Id) → Remembers self.old (operation.Or (smaller f g) (larger f g)) id →
             steps.new ≡ steps.old }
     {
@@ -93,14 +84,9 @@ impl Manager {
         ensures answer { IfOk result (λ id.
             IsFunction self.new.table id (λ v. xor (means self.new.table f v) (means self.new.table g v))) }
         ensures requests { RisesByPairs self.old.table f g steps.old steps.new }
-        ensures nodes { RisesByPairs self.old.table f g (kept self.old.table) (kept self.new.table) }
-        ensures remembered { AreTwoNodes f g →
-            IfOk result (Remembers self.new (operation.Xor (smaller f g) (larger f g))) }
+        ensures remembers { RemembersPair (operation.Xor (smaller f g) (larger f g)) f g self.old self.new result }
 
-        // A remembered result is answered again. That takes no memory and makes no request.
-        ensures again { (id : Id) → Remembers self.old (operation.Xor (smaller f g) (larger f g)) id → result ≡ Ok id }
-        ensures again_same { (id : Id) → Remembers self.old (operation.Xor (smaller f g) (larger f g)) id →
-            self.new.table ≡ self.old.table }
+        // A remembered result is answered again without a request.
         ensures again_free { (id : Id) → Remembers self.old (operation.Xor (smaller f g) (larger f g)) id →
             steps.new ≡ steps.old }
     {
@@ -124,11 +110,7 @@ impl Manager {
             IsFunction self.new.table id (λ v.
             connective_value connective (means self.new.table f v) (means self.new.table g v))) }
         ensures requests { RisesByPairs self.old.table f g steps.old steps.new }
-        ensures nodes { RisesByPairs self.old.table f g (kept self.old.table) (kept self.new.table) }
-        ensures remembered { AreTwoNodes f g → IfOk result (Remembers self.new (connective_operation connective f g)) }
-        ensures again { (id : Id) → Remembers self.old (connective_operation connective f g) id → result ≡ Ok id }
-        ensures again_same { (id : Id) → Remembers self.old (connective_operation connective f g) id →
-            self.new.table ≡ self.old.table }
+        ensures remembers { RemembersPair (connective_operation connective f g) f g self.old self.new result }
         ensures again_free { (id : Id) → Remembers self.old (connective_operation connective f g) id →
             steps.new ≡ steps.old }
     {

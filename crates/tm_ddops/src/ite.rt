@@ -1,8 +1,8 @@
 //! If-then-else of three functions.
-ghost use Rattle.std.specs.Prelude.{◌≡◌, ℕ, Bool, IfOk, Ok, if◌then◌else◌};
+ghost use Rattle.std.specs.Prelude.{IfOk, if◌then◌else◌};
 ghost use Rattle.tm_dd.specs.Table.{Knows, means};
-ghost use Rattle.tm_dd.specs.declared.node.NodeId.{NodeId as Id};
-ghost use Rattle.tm_ddops.specs.Manager.{Grows, IsFunction, IsManager, Remembers};
+ghost use Rattle.tm_ddops.specs.Manager.{Grows, IsFunction, IsManager};
+ghost use Rattle.tm_ddops.specs.Remembering.{RemembersResult};
 ghost use Rattle.tm_ddops.specs.declared.operation.Operation.TheVariants as operation;
 
 use crate::choice::Choice;
@@ -24,9 +24,7 @@ impl Manager {
         ensures answer { IfOk result (λ id.
             IsFunction self.new.table id (λ v.
             if means self.new.table f v then means self.new.table g v else means self.new.table h v)) }
-        ensures remembered { IfOk result (Remembers self.new (operation.Ite f g h)) }
-        ensures again { (id : Id) → Remembers self.old (operation.Ite f g h) id → result ≡ Ok id }
-        ensures again_same { (id : Id) → Remembers self.old (operation.Ite f g h) id → self.new.table ≡ self.old.table }
+        ensures remembers { RemembersResult (operation.Ite f g h) self.old self.new result }
     {
         let choice = Choice {
             test: f,

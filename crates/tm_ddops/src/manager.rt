@@ -11,6 +11,7 @@ ghost use Rattle.tm_ddops.specs.Manager.{Grows, IsFunction, IsManager, IsResult,
 ghost use Rattle.tm_ddops.specs.Inner.Memo.{HasOpen};
 ghost use Rattle.tm_ddops.specs.Inner.Plans.{quantified, substituting};
 ghost use Rattle.tm_ddops.specs.Operation.{operands, operation_value};
+ghost use Rattle.tm_ddops.specs.Remembering.{RemembersResult};
 ghost use Rattle.tm_dd.specs.declared.node.NodeId.{NodeId as Id};
 ghost use Rattle.tm_ddops.specs.declared.choice.Choice.{Choice as Met};
 
@@ -291,15 +292,13 @@ impl Manager {
         ensures manager { IsManager self.new }
         ensures grows { Grows self.old self.new }
         ensures answer { IfOk result (IsResult self.new.table operation) }
-        ensures remembered { IfOk result (Remembers self.new operation) }
+        ensures remembers { RemembersResult operation self.old self.new result }
         ensures requests { (choices : List Met) → HasOpen self.new.table choice choices →
             steps.new ≤ steps.old + length choices }
         ensures nodes { (choices : List Met) → HasOpen self.new.table choice choices →
             kept self.new.table ≤ kept self.old.table + length choices }
 
-        // A remembered result is answered again, and that makes no request.
-        ensures again { (id : Id) → Remembers self.old operation id → result ≡ Ok id }
-        ensures again_same { (id : Id) → Remembers self.old operation id → self.new.table ≡ self.old.table }
+        // A remembered result is answered again without a request.
         ensures again_free { (id : Id) → Remembers self.old operation id → steps.new ≡ steps.old }
     {
         if let Some(known) = self.known(&operation) {

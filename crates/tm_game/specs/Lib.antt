@@ -4,7 +4,7 @@ pub mod Inner
 pub mod Kept
 pub mod Layout
 pub mod Least
+pub mod Making
 pub mod Moves
-pub mod Operations
 pub mod Shape
 pub mod Start

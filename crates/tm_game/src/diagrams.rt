@@ -8,9 +8,10 @@ ghost use Rattle.tm_ddops.specs.Connective.{larger, smaller, xor};
 ghost use Rattle.tm_ddops.specs.Manager.{Grows as DiagramsGrow, IsFunction, Remembers};
 ghost use Rattle.tm_ddops.specs.Operation.{substituted};
 ghost use Rattle.tm_ddops.specs.Quantified.{IsExists, IsForall};
+ghost use Rattle.tm_ddops.specs.Remembering.{RemembersPair, RemembersResult};
 ghost use Rattle.tm_ddops.specs.declared.operation.Operation.TheVariants as operation;
 ghost use Rattle.tm_game.specs.Game.{Grows};
-ghost use Rattle.tm_game.specs.Operations.{MakesNode, RemembersPair, RemembersResult};
+ghost use Rattle.tm_game.specs.Making.{MakesNode};
 
 use crate::game::Game;
 use std::alloc::AllocError;

@@ -1,8 +1,8 @@
 use Rattle.std.proofs.Common.{sym, subst}
 use Rattle.tm_dd.specs.Table.{Knows}
+use Rattle.tm_ddops.specs.Remembering.{RemembersResult}
 use Rattle.tm_ddops.specs.declared.operation.Operation.TheVariants as operation
 use Rattle.tm_game.specs.Game.{GameData}
-use Rattle.tm_game.specs.Operations.{RemembersResult}
 use Rattle.tm_game.proofs.Extending.{extended_only, grows_from}
 use Rattle.tm_game.proofs.game.Game.ite.Goals as goal
 
@@ -29,11 +29,4 @@ returns-clause-grows c =
 pub returns-clause-remembers : goal.returns-clause-remembers
 returns-clause-remembers c =
     subst (λ (d : GameData). RemembersResult (operation.Ite c.args.f c.args.g c.args.h) d.diagrams c.ite.new.self
-    c.ite.result) c.self.view_is (record {
-      remembered = c.ite.ensures.remembered;
-      answers = record {
-        again = c.ite.ensures.again;
-        again_same = c.ite.ensures.again_same;
-        grows = c.ite.ensures.grows;
-      };
-    })
+    c.ite.result) c.self.view_is c.ite.ensures.remembers

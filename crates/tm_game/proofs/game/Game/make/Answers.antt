@@ -2,7 +2,7 @@ use Rattle.std.proofs.Common.{◌<◌, sym, subst}
 use Rattle.tm_dd.specs.Reduced.{IsDeeper}
 use Rattle.tm_dd.specs.Table.{Knows}
 use Rattle.tm_game.specs.Game.{GameData}
-use Rattle.tm_game.specs.Operations.{MakesNode}
+use Rattle.tm_game.specs.Making.{MakesNode}
 use Rattle.tm_game.proofs.Extending.{extended_only, grows_from}
 use Rattle.tm_game.proofs.game.Game.make.Goals as goal
 

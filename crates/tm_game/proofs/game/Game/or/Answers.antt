@@ -1,9 +1,9 @@
 use Rattle.std.proofs.Common.{sym, subst}
 use Rattle.tm_dd.specs.Table.{Knows}
 use Rattle.tm_ddops.specs.Connective.{larger, smaller}
+use Rattle.tm_ddops.specs.Remembering.{RemembersPair}
 use Rattle.tm_ddops.specs.declared.operation.Operation.TheVariants as operation
 use Rattle.tm_game.specs.Game.{GameData}
-use Rattle.tm_game.specs.Operations.{RemembersPair}
 use Rattle.tm_game.proofs.Extending.{extended_only, grows_from}
 use Rattle.tm_game.proofs.game.Game.or.Goals as goal
 
@@ -26,12 +26,4 @@ returns-clause-grows c =
 pub returns-clause-remembers : goal.returns-clause-remembers
 returns-clause-remembers c =
     subst (λ (d : GameData). RemembersPair (operation.Or (smaller c.args.f c.args.g) (larger c.args.f c.args.g))
-    c.args.f c.args.g d.diagrams c.or.new.self c.or.result) c.self.view_is (record {
-      remembered = c.or.ensures.remembered;
-      answers = record {
-        again = c.or.ensures.again;
-        again_same = c.or.ensures.again_same;
-        grows = c.or.ensures.grows;
-      };
-      nodes = c.or.ensures.nodes;
-    })
+    c.args.f c.args.g d.diagrams c.or.new.self c.or.result) c.self.view_is c.or.ensures.remembers

@@ -1,9 +1,9 @@
 use Rattle.std.proofs.Common.{sym, subst}
 use Rattle.tm_dd.specs.Table.{Knows}
 use Rattle.tm_ddops.specs.Connective.{larger, smaller}
+use Rattle.tm_ddops.specs.Remembering.{RemembersPair}
 use Rattle.tm_ddops.specs.declared.operation.Operation.TheVariants as operation
 use Rattle.tm_game.specs.Game.{GameData}
-use Rattle.tm_game.specs.Operations.{RemembersPair}
 use Rattle.tm_game.proofs.Extending.{extended_only, grows_from}
 use Rattle.tm_game.proofs.game.Game.xor.Goals as goal
 
@@ -26,12 +26,4 @@ returns-clause-grows c =
 pub returns-clause-remembers : goal.returns-clause-remembers
 returns-clause-remembers c =
     subst (λ (d : GameData). RemembersPair (operation.Xor (smaller c.args.f c.args.g) (larger c.args.f c.args.g))
-    c.args.f c.args.g d.diagrams c.xor.new.self c.xor.result) c.self.view_is (record {
-      remembered = c.xor.ensures.remembered;
-      answers = record {
-        again = c.xor.ensures.again;
-        again_same = c.xor.ensures.again_same;
-        grows = c.xor.ensures.grows;
-      };
-      nodes = c.xor.ensures.nodes;
-    })
+    c.args.f c.args.g d.diagrams c.xor.new.self c.xor.result) c.self.view_is c.xor.ensures.remembers
