@@ -9,5 +9,5 @@ use Rattle.tm_names.proofs.scopes.names.Names.find.Goals as goal
 pub returns : goal.returns
 returns c =
     let key = ap (λ n. lookup (λ key. pointwise nat_eq n (key_bytes key)) c.args.self.now.first.entries)
-        c.new.ensures in
+    c.new.ensures in
     ap (option_map declared_of) (c.copied.ensures ∙ c.get.ensures.value ∙ key)
