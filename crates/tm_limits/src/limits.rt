@@ -108,8 +108,10 @@ pub fn first_limit(
     if let Some(name) = first_long_name(scopes.spec()) {
         return Ok(Some(above(name.place, Quantity::Name, length_of(name))));
     }
-    let counts = task_counts(alloc, scopes, calls)?;
-    first_above(alloc, scopes, graph, order, &counts)
+    let counts = given!(task_counts(alloc, scopes, calls));
+    let found = first_above(alloc, scopes, graph, order, &counts);
+    drop(counts);
+    found
 }
 
 // The fault of the first quantity that is above its limit, in the order of the limits.

@@ -61,10 +61,17 @@ pub(crate) fn task_counts(
     requires short { length order.now ≤ call_depth (spec_tree scopes.now) }
     ensures { IfOk result (AreTaskCounts (spec_tree scopes.now)) }
 {
-    let pausing = pausing_tasks(alloc, scopes, order)?;
-    let statements = task_weights(alloc, scopes, order, Weight::Statements)?;
-    let locations = task_weights(alloc, scopes, order, Weight::Locations)?;
-    let paths = task_paths(alloc, scopes, order)?;
+    let pausing = given!(pausing_tasks(alloc, scopes, order));
+    let weights = task_weights(alloc, scopes, order, Weight::Statements);
+    let statements = given!(weights, pausing);
+    let weights = task_weights(alloc, scopes, order, Weight::Locations);
+    let locations = given!(weights, statements, pausing);
+    let paths = given!(
+        task_paths(alloc, scopes, order),
+        locations,
+        statements,
+        pausing
+    );
     ordered_tasks_are_pausing();
     Ok(TaskCounts {
         pausing,

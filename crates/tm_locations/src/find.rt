@@ -62,8 +62,8 @@ fn walk_process<'t>(
         (map (perform (scope_of at.now.scope) []) (body_stmts (process_tree at.now.process.now).body))) }
 {
     let mut walk = Walk::new(alloc);
-    walk.begin(at.scope, &at.process.body, depth)?;
-    walk.run(callees)?;
-    let start = walk.start_of(at.scope, &at.process.body)?;
+    given!(walk.begin(at.scope, &at.process.body, depth), walk);
+    given!(walk.run(callees), walk);
+    let start = given!(walk.start_of(at.scope, &at.process.body), walk);
     walk.into_table(alloc, start)
 }

@@ -2,6 +2,21 @@
 //! left to be done after it.
 #![tactic(auto)]
 
+/// What a call gives; where memory is wanting, the function says so, and drops what it holds.
+///
+/// `?` would take what is held apart in place, which costs the proof ten times as much.
+macro_rules! given {
+    ($result:expr $(, $held:ident)*) => {
+        match $result {
+            Ok(given) => given,
+            Err(error) => {
+                $(drop($held);)*
+                return Err(error);
+            }
+        }
+    };
+}
+
 mod callees;
 mod find;
 mod laws;

@@ -28,7 +28,7 @@ returns c =
     let spec = spec_tree c.args.scopes.now in
     let none = none_long spec (ap (λ (s : Spec). first_long (all_names (spec_tree s))) (sym c.spec.ensures)
     ∙ sym c.first_long_name.ensures ∙ ap option_copied c.in_default.is) in
-    if_ok c.first_above.result (λ o. MatchOption o (first_above spec ≡ None)
+    if_ok c.first_above-found.result (λ o. MatchOption o (first_above spec ≡ None)
     (λ f. (what : Quantity) × (first_above spec ≡ Some what)
     × (f ≡ fault kind.Limit (above text_start what (count_of spec what))))) (IsFirstLimit spec)
-    (of_counts spec none) c.first_above.ensures
+    (of_counts spec none) c.first_above-found.ensures

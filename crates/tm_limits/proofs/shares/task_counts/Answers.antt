@@ -7,9 +7,9 @@ returns c = record {
   ordered = c.requires.ordered;
   covers = c.requires.covers;
   short = c.requires.short;
-  pausing = c.ordered_tasks_are_pausing.ensures (spec_tree c.args.scopes.now) c.args.order.now c.in_ok-pausing.pausing
-      c.requires.covers c.in_ok-pausing.ensures;
-  statements = c.in_ok-statements.ensures;
-  locations = c.in_ok-locations.ensures;
-  paths = c.in_ok-paths.ensures;
+  pausing = c.ordered_tasks_are_pausing.ensures (spec_tree c.args.scopes.now) c.args.order.now c.in-Ok.given
+      c.requires.covers c.in-Ok.ensures;
+  statements = c.in-Ok-weights.ensures;
+  locations = c.in-Ok-weights-2.ensures;
+  paths = c.in-Ok-task_paths.ensures;
 }

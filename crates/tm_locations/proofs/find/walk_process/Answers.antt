@@ -20,18 +20,18 @@ pub returns-clause-rows : goal.returns-clause-rows
 returns-clause-rows c =
     let u : WalkTables = tables_of c.run.new.self in
     let v : WalkTables = tables_of c.start_of.new.self in
-    IfOk-weaker c.into_table.result (λ (t : Locations). table_of t ≡ table v c.in_ok-start.start) _
+    IfOk-weaker c.into_table.result (λ (t : Locations). table_of t ≡ table v c.in-Ok-start_of.given) _
     (λ t is d over by_text deep.
     let body = body_tree c.args.at.now.process.now.body in
     let all = body_locations (suc c.args.depth) d (scope_of c.args.at.now.scope) [] body [] in
     subst (λ (t : LocationTable). AllZip (IsRow t.trails t.rests) t.rows all) (sym is)
-    (rows-stay u v c.in_ok-start.ensures.grown all
-    (c.in_ok-run.ensures d over by_text all (c.in_ok-begin.ensures d deep)))) c.into_table.ensures
+    (rows-stay u v c.in-Ok-start_of.ensures.grown all
+    (c.in-Ok-run.ensures d over by_text all (c.in-Ok.ensures d deep)))) c.into_table.ensures
 
 pub returns-clause-start : goal.returns-clause-start
 returns-clause-start c =
     let v : WalkTables = tables_of c.start_of.new.self in
-    IfOk-weaker c.into_table.result (λ (t : Locations). table_of t ≡ table v c.in_ok-start.start) _
+    IfOk-weaker c.into_table.result (λ (t : Locations). table_of t ≡ table v c.in-Ok-start_of.given) _
     (λ t is. subst (λ (t : LocationTable). IsRest t.trails t.rests t.start
     (map (perform (scope_of c.args.at.now.scope) []) (body_stmts (body_tree c.args.at.now.process.now.body)))) (sym is)
-    c.in_ok-start.ensures.start) c.into_table.ensures
+    c.in-Ok-start_of.ensures.start) c.into_table.ensures
