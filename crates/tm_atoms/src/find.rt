@@ -1,18 +1,20 @@
 //! Finds the atoms of a design's conditions.
-ghost use Rattle.std.specs.Prelude.{◌≡◌, ℕ, IfOk, IfSome, List, OnOk, Option, length, map};
+ghost use Rattle.std.specs.Prelude.{◌≡◌, ◌++◌, ℕ, IfOk, IfSome, List, Ok, OnOk, Option, length, map};
 ghost use Rattle.std.specs.List.{flat_map};
 ghost use Rattle.std.specs.Option.{option_copied, option_map};
 ghost use Rattle.tm_syntax.specs.Tree as tree;
 ghost use Rattle.tm_syntax.specs.Tree.View.{body_tree, expr_tree};
 ghost use Rattle.tm_syntax.specs.Design.{DesignTree};
-ghost use Rattle.tm_syntax.specs.Design.Atoms.{first_atoms, named_atoms, pool_atoms, process_atoms, task_atoms};
+ghost use Rattle.tm_syntax.specs.Design.Atoms.{claim_atoms, first_atoms, named_atoms, pool_atoms, process_atoms, task_atoms};
 ghost use Rattle.tm_syntax.specs.Design.Scope.{Scope};
 ghost use Rattle.tm_scope.specs.Cells.{HasCells, scope_of};
 ghost use Rattle.tm_atoms.specs.Atoms.{atom_of, listed};
 ghost use Rattle.tm_locations.specs.Locations.{LeadsByText};
 ghost use Rattle.tm_atoms.specs.Conditions.{HasConditions};
 ghost use Rattle.tm_atoms.specs.Orders.{HasCallOrder};
+ghost use Rattle.tm_atoms.specs.Pool.{with_atoms};
 ghost use Rattle.tm_atoms.specs.Inner.Bodies.{named_seen, seen};
+ghost use Rattle.tm_atoms.specs.Inner.Pools.{noted_atoms};
 ghost use Rattle.tm_atoms.specs.Inner.Ranks.{IsRanked};
 ghost use Rattle.tm_atoms.specs.Inner.Walks.{HasWalked, IsIdle, IsRoot, seen_atoms, tables_of};
 
@@ -63,15 +65,46 @@ pub fn list_atoms<'t>(
 {
     let bodies = Bodies::new(cells, scopes, instances);
     let mut walk = Walk::new(alloc);
-    note_goals(&mut walk, &bodies, conditions.goals)?;
-    note_fairs(&mut walk, &bodies, conditions.fairs)?;
+    let first = note_all(&mut walk, &bodies, conditions);
+    atoms_of(walk, first)
+}
+
+// The atoms that have been noted, given how many of them stand in goals and fairness conditions.
+fn atoms_of<'t>(
+    walk: Walk<'t>,
+    first: Result<usize, AllocError>,
+) -> Result<Atoms<'t>, AllocError>
+    ensures { IfOk result (λ t. (first ≡ Ok t.first) × (t.atoms.entries ≡ walk.entry.pool.atoms.entries)) }
+{
+    match first {
+        Ok(first) => Ok(Atoms {
+            atoms: walk.pool.atoms,
+            first,
+        }),
+        Err(error) => Err(error),
+    }
+}
+
+// Notes the atoms of all conditions, and counts those that have been noted once goals and fairness conditions are.
+fn note_all<'t>(
+    walk: &mut Walk<'t>,
+    bodies: &Bodies<'_, 't>,
+    conditions: Conditions<'_>,
+) -> Result<usize, AllocError>
+    ensures all { OnOk result ((d : DesignTree) → HasCells bodies.now d → HasConditions conditions.entry d →
+        (rank : Scope → ℕ) → IsRanked d rank → IsIdle d (tables_of walk.old) →
+        HasWalked d (tables_of walk.old) (tables_of walk.new)
+        (claim_atoms d ++ flat_map (process_atoms d) d.processes ++ flat_map (task_atoms d) d.tasks)) }
+    ensures first { IfOk result (λ first. (d : DesignTree) → HasCells bodies.now d → HasConditions conditions.entry d →
+        IsIdle d (tables_of walk.old) →
+        first ≡ length (with_atoms d (noted_atoms (tables_of walk.old).pool) (claim_atoms d))) }
+{
+    note_goals(walk, bodies, conditions.goals)?;
+    note_fairs(walk, bodies, conditions.fairs)?;
     let first = walk.pool.atoms.len();
-    note_processes(&mut walk, &bodies, conditions.processes)?;
-    note_tasks(&mut walk, &bodies, conditions.tasks)?;
-    Ok(Atoms {
-        atoms: walk.pool.atoms,
-        first,
-    })
+    note_processes(walk, bodies, conditions.processes)?;
+    note_tasks(walk, bodies, conditions.tasks)?;
+    Ok(first)
 }
 
 // Notes the atoms of goals.
