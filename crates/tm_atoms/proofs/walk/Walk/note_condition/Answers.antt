@@ -1,6 +1,7 @@
 use Rattle.std.proofs.Common.{refl}
 use Rattle.std.proofs.lemmas.Result.{on_ok_weaker}
 use Rattle.tm_syntax.specs.Tree.View.{expr_tree}
+use Rattle.tm_syntax.specs.Design.{DesignTree}
 use Rattle.tm_syntax.specs.Design.Atoms.{expr_atoms}
 use Rattle.tm_syntax.specs.Design.Scope.{site}
 use Rattle.tm_scope.specs.Cells.{HasCells, ScopedCells, scope_of}
@@ -21,6 +22,8 @@ returns c =
       entered = refl;
       todo = refl;
       adds = λ d over at there.
-          scope-there _ (site d c.args.scope.instance) at c.scope-cells.result _ (c.scope-cells.ensures d over) there
+          scope-there (λ (s : ScopedCells). (d : DesignTree) → HasCells s.tables d →
+          Adds d (pool_of c.args.self.now.pool) (pool_of c.note_within.new.self)
+          (expr_atoms d (scope_of c.args.scope) (expr_tree c.args.e.now))) (site d c.args.scope.instance) at c.scope-cells.result _ (c.scope-cells.ensures d over) there
           h d over;
     }) c.note_within.ensures
