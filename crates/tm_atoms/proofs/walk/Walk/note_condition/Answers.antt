@@ -24,6 +24,6 @@ returns c =
       adds = λ d over at there.
           scope-there (λ (s : ScopedCells). (d : DesignTree) → HasCells s.tables d →
           Adds d (pool_of c.args.self.now.pool) (pool_of c.note_within.new.self)
-          (expr_atoms d (scope_of c.args.scope) (expr_tree c.args.e.now))) (site d c.args.scope.instance) at c.scope-cells.result _ (c.scope-cells.ensures d over) there
-          h d over;
+          (expr_atoms d (scope_of c.args.scope) (expr_tree c.args.e.now)))
+          (site d c.args.scope.instance) at c.scope-cells.result _ (c.scope-cells.ensures d over) there h d over;
     }) c.note_within.ensures
