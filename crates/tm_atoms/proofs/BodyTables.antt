@@ -1,7 +1,8 @@
 -- What the items of a design are, by tables.
 use Rattle.std.proofs.Common.{◌≡◌, ℕ, Bor, List, Option, None, Some, length, slice_get, refl, sym, ap, ◌∙◌, subst}
 use Rattle.std.proofs.lemmas.Bool.{ltb-true, ltb-false}
-use Rattle.std.proofs.lemmas.Option.{none-some, same_Some, slice_get-get_or, slice_get-map, slice_get_past}
+use Rattle.std.proofs.lemmas.Option.{none-some, slice_get-get_or, slice_get-map, slice_get_past}
+use Rattle.std.specs.Prelude.{IfSome}
 use Rattle.std.specs.Option.{option_copied, option_map, option_and_then}
 use Rattle.std.specs.List.{filter_map}
 use Rattle.std.specs.Slice.{IsItemAt}
@@ -173,12 +174,16 @@ module _ (d : DesignTree) (n : ℕ) where
           body = refl;
         }
 
--- the scope that is found is the one that is asked for
-pub scope-is : {A : Type 0} (o : Option A) (x y : ScopedCells) → Some x ≡ option_map (λ _. y) o → x ≡ y
-scope-is None x y e = absurd (none-some x (sym e))
-scope-is (Some a) x y e = same_Some x y e
+-- what is found, if anything is, is of the body that is asked for
+pub scope-at : {A : Type 0} (o : Option A) (r : Option ScopedCells) (y : ScopedCells) → r ≡ option_map (λ _. y) o →
+    IfSome r (λ s. s.at ≡ y.at)
+scope-at {A} o r y is = subst (λ r. IfSome r (λ (s : ScopedCells). s.at ≡ y.at)) (sym is) (by o)
+  where
+    by : (o : Option A) → IfSome (option_map (λ _. y) o) (λ s. s.at ≡ y.at)
+    by None = tt
+    by (Some a) = refl
 
--- none is found where there is no site
-pub scope-none : {A : Type 0} (o : Option A) (y : ScopedCells) (a : A) → None ≡ option_map (λ _. y) o → o ≡ Some a → ⊥
-scope-none None y a none is = none-some a is
-scope-none (Some b) y a none is = none-some y none
+-- what holds of what is found holds where there is a site
+pub scope-there : {A : Type 0} (P : ScopedCells → Type 0) (o : Option A) (a : A) (r : Option ScopedCells)
+    (y : ScopedCells) → r ≡ option_map (λ _. y) o → o ≡ Some a → IfSome r P → P y
+scope-there P o a r y is there holds = subst (λ r. IfSome r P) (is ∙ ap (option_map (λ _. y)) there) holds

@@ -1,24 +1,31 @@
 //! The bodies of a design, and the expressions of its goals and fairness conditions.
-ghost use Rattle.std.specs.Prelude.{◌≡◌, IfNone, IfSome, None};
+ghost use Rattle.std.specs.Prelude.{◌≡◌, IfNone, IfSome, None, map};
 ghost use Rattle.std.specs.Option.{option_copied, option_map};
-ghost use Rattle.tm_syntax.specs.Tree.View.{body_tree, expr_tree, template_tree};
+ghost use Rattle.tm_syntax.specs.Tree.View.{body_tree, expr_tree, named_tree, template_tree};
 ghost use Rattle.tm_syntax.specs.Scopes.Context as text;
 ghost use Rattle.tm_syntax.specs.Design.{DesignTree};
 ghost use Rattle.tm_syntax.specs.Design.Cells.{called};
 ghost use Rattle.tm_syntax.specs.Design.Scope.{site};
 ghost use Rattle.tm_scope.specs.Cells.{HasCells, scope_of};
-ghost use Rattle.tm_atoms.specs.Inner.Bodies.{IsCallee, instance_template, named_seen, process_seen, seen, task_seen};
+ghost use Rattle.tm_atoms.specs.Inner.Bodies.{IsCallee, claims_of, instance_template, named_seen, process_seen, seen, task_seen};
 
 use std::marker::Model;
 use tm_scope::{BodyName, CellScope, Cells, Scopes, SiteBody, SiteTask, Sites};
 use tm_syntax::design::{Instance, Item};
-use tm_syntax::tree::{Body, Expr, Ident, Spec, Template};
+use tm_syntax::tree::{Body, Expr, Ident, Named, Spec, Template};
 
 // A task or procedure of an instance that is called, with its body.
 #[derive(Drop)]
 pub(crate) struct CalledBody<'t> {
     pub task: SiteTask,
     pub body: &'t Body,
+}
+
+// What is claimed of a design: a goal, or a declared fairness condition.
+#[derive(Clone, Copy)]
+pub(crate) enum Claim {
+    Goal,
+    Fairness,
 }
 
 // A body of an instance.
@@ -143,25 +150,24 @@ impl<'c, 't> Bodies<'c, 't> {
         })
     }
 
-    // The goal that an item of a design is.
-    pub(crate) fn goal(&self, item: &Item) -> Option<&'t Expr>
+    // The goal or the fairness condition that an item of a design is.
+    pub(crate) fn claim(&self, sort: Claim, item: &Item) -> Option<&'t Expr>
         ensures { (d : DesignTree) → HasCells self.now d →
-            option_map expr_tree (option_copied result) ≡ named_seen d (λ t. t.goals) item.now }
+            option_map expr_tree (option_copied result) ≡ named_seen d (claims_of sort) item.now }
     {
         let template = self.template(item.instance)?;
         let index = item.index? as usize;
-        let goal = template.goals.get(index)?;
-        Some(&goal.expr)
+        let claim = claims(template, sort).get(index)?;
+        Some(&claim.expr)
     }
+}
 
-    // The fairness condition that an item of a design is.
-    pub(crate) fn fair(&self, item: &Item) -> Option<&'t Expr>
-        ensures { (d : DesignTree) → HasCells self.now d →
-            option_map expr_tree (option_copied result) ≡ named_seen d (λ t. t.fairs) item.now }
-    {
-        let template = self.template(item.instance)?;
-        let index = item.index? as usize;
-        let fair = template.fairs.get(index)?;
-        Some(&fair.expr)
+// The goals or the fairness conditions of a template.
+fn claims<'t>(template: &'t Template, sort: Claim) -> &'t [Named]
+    ensures { map named_tree result.now ≡ claims_of sort (template_tree template.now) }
+{
+    match sort {
+        Claim::Goal => template.goals.as_slice(),
+        Claim::Fairness => template.fairs.as_slice(),
     }
 }

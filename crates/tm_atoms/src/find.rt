@@ -1,28 +1,29 @@
 //! Finds the atoms of a design's conditions.
-ghost use Rattle.std.specs.Prelude.{◌≡◌, ℕ, IfOk, IfSome, List, OnOk, Option, length, map};
+ghost use Rattle.std.specs.Prelude.{◌≡◌, ◌++◌, ℕ, IfOk, IfSome, Ok, OnOk, Option, length, map};
 ghost use Rattle.std.specs.List.{flat_map};
-ghost use Rattle.std.specs.Option.{option_copied, option_map};
+ghost use Rattle.std.specs.Option.{option_map};
 ghost use Rattle.tm_syntax.specs.Tree as tree;
-ghost use Rattle.tm_syntax.specs.Tree.View.{body_tree, expr_tree};
+ghost use Rattle.tm_syntax.specs.Tree.View.{body_tree};
 ghost use Rattle.tm_syntax.specs.Design.{DesignTree};
-ghost use Rattle.tm_syntax.specs.Design.Atoms.{first_atoms, named_atoms, pool_atoms, process_atoms, task_atoms};
+ghost use Rattle.tm_syntax.specs.Design.Atoms.{claim_atoms, first_atoms, named_atoms, pool_atoms, process_atoms, task_atoms};
 ghost use Rattle.tm_syntax.specs.Design.Scope.{Scope};
 ghost use Rattle.tm_scope.specs.Cells.{HasCells, scope_of};
 ghost use Rattle.tm_atoms.specs.Atoms.{atom_of, listed};
 ghost use Rattle.tm_locations.specs.Locations.{LeadsByText};
 ghost use Rattle.tm_atoms.specs.Conditions.{HasConditions};
 ghost use Rattle.tm_atoms.specs.Orders.{HasCallOrder};
-ghost use Rattle.tm_atoms.specs.Inner.Bodies.{named_seen, seen};
+ghost use Rattle.tm_atoms.specs.Pool.{with_atoms};
+ghost use Rattle.tm_atoms.specs.Inner.Bodies.{claims_of, seen};
+ghost use Rattle.tm_atoms.specs.Inner.Pools.{noted_atoms};
 ghost use Rattle.tm_atoms.specs.Inner.Ranks.{IsRanked};
 ghost use Rattle.tm_atoms.specs.Inner.Walks.{HasWalked, IsIdle, IsRoot, seen_atoms, tables_of};
 
 use crate::atoms::Atoms;
-use crate::bodies::{Bodies, BodyAt};
+use crate::bodies::{Bodies, BodyAt, Claim};
 use crate::walk::Walk;
 use std::alloc::{AllocError, Global};
 use tm_scope::{BodyName, Cells, Scopes, SiteBody};
 use tm_syntax::design::{Instance, Item};
-use tm_syntax::tree::Expr;
 
 /// The items of a design whose conditions have atoms.
 #[derive(Clone, Copy)]
@@ -63,43 +64,61 @@ pub fn list_atoms<'t>(
 {
     let bodies = Bodies::new(cells, scopes, instances);
     let mut walk = Walk::new(alloc);
-    note_goals(&mut walk, &bodies, conditions.goals)?;
-    note_fairs(&mut walk, &bodies, conditions.fairs)?;
-    let first = walk.pool.atoms.len();
-    note_processes(&mut walk, &bodies, conditions.processes)?;
-    note_tasks(&mut walk, &bodies, conditions.tasks)?;
-    Ok(Atoms {
-        atoms: walk.pool.atoms,
-        first,
-    })
+    let first = note_all(&mut walk, &bodies, conditions);
+    drop(bodies);
+    atoms_of(walk, first)
 }
 
-// Notes the atoms of goals.
-fn note_goals<'t>(
-    walk: &mut Walk<'t>,
-    bodies: &Bodies<'_, 't>,
-    goals: &[Item],
-) -> Result<(), AllocError>
-    ensures { OnOk result ((d : DesignTree) → HasCells bodies.now d → IsIdle d (tables_of walk.old) →
-        HasWalked d (tables_of walk.old) (tables_of walk.new) (flat_map (named_atoms d (λ t. t.goals)) goals.now)) }
+// The atoms that have been noted, given how many of them stand in goals and fairness conditions.
+fn atoms_of<'t>(walk: Walk<'t>, first: Result<usize, AllocError>) -> Result<Atoms<'t>, AllocError>
+    ensures { IfOk result (λ t. (first ≡ Ok t.first) × (t.atoms.entries ≡ walk.entry.pool.atoms.entries)) }
 {
-    for item in goals {
-        note_named(walk, bodies, item, bodies.goal(item))?;
+    match first {
+        Ok(first) => Ok(Atoms {
+            atoms: walk.into_atoms(),
+            first,
+        }),
+        Err(error) => {
+            drop(walk);
+            Err(error)
+        }
     }
-    Ok(())
 }
 
-// Notes the atoms of fairness conditions.
-fn note_fairs<'t>(
+// Notes the atoms of all conditions, and counts those that have been noted once goals and fairness conditions are.
+fn note_all<'t>(
     walk: &mut Walk<'t>,
     bodies: &Bodies<'_, 't>,
-    fairs: &[Item],
+    conditions: Conditions<'_>,
+) -> Result<usize, AllocError>
+    ensures all { OnOk result ((d : DesignTree) → HasCells bodies.now d → HasConditions conditions.entry d →
+        (rank : Scope → ℕ) → IsRanked d rank → IsIdle d (tables_of walk.old) →
+        HasWalked d (tables_of walk.old) (tables_of walk.new)
+        (claim_atoms d ++ flat_map (process_atoms d) d.processes ++ flat_map (task_atoms d) d.tasks)) }
+    ensures first { IfOk result (λ first. (d : DesignTree) → HasCells bodies.now d → HasConditions conditions.entry d →
+        IsIdle d (tables_of walk.old) →
+        first ≡ length (with_atoms d (noted_atoms (tables_of walk.old).pool) (claim_atoms d))) }
+{
+    note_claims(walk, bodies, Claim::Goal, conditions.goals)?;
+    note_claims(walk, bodies, Claim::Fairness, conditions.fairs)?;
+    let first = walk.pool.atoms.len();
+    note_processes(walk, bodies, conditions.processes)?;
+    note_tasks(walk, bodies, conditions.tasks)?;
+    Ok(first)
+}
+
+// Notes the atoms of goals or of fairness conditions.
+fn note_claims<'t>(
+    walk: &mut Walk<'t>,
+    bodies: &Bodies<'_, 't>,
+    sort: Claim,
+    items: &[Item],
 ) -> Result<(), AllocError>
     ensures { OnOk result ((d : DesignTree) → HasCells bodies.now d → IsIdle d (tables_of walk.old) →
-        HasWalked d (tables_of walk.old) (tables_of walk.new) (flat_map (named_atoms d (λ t. t.fairs)) fairs.now)) }
+        HasWalked d (tables_of walk.old) (tables_of walk.new) (flat_map (named_atoms d (claims_of sort)) items.now)) }
 {
-    for item in fairs {
-        note_named(walk, bodies, item, bodies.fair(item))?;
+    for item in items {
+        note_claim(walk, bodies, sort, item)?;
     }
     Ok(())
 }
@@ -137,23 +156,20 @@ fn note_tasks<'t>(
 }
 
 // Notes the atoms of a goal or a fairness condition, if it is there.
-fn note_named<'t>(
+fn note_claim<'t>(
     walk: &mut Walk<'t>,
     bodies: &Bodies<'_, 't>,
+    sort: Claim,
     item: &Item,
-    named: Option<&'t Expr>,
 ) -> Result<(), AllocError>
-    ensures { OnOk result ((d : DesignTree) → HasCells bodies.now d →
-        (sort : tree.TemplateTree → List tree.NamedTree) →
-        option_map expr_tree (option_copied named.entry) ≡ named_seen d sort item.now →
-        IsIdle d (tables_of walk.old) →
-        HasWalked d (tables_of walk.old) (tables_of walk.new) (named_atoms d sort item.now)) }
+    ensures { OnOk result ((d : DesignTree) → HasCells bodies.now d → IsIdle d (tables_of walk.old) →
+        HasWalked d (tables_of walk.old) (tables_of walk.new) (named_atoms d (claims_of sort) item.now)) }
 {
     let outside = SiteBody {
         instance: item.instance,
         body: BodyName::Outside,
     };
-    match named {
+    match bodies.claim(sort, item) {
         Some(e) => walk.note_condition(bodies, outside, e),
         None => Ok(()),
     }

@@ -1,5 +1,5 @@
 //! The atoms that have been noted, each once.
-ghost use Rattle.std.specs.Prelude.{◌≡◌, ◌∷◌, [], OnOk, Some};
+ghost use Rattle.std.specs.Prelude.{◌≡◌, ◌∷◌, [], IfSome, OnOk, Some};
 ghost use Rattle.std.specs.Option.{option_map};
 ghost use Rattle.tm_syntax.specs.Tree.View.{expr_tree};
 ghost use Rattle.tm_syntax.specs.Design.{DesignTree};
@@ -38,14 +38,34 @@ impl<'t> Pool<'t> {
         }
     }
 
-    // Notes the atoms of a bool expression of a scope. Linear in the expression, and in its height where comparisons
-    // lie within comparisons.
-    pub(crate) fn note_atoms(
+    // The atoms that have been noted.
+    pub(crate) fn into_atoms(self) -> IndexMap<usize, AtomAt<'t>>
+        ensures { result.entries ≡ self.entry.atoms.entries }
+    {
+        drop(self.table);
+        self.atoms
+    }
+
+    // Notes the atoms of a bool expression of a scope, if that is there.
+    pub(crate) fn note_within(
         &mut self,
-        scope: &CellScope,
+        scope: &Option<CellScope>,
         at: SiteBody,
         e: &'t Expr,
     ) -> Result<(), AllocError>
+        requires { IfSome scope.now (λ s. s.at ≡ at) }
+        ensures { OnOk result (IfSome scope.now (λ s. (d : DesignTree) → HasCells s.tables d →
+            Adds d (pool_of self.old) (pool_of self.new) (expr_atoms d (scope_of at) (expr_tree e.now)))) }
+    {
+        match scope {
+            Some(scope) => self.note_atoms(scope, at, e),
+            None => Ok(()),
+        }
+    }
+
+    // Notes the atoms of a bool expression of a scope. Linear in the expression, and in its height where comparisons
+    // lie within comparisons.
+    fn note_atoms(&mut self, scope: &CellScope, at: SiteBody, e: &'t Expr) -> Result<(), AllocError>
         requires { scope.now.at ≡ at }
         ensures { OnOk result ((d : DesignTree) → HasCells scope.now.tables d →
             Adds d (pool_of self.old) (pool_of self.new) (expr_atoms d (scope_of at) (expr_tree e.now))) }

@@ -14,9 +14,10 @@ ghost use Rattle.tm_atoms.specs.Inner.Ranks.{IsRanked};
 ghost use Rattle.tm_atoms.specs.Inner.Walks.{HasNoted, HasWalked, IsIdle, IsRoot, IsWalking, Settles, part_stmts, tables_of};
 ghost use Rattle.tm_atoms.specs.Inner.Weights.{body_weight, part_weight, stmt_weight, weight};
 
+use crate::atom::AtomAt;
 use crate::bodies::Bodies;
 use crate::pool::Pool;
-use indexmap::IndexSet;
+use indexmap::{IndexMap, IndexSet};
 use std::alloc::{AllocError, Global};
 use tm_scope::{BodyName, SiteBody, SiteTask};
 use tm_syntax::tree::{Body, Expr, Ident, LocalDef, Stmt, Value};
@@ -56,6 +57,15 @@ impl<'t> Walk<'t> {
             entered: IndexSet::new(alloc),
             todo: Vec::new(alloc),
         }
+    }
+
+    // The atoms that have been noted.
+    pub(crate) fn into_atoms(self) -> IndexMap<usize, AtomAt<'t>>
+        ensures { result.entries ≡ self.entry.pool.atoms.entries }
+    {
+        drop(self.entered);
+        drop(self.todo);
+        self.pool.into_atoms()
     }
 
     // Walks a body of an instance to its end.
@@ -312,9 +322,7 @@ impl<'t> Walk<'t> {
         ensures { OnOk result (HasNoted bodies.now (tables_of self.old) (tables_of self.new) (scope_of scope)
             (expr_tree e.now)) }
     {
-        match bodies.scope(scope) {
-            Some(cells) => self.pool.note_atoms(&cells, scope, e),
-            None => Ok(()),
-        }
+        let cells = bodies.scope(scope);
+        self.pool.note_within(&cells, scope, e)
     }
 }

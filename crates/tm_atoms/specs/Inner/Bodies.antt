@@ -12,6 +12,8 @@ use Rattle.tm_syntax.specs.Design.Scope.{Scope}
 use Rattle.tm_scope.specs.Cells.{CellTables}
 use Rattle.tm_scope.specs.Instances.{task_called_at}
 use Rattle.tm_scope.specs.declared.members.SiteTask.{SiteTask}
+use Rattle.tm_atoms.specs.declared.bodies.Claim.{Claim}
+use Rattle.tm_atoms.specs.declared.bodies.Claim.TheVariants.{Fairness, Goal}
 
 -- what is seen of a body that is called: its scope, and the body
 abbrev pub seen : Scope → BodyTree → Scope × BodyTree
@@ -51,6 +53,11 @@ process_seen d item =
 abbrev pub task_seen : DesignTree → Item → Option (Scope × BodyTree)
 task_seen d item =
     item_seen d (λ t. t.tasks) (λ k task. seen (record { instance = item.instance; body = task_body k }) task.body) item
+
+-- the goals of a template, or its fairness conditions
+abbrev pub claims_of : Claim → TemplateTree → List NamedTree
+claims_of Goal t = t.goals
+claims_of Fairness t = t.fairs
 
 -- the expression of a goal or a fairness condition
 abbrev pub named_seen : DesignTree → (TemplateTree → List NamedTree) → Item → Option ExprTree

@@ -1,22 +1,23 @@
-use Rattle.std.proofs.Common.{◌≡◌, None, Some, sym, ap, ◌∙◌}
-use Rattle.std.specs.Option.{option_copied, option_map}
+use Rattle.std.proofs.Common.{◌≡◌, List, None, Some}
 use Rattle.std.proofs.lemmas.Result.{on_ok_weaker}
+use Rattle.tm_syntax.specs.Tree.{NamedTree, TemplateTree}
 use Rattle.tm_syntax.specs.Tree.View.{expr_tree}
-use Rattle.tm_atoms.specs.Inner.Bodies.{named_seen}
+use Rattle.tm_atoms.specs.Inner.Bodies.{claims_of, named_seen}
 use Rattle.tm_atoms.specs.Inner.Walks.{tables_of}
 use Rattle.tm_atoms.proofs.Listing.{named-absent, named-walked}
-use Rattle.tm_atoms.proofs.find.note_named.Goals as goal
+use Rattle.tm_atoms.proofs.find.note_claim.Goals as goal
 
 pub returns-in-Some : goal.returns-in-Some
 returns-in-Some c =
-    on_ok_weaker c.note_condition.result (λ h d over sort is idle.
+    on_ok_weaker c.note_condition.result (λ h d over idle.
+    let sort : TemplateTree → List NamedTree = claims_of c.args.sort in
     let there : Some (expr_tree c.in-Some.e.now) ≡ named_seen d sort c.args.item.now =
-    ap (λ o. option_map expr_tree (option_copied o)) (sym c.in-Some.is) ∙ is in
+    c.in-Some.ensures d over in
     named-walked d sort c.args.item.now c.args.bodies.now over (expr_tree c.in-Some.e.now) there
     (tables_of c.args.walk.now) (tables_of c.note_condition.new.self) h idle) c.note_condition.ensures
 
 pub returns-in-None : goal.returns-in-None
-returns-in-None c = λ d over sort is idle.
-    let absent : None ≡ named_seen d sort c.args.item.now =
-    ap (λ o. option_map expr_tree (option_copied o)) (sym c.in-None.is) ∙ is in
+returns-in-None c = λ d over idle.
+    let sort : TemplateTree → List NamedTree = claims_of c.args.sort in
+    let absent : None ≡ named_seen d sort c.args.item.now = c.in-None.ensures d over in
     named-absent d sort c.args.item.now absent (tables_of c.args.walk.now) idle
