@@ -5,7 +5,8 @@ use Rattle.std.specs.Prelude.{slice_get}
 use Rattle.std.specs.List.{list_any}
 use Rattle.std.proofs.lemmas.Option.{slice_get-get_or, slice_get_within}
 use Rattle.tm_check.specs.declared.loaded.DriverDiagrams.{DriverDiagrams}
-use Rattle.tm_check.specs.Leaving.{HasRank, IsRising, IsStaying}
+use Rattle.tm_check.specs.declared.steps.Descent.{Descent}
+use Rattle.tm_check.specs.Leaving.{HasRank, IsAsked, IsBreaking, IsFairFor, allowed_ranks}
 use Rattle.tm_check.specs.Told.{IsTold}
 use Rattle.tm_check.proofs.States.{never_true, false_never, states_and, states_or, states_same, states_without}
 use Rattle.tm_cir.specs.Answer.{Answers}
@@ -18,7 +19,6 @@ use Rattle.tm_verdict.proofs.Ranks.{of_rank, rank_is}
 use Rattle.tm_game.specs.Game.{GameData, IsStates}
 use Rattle.tm_sem.specs.declared.state.Move.{Move}
 use Rattle.tm_sem.specs.Certificates.{AreRanked, DriverSets, RankedSet, rank}
-use Rattle.tm_sem.specs.Fairness.{IsFair}
 use Rattle.tm_sem.specs.Forcing.{IsCalm}
 use Rattle.tm_sem.specs.Play.{goal_holds}
 use Rattle.tm_sem.specs.State.{StateData}
@@ -235,47 +235,55 @@ module _ (d : DesignTree) (bs : List BlockTree) (c : DriverSets) (order : List �
         rank_is ranked index st (slice_get_within ranked index r at) (of_this h.ranked st h.are h.of))
         (adding_is d order s t ranked index r set before id at set_is before_is is)
 
-    pub rising_is : (s t : Table) (own leaving id : NodeId) → IsStates d order s (HasRank c goal index) own →
-        IsStates d order s (MayLeave d (Answers bs) (within_rank ranked (1 + index)) goal) leaving →
-        IsFunction t id (λ v. means s own v && means s leaving v) →
-        IsStates d order t (IsRising d bs c goal index) id
-    rising_is s t own leaving id own_is leaving_is is =
-        states_same d order t
-        (λ st. HasRank c goal index st × MayLeave d (Answers bs) (within_rank ranked (1 + index)) goal st)
-        (IsRising d bs c goal index) id
+    -- those of which a descent asks something
+    pub asked_is : (descent : Descent) (s : Table) (id : NodeId) →
+        IsStates d order s
+        (λ st. (HasRank c goal index st × Awaits d c goal st) × IsFairFor d descent r.fair st) id →
+        IsStates d order s (IsAsked d c descent goal index) id
+    asked_is descent s id is =
+        states_same d order s
+        (λ st. (HasRank c goal index st × Awaits d c goal st) × IsFairFor d descent r.fair st)
+        (IsAsked d c descent goal index) id
+        (λ st valid h. record {
+          ranked = ranked;
+          own = r;
+          are = are;
+          at = at;
+          of = of_this h.0.0.ranked st h.0.0.are h.0.0.of;
+          awaits = h.0.1;
+          fair = h.1;
+        })
         (λ st valid h.
-        (ranked, r, are, at, of_this h.0.ranked st h.0.are h.0.of, h.1))
-        (λ st valid h. (
-          record { ranked = h.0; are = h.2; of = h.4 },
-          subst (λ (xs : List RankedSet). MayLeave d (Answers bs) (within_rank xs (1 + index)) goal st)
-              (same_ranked h.0 h.2) h.5,
-        ))
-        (states_and d order s t (HasRank c goal index)
-        (MayLeave d (Answers bs) (within_rank ranked (1 + index)) goal) own leaving id own_is leaving_is is)
+        let same = same_ranked h.ranked h.are in
+        let one : Some h.own ≡ Some r = sym h.at ∙ ap (λ xs. slice_get xs index) same ∙ at in
+        let own_rank : h.own ≡ r = cc in (
+          (record { ranked = h.ranked; are = h.are; of = h.of }, h.awaits),
+          subst (λ (x : RankedSet). IsFairFor d descent x.fair st) own_rank h.fair,
+        )) is
 
-    pub staying_is : (s t u : Table) (own fair waiting leaving id : NodeId) →
-        IsStates d order s (HasRank c goal index) own → IsStates d order s (λ st. IsFair d st r.fair) fair →
-        IsFunction t waiting (λ v. means s own v && means s fair v) →
-        IsStates d order t (MayLeave d (Answers bs) (within_rank ranked index) goal) leaving →
-        IsFunction u id (λ v. means t waiting v && means t leaving v) →
-        IsStates d order u (IsStaying d bs c goal index) id
-    staying_is s t u own fair waiting leaving id own_is fair_is waiting_is leaving_is is =
-        states_same d order u
-        (λ st. (HasRank c goal index st × IsFair d st r.fair)
-        × MayLeave d (Answers bs) (within_rank ranked index) goal st) (IsStaying d bs c goal index) id
-        (λ st valid h.
-        (ranked, r, are, at, of_this h.0.0.ranked st h.0.0.are h.0.0.of, h.0.1, h.1))
-        (λ st valid h.
-        let same = same_ranked h.0 h.2 in
-        let one : Some h.1 ≡ Some r = sym h.3 ∙ ap (λ xs. slice_get xs index) same ∙ at in
-        let own_rank : h.1 ≡ r = cc in (
-          (
-            record { ranked = h.0; are = h.2; of = h.4 },
-            subst (λ (x : RankedSet). IsFair d st x.fair) own_rank h.5,
-          ),
-          subst (λ (xs : List RankedSet). MayLeave d (Answers bs) (within_rank xs index) goal st) same h.6,
-        ))
-        (states_and d order t u (λ st. HasRank c goal index st × IsFair d st r.fair)
-        (MayLeave d (Answers bs) (within_rank ranked index) goal) waiting leaving id
-        (states_and d order s t (HasRank c goal index) (λ st. IsFair d st r.fair) own fair waiting own_is fair_is
-        waiting_is) leaving_is is)
+-- those among them at which it is broken
+module _ (d : DesignTree) (bs : List BlockTree) (c : DriverSets) (order : List ℕ) (goal index : ℕ)
+    (ranked : List RankedSet) (are : AreRanked c goal ranked) (descent : Descent) where
+  -- not every step stays within the ranks that it allows
+  abbrev Leaves : List RankedSet → StateData → Type 0
+  Leaves xs st = MayLeave d (Answers bs) (within_rank xs (allowed_ranks descent index)) goal st
+
+  pub breaking_is : (s t : Table) (asked leaving id : NodeId) →
+      IsStates d order s (IsAsked d c descent goal index) asked →
+      IsStates d order s (MayLeave d (Answers bs) (within_rank ranked (allowed_ranks descent index)) goal) leaving →
+      IsFunction t id (λ v. means s asked v && means s leaving v) →
+      IsStates d order t (IsBreaking d bs c descent goal index) id
+  breaking_is s t asked leaving id asked_are leaving_is is =
+      states_same d order t (λ st. IsAsked d c descent goal index st × Leaves ranked st)
+      (IsBreaking d bs c descent goal index) id
+      (λ st valid h. (
+        h.0,
+        subst (λ (xs : List RankedSet). Leaves xs st)
+            (one_ranked d order (Answers bs) c goal ranked h.0.ranked are h.0.are) h.1,
+      ))
+      (λ st valid h. (
+        h.0,
+        subst (λ (xs : List RankedSet). Leaves xs st)
+            (one_ranked d order (Answers bs) c goal h.0.ranked ranked h.0.are are) h.1,
+      ))
+      (states_and d order s t (IsAsked d c descent goal index) (Leaves ranked) asked leaving id asked_are leaving_is is)

@@ -1,6 +1,6 @@
 -- The parts that speak of steps.
-use Rattle.std.proofs.Common.{◌≡◌, ◌⊎◌, inl, inr, ℕ, ◌+◌, ◌<◌, ◌≤◌, true, ◌&&◌, ◌||◌, not, List, Some, length, get_or}
-use Rattle.std.proofs.Common.{sym, ap, ◌∙◌, subst, arith}
+use Rattle.std.proofs.Common.{◌≡◌, ◌⊎◌, inl, inr, ℕ, ◌+◌, ◌<◌, true, ◌&&◌, ◌||◌, not, List, Some, length, get_or}
+use Rattle.std.proofs.Common.{refl, sym, subst, arith}
 use Rattle.std.specs.Prelude.{slice_get}
 use Rattle.std.proofs.lemmas.Bool.{cases_lt}
 use Rattle.std.proofs.lemmas.Option.{slice_get-get_or, slice_get_within}
@@ -9,11 +9,15 @@ use Rattle.tm_check.proofs.Growth.{sized_kept}
 use Rattle.tm_check.specs.declared.leaving.Leaving.{Leaving}
 use Rattle.tm_check.specs.declared.loaded.DriverDiagrams.{DriverDiagrams}
 use Rattle.tm_check.specs.declared.loaded.RankedDiagrams.{RankedDiagrams}
-use Rattle.tm_check.specs.Leaving.{AreLeaving, HasRank, IsRising, IsRisingBelow, IsStaying, IsStayingBelow}
+use Rattle.tm_check.specs.declared.steps.Descent.{Descent}
+use Rattle.tm_check.specs.declared.steps.Descent.TheVariants.{FallsWhenFair, NeverRises}
+use Rattle.tm_check.specs.Leaving.{AreLeaving, HasRank, IsAsked, IsBreaking, IsBreakingBelow, allowed_ranks, part_of}
 use Rattle.tm_check.specs.Loaded.{row_at}
 use Rattle.tm_check.specs.Told.{IsTold}
+use Rattle.tm_check.specs.Tried.{HavePassed}
 use Rattle.tm_check.proofs.Found.{own}
-use Rattle.tm_check.proofs.Parts.{answering_is, awaiting_is, calming_is, rank_states, ranked_here, rising_is, staying_is}
+use Rattle.tm_check.proofs.Parts.{answering_is, asked_is, awaiting_is, breaking_is, calming_is, rank_states}
+use Rattle.tm_check.proofs.Parts.{ranked_here}
 use Rattle.tm_check.proofs.States.{states_and, states_none, states_or, states_same}
 use Rattle.tm_check.proofs.Staying.{answered_same, calm_same}
 use Rattle.tm_cir.specs.Answer.{Answers}
@@ -22,9 +26,9 @@ use Rattle.tm_dd.specs.declared.node.NodeId.{NodeId}
 use Rattle.tm_dd.specs.declared.node.TheConstants.{FALSE}
 use Rattle.tm_dd.specs.Table.{means}
 use Rattle.tm_ddops.specs.Manager.{IsFunction}
-use Rattle.tm_verdict.specs.Found.{AnswerKeeps, Awaits, IsFound, MayLeave, within_rank}
+use Rattle.tm_verdict.specs.Found.{AnswerKeeps, Awaits, IsFound, MayLeave, NamesStates, RestsOn, within_rank}
 use Rattle.tm_game.specs.Game.{AreFairs, AreGoals, GameData, Grows, IsStates, in_set}
-use Rattle.tm_game.proofs.Growing.{grows_none, grows_then, of_kept, states_kept}
+use Rattle.tm_game.proofs.Growing.{grows_none, of_kept, states_kept}
 use Rattle.tm_sem.specs.Certificates.{AreRanked, DriverSets, RankedSet}
 use Rattle.tm_sem.specs.Fairness.{IsFair, conditions}
 use Rattle.tm_sem.specs.Forcing.{IsCalm}
@@ -32,7 +36,7 @@ use Rattle.tm_sem.specs.Play.{goal_holds}
 use Rattle.tm_sem.specs.State.{StateData}
 use Rattle.tm_sem.specs.Step.{is_driver_turn}
 use Rattle.tm_syntax.specs.Design.{DesignTree}
-use Rattle.tm_verdict.specs.Driver.{falls_when_fair, is_answered, is_calm, never_rises}
+use Rattle.tm_verdict.specs.Driver.{driver_goal, falls_when_fair, is_answered, is_calm, never_rises}
 
 module _ (d : DesignTree) (bs : List BlockTree) (c : DriverSets) (told : DriverDiagrams) where
   -- C3
@@ -97,153 +101,176 @@ module _ (d : DesignTree) (bs : List BlockTree) (c : DriverSets) (told : DriverD
         (rank_states d bs c g.order goal index ranked.0 this.0 ranked.1 this.1 g.diagrams.table h.diagrams.table x.set
         x.before id this.2.set this.2.before fn)
 
-    -- ---- rank by rank
-    module _ (P : ℕ → StateData → Type 0) where
-      -- the states of the first ranks
-      abbrev Below : ℕ → StateData → Type 0
-      Below count s = (index : ℕ) × (index < count) × P index s
+    -- ---- of one rank
+    module _ (g : GameData) (is : IsTold d bs c g told) (there : goal < length told.goals.items) (index : ℕ)
+        (x : RankedDiagrams) (at : slice_get (row_at told goal) index ≡ Some x) (h k : GameData) (gh : Grows g h)
+        (hk : Grows h k) (own_id awaiting waiting : NodeId)
+        (own_is : IsStates d h.order h.diagrams.table (HasRank c goal index) own_id)
+        (awaiting_is : IsStates d g.order g.diagrams.table (Awaits d c goal) awaiting)
+        (waiting_fn : IsFunction k.diagrams.table waiting
+        (λ v. means h.diagrams.table own_id v && means h.diagrams.table awaiting v)) where
+      waiting_is : IsStates d k.order k.diagrams.table (λ st. HasRank c goal index st × Awaits d c goal st) waiting
+      waiting_is =
+          subst (λ (o : List ℕ).
+          IsStates d o k.diagrams.table (λ st. HasRank c goal index st × Awaits d c goal st) waiting) (sym hk.order)
+          (states_and d h.order h.diagrams.table k.diagrams.table (HasRank c goal index) (Awaits d c goal) own_id
+          awaiting waiting own_is (states_kept g h gh d (Awaits d c goal) awaiting awaiting_is) waiting_fn)
 
-      below_none : (g : GameData) → IsStates d g.order g.diagrams.table (Below 0) FALSE
-      below_none g = states_none d g.order g.diagrams.table (Below 0) (λ st h. absurd (omega (arith, h.1)))
+      -- C5 asks for no fairness
+      pub asked_always : IsStates d k.order k.diagrams.table (IsAsked d c NeverRises goal index) waiting
+      asked_always =
+          let ranked = ranked_here d bs c g told is goal there in
+          let one = own d bs c told g h is gh goal there index x at in
+          asked_is d bs c k.order goal index ranked.0 one.0 ranked.1 one.1 NeverRises k.diagrams.table waiting
+          (states_same d k.order k.diagrams.table (λ st. HasRank c goal index st × Awaits d c goal st)
+          (λ st. (HasRank c goal index st × Awaits d c goal st) × Unit {0}) waiting (λ st valid p. (p, tt))
+          (λ st valid p. p.0) waiting_is)
 
-      below_more : (g h : GameData) → Grows g h → (index : ℕ) (set one id : NodeId) →
-          IsStates d g.order g.diagrams.table (Below index) set → IsStates d g.order g.diagrams.table (P index) one →
-          IsFunction h.diagrams.table id (λ v. means g.diagrams.table set v || means g.diagrams.table one v) →
-          IsStates d h.order h.diagrams.table (Below (index + 1)) id
-      below_more g h grows index set one id set_is one_is fn =
-          subst (λ (o : List ℕ). IsStates d o h.diagrams.table (Below (index + 1)) id) (sym grows.order)
-          (states_same d g.order h.diagrams.table (λ st. Below index st ⊎ P index st) (Below (index + 1)) id
-          (λ st valid h. to st h) (λ st valid h. from st h)
-          (states_or d g.order g.diagrams.table h.diagrams.table (Below index) (P index) set one id set_is one_is fn))
+      -- C6 does
+      pub asked_when_fair : (l : GameData) → Grows k l → (fair id : NodeId) →
+          IsStates d k.order k.diagrams.table (λ s. IsFair d s x.fair) fair →
+          IsFunction l.diagrams.table id
+          (λ v. means k.diagrams.table waiting v && means k.diagrams.table fair v) →
+          IsStates d l.order l.diagrams.table (IsAsked d c FallsWhenFair goal index) id
+      asked_when_fair l kl fair id fair_is fn =
+          let ranked = ranked_here d bs c g told is goal there in
+          let one = own d bs c told g h is gh goal there index x at in
+          subst (λ (o : List ℕ). IsStates d o l.diagrams.table (IsAsked d c FallsWhenFair goal index) id)
+          (sym kl.order)
+          (asked_is d bs c k.order goal index ranked.0 one.0 ranked.1 one.1 FallsWhenFair l.diagrams.table id
+          (states_and d k.order k.diagrams.table l.diagrams.table
+          (λ st. HasRank c goal index st × Awaits d c goal st) (λ st. IsFair d st one.0.fair) waiting fair id waiting_is
+          (subst (λ (n : ℕ). IsStates d k.order k.diagrams.table (λ s. IsFair d s n) fair) one.2.fair fair_is) fn))
+
+    module _ (descent : Descent) where
+      -- where not every step stays within the ranks that are allowed
+      pub breaking_found : (g h k : GameData) (is : IsTold d bs c g told) → goal < length told.goals.items →
+          (all : List Leaving) → AreLeaving d bs c g all → (leaving : Leaving) → slice_get all goal ≡ Some leaving →
+          (index : ℕ) → Grows g h → Grows h k → (asked left id : NodeId) →
+          slice_get leaving.sets.items (allowed_ranks descent index) ≡ Some left →
+          IsStates d h.order h.diagrams.table (IsAsked d c descent goal index) asked →
+          IsFunction k.diagrams.table id
+          (λ v. means h.diagrams.table asked v && means h.diagrams.table left v) →
+          IsStates d k.order k.diagrams.table (IsBreaking d bs c descent goal index) id
+      breaking_found g h k is there all leaving_are leaving this index gh hk asked left id found asked_is fn =
+          let ranked = ranked_here d bs c g told is goal there in
+          let left_is = (leaving_are.each goal leaving this).each ranked.0 (allowed_ranks descent index) left ranked.1
+          found in
+          subst (λ (o : List ℕ). IsStates d o k.diagrams.table (IsBreaking d bs c descent goal index) id)
+          (sym hk.order)
+          (breaking_is d bs c h.order goal index ranked.0 ranked.1 descent h.diagrams.table k.diagrams.table asked left
+          id asked_is
+          (states_kept g h gh d (MayLeave d (Answers bs) (within_rank ranked.0 (allowed_ranks descent index)) goal) left
+          left_is) fn)
+
+      -- ---- rank by rank
+      pub breaking_none : (g : GameData) →
+          IsStates d g.order g.diagrams.table (IsBreakingBelow d bs c descent goal 0) FALSE
+      breaking_none g =
+          states_none d g.order g.diagrams.table (IsBreakingBelow d bs c descent goal 0)
+          (λ st h. absurd (omega (arith, h.1)))
+
+      pub breaking_more : (g h k : GameData) → Grows g h → Grows h k → (index : ℕ) (set one id : NodeId) →
+          IsStates d g.order g.diagrams.table (IsBreakingBelow d bs c descent goal index) set →
+          IsStates d h.order h.diagrams.table (IsBreaking d bs c descent goal index) one →
+          IsFunction k.diagrams.table id (λ v. means h.diagrams.table set v || means h.diagrams.table one v) →
+          IsStates d k.order k.diagrams.table (IsBreakingBelow d bs c descent goal (index + 1)) id
+      breaking_more g h k gh hk index set one id set_is one_is fn =
+          subst (λ (o : List ℕ). IsStates d o k.diagrams.table (IsBreakingBelow d bs c descent goal (index + 1)) id)
+          (sym hk.order)
+          (states_same d h.order k.diagrams.table
+          (λ st. IsBreakingBelow d bs c descent goal index st ⊎ IsBreaking d bs c descent goal index st)
+          (IsBreakingBelow d bs c descent goal (index + 1)) id (λ st valid h. to st h) (λ st valid h. from st h)
+          (states_or d h.order h.diagrams.table k.diagrams.table (IsBreakingBelow d bs c descent goal index)
+          (IsBreaking d bs c descent goal index) set one id
+          (states_kept g h gh d (IsBreakingBelow d bs c descent goal index) set set_is) one_is fn))
         where
-          to : (st : StateData) → Below index st ⊎ P index st → Below (index + 1) st
+          to : (st : StateData) →
+              IsBreakingBelow d bs c descent goal index st ⊎ IsBreaking d bs c descent goal index st →
+              IsBreakingBelow d bs c descent goal (index + 1) st
           to st (inl h) = (h.0, omega (arith, h.1), h.2)
           to st (inr h) = (index, omega arith, h)
 
-          from : (st : StateData) → Below (index + 1) st → Below index st ⊎ P index st
+          from : (st : StateData) → IsBreakingBelow d bs c descent goal (index + 1) st →
+              IsBreakingBelow d bs c descent goal index st ⊎ IsBreaking d bs c descent goal index st
           from st h =
-              elim (cases_lt h.0 index) as (λ _. Below index st ⊎ P index st) [
+              elim (cases_lt h.0 index) as
+              (λ _. IsBreakingBelow d bs c descent goal index st ⊎ IsBreaking d bs c descent goal index st) [
                 | inl before ↦ inl (h.0, before, h.2)
                 | inr behind ↦
                     let same : h.0 ≡ index = omega (arith, h.1) in
-                    inr (subst (λ (k : ℕ). P k st) same h.2)
+                    inr (subst (λ (k : ℕ). IsBreaking d bs c descent goal k st) same h.2)
               ]
 
-    pub rising_none : (g : GameData) → IsStates d g.order g.diagrams.table (IsRisingBelow d bs c goal 0) FALSE
-    rising_none g = below_none (IsRising d bs c goal) g
-
-    pub staying_none : (g : GameData) → IsStates d g.order g.diagrams.table (IsStayingBelow d bs c goal 0) FALSE
-    staying_none g = below_none (IsStaying d bs c goal) g
-
-    module _ (g : GameData) (is : IsTold d bs c g told) (there : goal < length told.goals.items) (all : List Leaving)
-        (leaving_are : AreLeaving d bs c g all) (leaving : Leaving) (this : slice_get all goal ≡ Some leaving)
-        (index : ℕ) (x : RankedDiagrams) (at : slice_get (row_at told goal) index ≡ Some x) where
-      pub rising_more : (h k l : GameData) → Grows g h → Grows h k → Grows k l → (own_id leave rising set id : NodeId) →
-          slice_get leaving.sets.items (index + 1) ≡ Some leave →
-          IsStates d h.order h.diagrams.table (HasRank c goal index) own_id →
-          IsFunction k.diagrams.table rising
-          (λ v. means h.diagrams.table own_id v && means h.diagrams.table leave v) →
-          IsFunction l.diagrams.table id (λ v. means k.diagrams.table set v || means k.diagrams.table rising v) →
-          IsStates d g.order g.diagrams.table (IsRisingBelow d bs c goal index) set →
-          IsStates d l.order l.diagrams.table (IsRisingBelow d bs c goal (index + 1)) id
-      rising_more h k l gh hk kl own_id leave rising set id found own_is rising_fn fn set_is =
-          let ranked = ranked_here d bs c g told is goal there in
-          let one = own d bs c told g h is gh goal there index x at in
-          let more : index + 1 ≡ 1 + index = omega arith in
-          let leave_is = (leaving_are.each goal leaving this).each ranked.0 (1 + index) leave ranked.1
-          (ap (slice_get leaving.sets.items) (sym more) ∙ found) in
-          below_more (IsRising d bs c goal) k l kl index set rising id
-          (states_kept g k (grows_then g h k gh hk) d (IsRisingBelow d bs c goal index) set set_is)
-          (subst (λ (o : List ℕ). IsStates d o k.diagrams.table (IsRising d bs c goal index) rising) (sym hk.order)
-          (rising_is d bs c h.order goal index ranked.0 one.0 ranked.1 one.1 h.diagrams.table k.diagrams.table own_id
-          leave rising own_is
-          (states_kept g h gh d (MayLeave d (Answers bs) (within_rank ranked.0 (1 + index)) goal) leave leave_is)
-          rising_fn)) fn
-
-      pub staying_more : (h k l m : GameData) → Grows g h → Grows h k → Grows k l → Grows l m →
-          (own_id fair waiting leave staying set id : NodeId) → slice_get leaving.sets.items index ≡ Some leave →
-          IsStates d h.order h.diagrams.table (HasRank c goal index) own_id →
-          IsStates d h.order h.diagrams.table (λ s. IsFair d s x.fair) fair →
-          IsFunction k.diagrams.table waiting
-          (λ v. means h.diagrams.table own_id v && means h.diagrams.table fair v) →
-          IsFunction l.diagrams.table staying
-          (λ v. means k.diagrams.table waiting v && means k.diagrams.table leave v) →
-          IsFunction m.diagrams.table id (λ v. means l.diagrams.table set v || means l.diagrams.table staying v) →
-          IsStates d g.order g.diagrams.table (IsStayingBelow d bs c goal index) set →
-          IsStates d m.order m.diagrams.table (IsStayingBelow d bs c goal (index + 1)) id
-      staying_more h k l m gh hk kl lm own_id fair waiting leave staying set id found own_is fair_is waiting_fn
-          staying_fn fn set_is =
-          let ranked = ranked_here d bs c g told is goal there in
-          let one = own d bs c told g h is gh goal there index x at in
-          let gk = grows_then g h k gh hk in
-          let leave_is = (leaving_are.each goal leaving this).each ranked.0 index leave ranked.1 found in
-          below_more (IsStaying d bs c goal) l m lm index set staying id
-          (states_kept g l (grows_then g k l gk kl) d (IsStayingBelow d bs c goal index) set set_is)
-          (subst (λ (o : List ℕ). IsStates d o l.diagrams.table (IsStaying d bs c goal index) staying)
-          (sym (kl.order ∙ hk.order))
-          (staying_is d bs c h.order goal index ranked.0 one.0 ranked.1 one.1 h.diagrams.table k.diagrams.table
-          l.diagrams.table own_id fair waiting leave staying own_is
-          (subst (λ (n : ℕ). IsStates d h.order h.diagrams.table (λ s. IsFair d s n) fair) one.2.fair fair_is)
-          waiting_fn
-          (subst (λ (o : List ℕ).
-          IsStates d o k.diagrams.table (MayLeave d (Answers bs) (within_rank ranked.0 index) goal) leave) hk.order
-          (states_kept g k gk d (MayLeave d (Answers bs) (within_rank ranked.0 index) goal) leave leave_is))
-          staying_fn))
-          fn
-
     -- ---- all ranks
-    module _ (g : GameData) (is : IsTold d bs c g told) (there : goal < length told.goals.items) (count : ℕ)
-        (all : length (row_at told goal) ≤ count) (few : count ≤ length (row_at told goal)) (h k l : GameData)
-        (hk : Grows h k) (kl : Grows k l) (waiting set failing : NodeId)
-        (waiting_is : IsStates d k.order k.diagrams.table (Awaits d c goal) waiting)
-        (fn : IsFunction l.diagrams.table failing
-        (λ v. means k.diagrams.table waiting v && means k.diagrams.table set v)) where
-      same_ranked : (other : List RankedSet) → AreRanked c goal other →
-          length other ≡ length (row_at told goal)
-      same_ranked other also = sym (is.diagrams.each goal other also).count
+    module _ (g : GameData) (is : IsTold d bs c g told) (count : ℕ) (all : count ≡ length (row_at told goal))
+        (h : GameData) (failing : NodeId) where
+      as_many : (ranked : List RankedSet) → AreRanked c goal ranked → length ranked ≡ length (row_at told goal)
+      as_many ranked are = sym (is.diagrams.each goal ranked are).count
 
-      -- the states of a set at which the goal fails
-      both : (P : StateData → Type 0) → IsStates d h.order h.diagrams.table P set →
-          IsStates d l.order l.diagrams.table (λ st. Awaits d c goal st × P st) failing
-      both P set_is =
-          subst (λ (o : List ℕ). IsStates d o l.diagrams.table (λ st. Awaits d c goal st × P st) failing) (sym kl.order)
-          (states_and d k.order k.diagrams.table l.diagrams.table (Awaits d c goal) P waiting set failing waiting_is
-          (states_kept h k hk d P set set_is) fn)
-
-      pub rising_found : IsStates d h.order h.diagrams.table (IsRisingBelow d bs c goal count) set →
-          IsStates d l.order l.diagrams.table (IsFound d (Answers bs) c (never_rises goal)) failing
-      rising_found found =
-          states_same d l.order l.diagrams.table (λ st. Awaits d c goal st × IsRisingBelow d bs c goal count st)
+      pub all_breaking : (descent : Descent) →
+          IsStates d h.order h.diagrams.table (IsBreakingBelow d bs c descent goal count) failing →
+          IsStates d h.order h.diagrams.table (IsFound d (Answers bs) c (part_of descent goal)) failing
+      all_breaking NeverRises found =
+          states_same d h.order h.diagrams.table (IsBreakingBelow d bs c NeverRises goal count)
           (IsFound d (Answers bs) c (never_rises goal)) failing
-          (λ st valid h.
-          let r = h.1 in
-          (r.2.0, r.0, r.2.2, slice_get_within r.2.0 r.0 r.2.1 r.2.3, h.0, r.2.4, r.2.5))
-          (λ st valid r.
+          (λ st valid b.
+          let asked = b.2.0 in
+          let below = slice_get_within asked.ranked b.0 asked.own asked.at in
+          (asked.ranked, b.0, asked.are, below, asked.awaits, asked.of, b.2.1))
+          (λ st valid f.
           let spare : RankedSet = record { fair = 0; set = λ s. true } in (
-            r.4,
+            f.1,
+            omega (arith, f.3, as_many f.0 f.2, all),
             (
-              r.1,
-              omega (arith, r.3, same_ranked r.0 r.2),
-              (r.0, get_or r.0 r.1 spare, r.2, slice_get-get_or r.0 r.1 spare r.3, r.5, r.6),
+              record {
+                ranked = f.0;
+                own = get_or f.0 f.1 spare;
+                are = f.2;
+                at = slice_get-get_or f.0 f.1 spare f.3;
+                of = f.5;
+                awaits = f.4;
+                fair = tt;
+              },
+              f.6,
             ),
-          )) (both (IsRisingBelow d bs c goal count) found)
-
-      pub staying_found : IsStates d h.order h.diagrams.table (IsStayingBelow d bs c goal count) set →
-          IsStates d l.order l.diagrams.table (IsFound d (Answers bs) c (falls_when_fair goal)) failing
-      staying_found found =
-          states_same d l.order l.diagrams.table (λ st. Awaits d c goal st × IsStayingBelow d bs c goal count st)
+          )) found
+      all_breaking FallsWhenFair found =
+          states_same d h.order h.diagrams.table (IsBreakingBelow d bs c FallsWhenFair goal count)
           (IsFound d (Answers bs) c (falls_when_fair goal)) failing
-          (λ st valid h.
-          let r = h.1 in
-          (r.2.0, r.0, r.2.1, r.2.2, r.2.3, h.0, r.2.4, r.2.5, r.2.6))
-          (λ st valid r. (
-            r.5,
+          (λ st valid b.
+          let asked = b.2.0 in
+          (asked.ranked, b.0, asked.own, asked.are, asked.at, asked.awaits, asked.of, asked.fair, b.2.1))
+          (λ st valid f. (
+            f.1,
+            omega (arith, slice_get_within f.0 f.1 f.2 f.4, as_many f.0 f.3, all),
             (
-              r.1,
-              omega (arith, slice_get_within r.0 r.1 r.2 r.4, same_ranked r.0 r.3),
-              (r.0, r.2, r.3, r.4, r.6, r.7, r.8),
+              record {
+                ranked = f.0;
+                own = f.2;
+                are = f.3;
+                at = f.4;
+                of = f.6;
+                awaits = f.5;
+                fair = f.7;
+              },
+              f.8,
             ),
-          )) (both (IsStayingBelow d bs c goal count) found)
+          )) found
+
+    -- ---- what is known of the part
+    pub names_states : (descent : Descent) → NamesStates (part_of descent goal)
+    names_states NeverRises = tt
+    names_states FallsWhenFair = tt
+
+    pub goal_named : (descent : Descent) → goal ≡ driver_goal (part_of descent goal)
+    goal_named NeverRises = refl
+    goal_named FallsWhenFair = refl
+
+    pub rests_on : (descent : Descent) → HavePassed d (Answers bs) c → goal < length c.goals →
+        RestsOn d (Answers bs) c (part_of descent goal)
+    rests_on NeverRises passed below = (passed.sets.calm, passed.answered goal below, passed.sets.ranked goal below)
+    rests_on FallsWhenFair passed below = (passed.sets.calm, passed.answered goal below)
 
 -- ---- the sets that a game keeps
 pub goal_states : (d : DesignTree) (g : GameData) → AreGoals d g → (ids : List NodeId) → ids ≡ g.goals → (goal : ℕ) →

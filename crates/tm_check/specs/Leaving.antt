@@ -1,16 +1,20 @@
--- The answers of a driver, and the states from which not every step stays within some ranks.
+-- The answers of a driver, the states from which not every step stays within some ranks, and those at which ranks do
+-- not descend as a certificate asks.
 use Rattle.std.specs.Prelude.{◌≡◌, ℕ, ◌+◌, ◌<◌, List, Some, length, slice_get}
 use Rattle.tm_check.specs.declared.replies.Replies.{Replies}
 use Rattle.tm_check.specs.Reads.{IsSized}
 use Rattle.tm_check.specs.Replies.{AreReplies}
 use Rattle.tm_check.specs.declared.leaving.Leaving.{Leaving}
 use Rattle.tm_check.specs.declared.loaded.DriverDiagrams.{DriverDiagrams}
+use Rattle.tm_check.specs.declared.steps.Descent.{Descent}
+use Rattle.tm_check.specs.declared.steps.Descent.TheVariants.{FallsWhenFair, NeverRises}
 use Rattle.tm_check.specs.Told.{IsTold}
 use Rattle.tm_cir.specs.Answer.{Answers}
 use Rattle.tm_cir.specs.Fit.{FitBlocks}
 use Rattle.tm_cir.specs.Tree.{BlockTree}
 use Rattle.tm_dd.specs.declared.node.NodeId.{NodeId}
-use Rattle.tm_verdict.specs.Found.{IsOfRank, MayLeave, within_rank}
+use Rattle.tm_verdict.specs.Driver.{DriverPart, falls_when_fair, never_rises}
+use Rattle.tm_verdict.specs.Found.{Awaits, IsOfRank, MayLeave, within_rank}
 use Rattle.tm_verdict.specs.Regular.{IsRegular}
 use Rattle.tm_game.specs.Game.{GameData, IsOf, IsStates}
 use Rattle.tm_sem.specs.Certificates.{AreRanked, DriverSets, RankedSet}
@@ -62,36 +66,39 @@ pub record HasRank (c : DriverSets) (goal index : ℕ) (s : StateData) : Type 0 
   pub are : AreRanked c goal ranked
   pub of : IsOfRank ranked index s
 
--- those from which some step ends at a higher rank
-abbrev pub IsRising : DesignTree → List BlockTree → DriverSets → ℕ → ℕ → StateData → Type 0
-IsRising d bs c goal index s =
-    (ranked : List RankedSet) × (r : RankedSet) × AreRanked c goal ranked × (slice_get ranked index ≡ Some r)
-    × IsOfRank ranked index s × MayLeave d (Answers bs) (within_rank ranked (1 + index)) goal s
+-- the part of a certificate that asks for a descent of the ranks of a goal
+abbrev pub part_of : Descent → ℕ → DriverPart
+part_of NeverRises = never_rises
+part_of FallsWhenFair = falls_when_fair
 
--- those whose fairness condition holds and from which some step ends at no lower rank
-abbrev pub IsStaying : DesignTree → List BlockTree → DriverSets → ℕ → ℕ → StateData → Type 0
-IsStaying d bs c goal index s =
-    (ranked : List RankedSet) × (r : RankedSet) × AreRanked c goal ranked × (slice_get ranked index ≡ Some r)
-    × IsOfRank ranked index s × IsFair d s r.fair × MayLeave d (Answers bs) (within_rank ranked index) goal s
+-- in how many ranks, the first ones, a descent lets steps from the rank of an index end
+abbrev pub allowed_ranks : Descent → ℕ → ℕ
+allowed_ranks NeverRises index = 1 + index
+allowed_ranks FallsWhenFair index = index
 
--- the rising states of the first ranks
-abbrev pub IsRisingBelow : DesignTree → List BlockTree → DriverSets → ℕ → ℕ → StateData → Type 0
-IsRisingBelow d bs c goal count s = (index : ℕ) × (index < count) × IsRising d bs c goal index s
+-- a fairness condition holds, where a descent asks for one
+abbrev pub IsFairFor : DesignTree → Descent → ℕ → StateData → Type 0
+IsFairFor d NeverRises fair s = Unit {0}
+IsFairFor d FallsWhenFair fair s = IsFair d s fair
 
--- the staying states of the first ranks
-abbrev pub IsStayingBelow : DesignTree → List BlockTree → DriverSets → ℕ → ℕ → StateData → Type 0
-IsStayingBelow d bs c goal count s = (index : ℕ) × (index < count) × IsStaying d bs c goal index s
+-- the states of a rank of which a descent asks something: the goal fails, and the rank's fairness condition holds where
+-- it is asked for
+pub record IsAsked (d : DesignTree) (c : DriverSets) (descent : Descent) (goal index : ℕ) (s : StateData) : Type 0 where
+  pub ranked : List RankedSet
+  pub own : RankedSet
+  pub are : AreRanked c goal ranked
+  pub at : slice_get ranked index ≡ Some own
+  pub of : IsOfRank ranked index s
+  pub awaits : Awaits d c goal s
+  pub fair : IsFairFor d descent own.fair s
 
--- where a set holds the rising states of the first ranks, an id holds those of one rank more
-abbrev pub AddsRising : DesignTree → List BlockTree → DriverSets → GameData → GameData → ℕ → ℕ → NodeId → NodeId →
-    Type 0
-AddsRising d bs c g h goal index set id =
-    IsStates d g.order g.diagrams.table (IsRisingBelow d bs c goal index) set →
-    IsStates d h.order h.diagrams.table (IsRisingBelow d bs c goal (index + 1)) id
+-- those from which nevertheless not every step stays within the ranks that are allowed
+abbrev pub IsBreaking : DesignTree → List BlockTree → DriverSets → Descent → ℕ → ℕ → StateData → Type 0
+IsBreaking d bs c descent goal index s =
+    (asked : IsAsked d c descent goal index s)
+    × MayLeave d (Answers bs) (within_rank asked.ranked (allowed_ranks descent index)) goal s
 
--- where a set holds the staying states of the first ranks, an id holds those of one rank more
-abbrev pub AddsStaying : DesignTree → List BlockTree → DriverSets → GameData → GameData → ℕ → ℕ → NodeId → NodeId →
-    Type 0
-AddsStaying d bs c g h goal index set id =
-    IsStates d g.order g.diagrams.table (IsStayingBelow d bs c goal index) set →
-    IsStates d h.order h.diagrams.table (IsStayingBelow d bs c goal (index + 1)) id
+-- these for the first ranks
+abbrev pub IsBreakingBelow : DesignTree → List BlockTree → DriverSets → Descent → ℕ → ℕ → StateData → Type 0
+IsBreakingBelow d bs c descent goal count s =
+    (index : ℕ) × (index < count) × IsBreaking d bs c descent goal index s

@@ -23,7 +23,7 @@ ghost use Rattle.tm_verdict.specs.Driver.{is_ranked, never_rises};
 use crate::leaving::leaving_sets;
 use crate::loaded::{DriverDiagrams, load};
 use crate::regions::{beginning, ranking, regions};
-use crate::steps::{answering, calming, falling, never_rising};
+use crate::steps::{Descent, answering, calming, descending};
 use crate::{Replies, read_replies};
 use std::alloc::{AllocError, Global};
 use tm_cert::DriverCert;
@@ -141,10 +141,10 @@ fn on_steps(
         refused => return Ok(refused),
     }
     let leaving = leaving_sets(alloc, game, told, answers)?;
-    let second = never_rising(game, told, &leaving)?;
+    let second = descending(game, told, &leaving, Descent::NeverRises)?;
     match second {
         Verdict::Accepted => {
-            let last = falling(game, told, &leaving)?;
+            let last = descending(game, told, &leaving, Descent::FallsWhenFair)?;
             Ok(last)
         }
         refused => Ok(refused),

@@ -1,6 +1,7 @@
 //! The conditions on steps: C3 to C6.
-ghost use Rattle.std.specs.Prelude.{◌<◌, ◌∷◌, [], IfOk, List, length, map};
-ghost use Rattle.tm_check.specs.Leaving.{AddsRising, AddsStaying, AreAnswers, AreLeaving, HasAnswers, HasLeaving};
+ghost use Rattle.std.specs.Prelude.{◌≡◌, ◌+◌, ◌<◌, ◌∷◌, [], ℕ, IfOk, List, Some, length, map, slice_get};
+ghost use Rattle.tm_check.specs.Leaving.{AreAnswers, AreLeaving, HasAnswers, HasLeaving, IsAsked, IsBreaking};
+ghost use Rattle.tm_check.specs.Leaving.{allowed_ranks, part_of};
 ghost use Rattle.tm_check.specs.Loaded.{row_at};
 ghost use Rattle.tm_check.specs.Told.{HasTold, IsTold};
 ghost use Rattle.tm_check.specs.Tried.{AreTried, HavePassed};
@@ -10,7 +11,7 @@ ghost use Rattle.tm_dd.specs.Table.{Knows};
 ghost use Rattle.tm_game.specs.Game.{Grows, IsStates};
 ghost use Rattle.tm_sem.specs.Certificates.{DriverSets};
 ghost use Rattle.tm_syntax.specs.Design.{DesignTree};
-ghost use Rattle.tm_verdict.specs.Driver.{falls_when_fair, goals_of, is_answered, is_calm, never_rises};
+ghost use Rattle.tm_verdict.specs.Driver.{driver_condition, goals_of, is_answered, is_calm};
 ghost use Rattle.tm_verdict.specs.Found.{Awaits};
 
 use crate::leaving::{Leaving, of_rank};
@@ -21,6 +22,28 @@ use std::alloc::{AllocError, Global};
 use tm_dd::{FALSE, NodeId};
 use tm_game::Game;
 use tm_verdict::Verdict;
+
+/// A condition on how ranks descend along steps.
+#[derive(Clone, Copy)]
+pub(crate) enum Descent {
+    /// C5: where a goal fails no step of the region ends at a higher rank for it.
+    NeverRises,
+    /// C6: where a goal fails and the fairness condition of the rank holds, each step of the region ends at a lower
+    /// rank.
+    FallsWhenFair,
+}
+
+impl Descent {
+    // The number of the condition.
+    fn condition(self) -> u8
+        ensures { (goal : ℕ) → result ≡ driver_condition (part_of self goal) }
+    {
+        match self {
+            Descent::NeverRises => 5,
+            Descent::FallsWhenFair => 6,
+        }
+    }
+}
 
 /// C3: from a state of the region no stutter or process step errs or leaves it.
 pub(crate) fn calming(game: &mut Game, told: &DriverDiagrams) -> Result<Verdict, AllocError>
@@ -87,11 +110,12 @@ fn goal_answering(
     Ok(verdict)
 }
 
-/// C5: where a goal fails no step of the region ends at a higher rank for it.
-pub(crate) fn never_rising(
+/// C5 or C6: where a goal fails, ranks descend along the steps of the region.
+pub(crate) fn descending(
     game: &mut Game,
     told: &DriverDiagrams,
     leaving: &[Leaving],
+    descent: Descent,
 ) -> Result<Verdict, AllocError>
     requires told { HasTold game.old told.now }
     requires leaving { HasLeaving game.old told.now leaving.now }
@@ -100,10 +124,10 @@ pub(crate) fn never_rising(
     ensures tried { IfOk result (λ verdict. (d : DesignTree) (bs : List BlockTree) (c : DriverSets)
         → IsTold d bs c game.old told.now
         → AreLeaving d bs c game.old leaving.now → HavePassed d (Answers bs) c
-        → AreTried d (Answers bs) c (map never_rises (goals_of c)) verdict) }
+        → AreTried d (Answers bs) c (map (part_of descent) (goals_of c)) verdict) }
 {
     for goal in 0..told.goals.len() {
-        let verdict = goal_rising(game, told, leaving, goal)?;
+        let verdict = goal_descending(game, told, leaving, descent, goal)?;
         match verdict {
             Verdict::Accepted => {}
             refused => return Ok(refused),
@@ -112,12 +136,12 @@ pub(crate) fn never_rising(
     Ok(Verdict::Accepted)
 }
 
-// C5 for one goal: where it fails no step of the region ends at a higher rank for it. All its ranks are joined before
-// the least state is asked for.
-fn goal_rising(
+// C5 or C6 for one goal. The failing states of all its ranks are joined before the least one is asked for.
+fn goal_descending(
     game: &mut Game,
     told: &DriverDiagrams,
     leaving: &[Leaving],
+    descent: Descent,
     goal: usize,
 ) -> Result<Verdict, AllocError>
     requires told { HasTold game.old told.now }
@@ -128,129 +152,97 @@ fn goal_rising(
     ensures tried { IfOk result (λ verdict. (d : DesignTree) (bs : List BlockTree) (c : DriverSets)
         → IsTold d bs c game.old told.now
         → AreLeaving d bs c game.old leaving.now → HavePassed d (Answers bs) c
-        → AreTried d (Answers bs) c (never_rises goal ∷ []) verdict) }
+        → AreTried d (Answers bs) c (part_of descent goal ∷ []) verdict) }
 {
-    let mut rising = FALSE;
+    let awaiting = awaiting(game, told, goal)?;
+    let mut failing = FALSE;
     let count = rank_count(told, goal);
     for index in 0..count {
-        rising = rises_at(game, told, leaving, goal, index, rising)?;
+        let breaking = breaking_at(game, told, leaving, descent, goal, index, awaiting)?;
+        failing = game.or(failing, breaking)?;
     }
-    let waiting = awaiting(game, told, goal)?;
-    let failing = game.and(waiting, rising)?;
-    let verdict = try_part(game, 5, goal as u32, failing)?;
+    let verdict = try_part(game, descent.condition(), goal as u32, failing)?;
     Ok(verdict)
 }
 
-// The states of a set, and those of a rank from which some step ends at a higher one.
-fn rises_at(
+// The states of a rank at which a condition fails. Where the certificate is right there is none, and to join none to
+// others costs nothing.
+fn breaking_at(
     game: &mut Game,
     told: &DriverDiagrams,
     leaving: &[Leaving],
+    descent: Descent,
     goal: usize,
     index: usize,
-    set: NodeId,
+    awaiting: NodeId,
 ) -> Result<NodeId, AllocError>
     requires told { HasTold game.old told.now }
     requires leaving { HasLeaving game.old told.now leaving.now }
     requires goal { goal < length told.now.goals.items }
     requires index { index < length (row_at told.now goal) }
-    requires set { Knows game.old.diagrams.table set }
+    requires awaiting { Knows game.old.diagrams.table awaiting }
 
     ensures grows { Grows game.old game.new }
     ensures known { IfOk result (Knows game.new.diagrams.table) }
     ensures states { IfOk result (λ id. (d : DesignTree) (bs : List BlockTree) (c : DriverSets)
         → IsTold d bs c game.old told.now → AreLeaving d bs c game.old leaving.now
-        → AddsRising d bs c game.old game.new goal index set id) }
+        → IsStates d game.old.order game.old.diagrams.table (Awaits d c goal) awaiting
+        → IsStates d game.new.order game.new.diagrams.table (IsBreaking d bs c descent goal index) id) }
 {
-    let own = of_rank(game, told, goal, index)?;
-    let rising = game.and(own, leaving[goal].sets[index + 1])?;
-    let all = game.or(set, rising)?;
-    Ok(all)
+    let asked = asked_at(game, told, descent, goal, index, awaiting)?;
+    let left = leaving_at(leaving, descent, goal, index);
+    let breaking = game.and(asked, left)?;
+    Ok(breaking)
 }
 
-/// C6: where a goal fails and the fairness condition of the rank holds, each step of the region ends at a lower rank.
-pub(crate) fn falling(
+// The states of a rank at which a condition asks for something: the goal fails, and for C6 the fairness condition
+// holds.
+fn asked_at(
     game: &mut Game,
     told: &DriverDiagrams,
-    leaving: &[Leaving],
-) -> Result<Verdict, AllocError>
+    descent: Descent,
+    goal: usize,
+    index: usize,
+    awaiting: NodeId,
+) -> Result<NodeId, AllocError>
     requires told { HasTold game.old told.now }
-    requires leaving { HasLeaving game.old told.now leaving.now }
+    requires goal { goal < length told.now.goals.items }
+    requires index { index < length (row_at told.now goal) }
+    requires awaiting { Knows game.old.diagrams.table awaiting }
 
     ensures grows { Grows game.old game.new }
-    ensures tried { IfOk result (λ verdict. (d : DesignTree) (bs : List BlockTree) (c : DriverSets)
+    ensures known { IfOk result (Knows game.new.diagrams.table) }
+    ensures states { IfOk result (λ id. (d : DesignTree) (bs : List BlockTree) (c : DriverSets)
         → IsTold d bs c game.old told.now
-        → AreLeaving d bs c game.old leaving.now → HavePassed d (Answers bs) c
-        → AreTried d (Answers bs) c (map falls_when_fair (goals_of c)) verdict) }
+        → IsStates d game.old.order game.old.diagrams.table (Awaits d c goal) awaiting
+        → IsStates d game.new.order game.new.diagrams.table (IsAsked d c descent goal index) id) }
 {
-    for goal in 0..told.goals.len() {
-        let verdict = goal_falling(game, told, leaving, goal)?;
-        match verdict {
-            Verdict::Accepted => {}
-            refused => return Ok(refused),
+    let own = of_rank(game, told, goal, index)?;
+    let waiting = game.and(own, awaiting)?;
+    match descent {
+        Descent::NeverRises => Ok(waiting),
+        Descent::FallsWhenFair => {
+            let rank = ranked_at(told, goal, index);
+            let fair = game.fairs()[rank.fair as usize];
+            let asked = game.and(waiting, fair)?;
+            Ok(asked)
         }
     }
-    Ok(Verdict::Accepted)
 }
 
-// C6 for one goal: where it fails and the rank's fairness condition holds, each step of the region ends at a lower
-// rank.
-fn goal_falling(
-    game: &mut Game,
-    told: &DriverDiagrams,
-    leaving: &[Leaving],
-    goal: usize,
-) -> Result<Verdict, AllocError>
-    requires told { HasTold game.old told.now }
-    requires leaving { HasLeaving game.old told.now leaving.now }
-    requires goal { goal < length told.now.goals.items }
+// The states from which not every step stays within the ranks that a condition allows to those of a rank.
+fn leaving_at(leaving: &[Leaving], descent: Descent, goal: usize, index: usize) -> NodeId
+    requires goal { goal < length leaving.now }
+    requires index { (l : Leaving) → slice_get leaving.now goal ≡ Some l → index + 1 < length l.sets.items }
 
-    ensures grows { Grows game.old game.new }
-    ensures tried { IfOk result (λ verdict. (d : DesignTree) (bs : List BlockTree) (c : DriverSets)
-        → IsTold d bs c game.old told.now
-        → AreLeaving d bs c game.old leaving.now → HavePassed d (Answers bs) c
-        → AreTried d (Answers bs) c (falls_when_fair goal ∷ []) verdict) }
+    ensures { (l : Leaving) → slice_get leaving.now goal ≡ Some l
+        → slice_get l.sets.items (allowed_ranks descent index) ≡ Some result }
 {
-    let mut staying = FALSE;
-    let count = rank_count(told, goal);
-    for index in 0..count {
-        staying = stays_at(game, told, leaving, goal, index, staying)?;
+    let sets = &leaving[goal].sets;
+    match descent {
+        Descent::NeverRises => sets[index + 1],
+        Descent::FallsWhenFair => sets[index],
     }
-    let waiting = awaiting(game, told, goal)?;
-    let failing = game.and(waiting, staying)?;
-    let verdict = try_part(game, 6, goal as u32, failing)?;
-    Ok(verdict)
-}
-
-// The states of a set, and those of a rank whose fairness condition holds and from which some step ends at no lower
-// one.
-fn stays_at(
-    game: &mut Game,
-    told: &DriverDiagrams,
-    leaving: &[Leaving],
-    goal: usize,
-    index: usize,
-    set: NodeId,
-) -> Result<NodeId, AllocError>
-    requires told { HasTold game.old told.now }
-    requires leaving { HasLeaving game.old told.now leaving.now }
-    requires goal { goal < length told.now.goals.items }
-    requires index { index < length (row_at told.now goal) }
-    requires set { Knows game.old.diagrams.table set }
-
-    ensures grows { Grows game.old game.new }
-    ensures known { IfOk result (Knows game.new.diagrams.table) }
-    ensures states { IfOk result (λ id. (d : DesignTree) (bs : List BlockTree) (c : DriverSets)
-        → IsTold d bs c game.old told.now → AreLeaving d bs c game.old leaving.now
-        → AddsStaying d bs c game.old game.new goal index set id) }
-{
-    let own = of_rank(game, told, goal, index)?;
-    let rank = ranked_at(told, goal, index);
-    let fair = game.fairs()[rank.fair as usize];
-    let waiting = game.and(own, fair)?;
-    let staying = game.and(waiting, leaving[goal].sets[index])?;
-    let all = game.or(set, staying)?;
-    Ok(all)
 }
 
 // The states of the region at which a goal fails.

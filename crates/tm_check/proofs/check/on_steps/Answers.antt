@@ -34,14 +34,14 @@ returns-in_err-leaving-clause-grows c =
     grows_then c.args.game.now c.answering.new.game c.leaving_sets.new.game c.answering.ensures.grows
     c.leaving_sets.ensures.grows
 
-pub never_rising-requires-clause-told : goal.never_rising-requires-clause-told
-never_rising-requires-clause-told c =
+pub descending-requires-clause-told : goal.descending-requires-clause-told
+descending-requires-clause-told c =
     has_told_kept c.args.game.now c.leaving_sets.new.game
     (grows_then c.args.game.now c.answering.new.game c.leaving_sets.new.game c.answering.ensures.grows
     c.leaving_sets.ensures.grows) c.args.told.now c.requires.told
 
-pub never_rising-requires-clause-leaving : goal.never_rising-requires-clause-leaving
-never_rising-requires-clause-leaving c =
+pub descending-requires-clause-leaving : goal.descending-requires-clause-leaving
+descending-requires-clause-leaving c =
     let has = c.requires.answers in
     let at_first = told_kept has.0 c.args.game.now c.answering.new.game c.answering.ensures.grows has.1 has.2
     c.args.told.now has.3 in (
@@ -58,30 +58,30 @@ never_rising-requires-clause-leaving c =
 
 pub returns-in_err-second-clause-grows : goal.returns-in_err-second-clause-grows
 returns-in_err-second-clause-grows c =
-    grows_then c.args.game.now c.leaving_sets.new.game c.never_rising.new.game
+    grows_then c.args.game.now c.leaving_sets.new.game c.descending.new.game
     (grows_then c.args.game.now c.answering.new.game c.leaving_sets.new.game c.answering.ensures.grows
-    c.leaving_sets.ensures.grows) c.never_rising.ensures.grows
+    c.leaving_sets.ensures.grows) c.descending.ensures.grows
 
-pub falling-requires-clause-told : goal.falling-requires-clause-told
-falling-requires-clause-told c =
-    has_told_kept c.args.game.now c.never_rising.new.game
-    (grows_then c.args.game.now c.leaving_sets.new.game c.never_rising.new.game
+pub descending-requires-in-Accepted-second-clause-told : goal.descending-requires-in-Accepted-second-clause-told
+descending-requires-in-Accepted-second-clause-told c =
+    has_told_kept c.args.game.now c.descending.new.game
+    (grows_then c.args.game.now c.leaving_sets.new.game c.descending.new.game
     (grows_then c.args.game.now c.answering.new.game c.leaving_sets.new.game c.answering.ensures.grows
-    c.leaving_sets.ensures.grows) c.never_rising.ensures.grows) c.args.told.now c.requires.told
+    c.leaving_sets.ensures.grows) c.descending.ensures.grows) c.args.told.now c.requires.told
 
-pub falling-requires-clause-leaving : goal.falling-requires-clause-leaving
-falling-requires-clause-leaving c =
+pub descending-requires-in-Accepted-second-clause-leaving : goal.descending-requires-in-Accepted-second-clause-leaving
+descending-requires-in-Accepted-second-clause-leaving c =
     let has = c.requires.answers in
     let at_first = told_kept has.0 c.args.game.now c.answering.new.game c.answering.ensures.grows has.1 has.2
     c.args.told.now has.3 in
-    let grown = grows_then c.answering.new.game c.leaving_sets.new.game c.never_rising.new.game
-    c.leaving_sets.ensures.grows c.never_rising.ensures.grows in (
+    let grown = grows_then c.answering.new.game c.leaving_sets.new.game c.descending.new.game
+    c.leaving_sets.ensures.grows c.descending.ensures.grows in (
       has.0,
       has.1,
       has.2,
-      told_kept has.0 c.answering.new.game c.never_rising.new.game grown has.1 has.2 c.args.told.now at_first,
-      subst (AreLeaving has.0 has.1 has.2 c.never_rising.new.game) (sym c.deref-in-Accepted-second.ensures.value)
-          (leaving_kept has.0 c.leaving_sets.new.game c.never_rising.new.game c.never_rising.ensures.grows has.1 has.2
+      told_kept has.0 c.answering.new.game c.descending.new.game grown has.1 has.2 c.args.told.now at_first,
+      subst (AreLeaving has.0 has.1 has.2 c.descending.new.game) (sym c.deref-in-Accepted-second.ensures.value)
+          (leaving_kept has.0 c.leaving_sets.new.game c.descending.new.game c.descending.ensures.grows has.1 has.2
           c.in_ok-leaving.leaving.items
           (c.in_ok-leaving.ensures.leaving has.0 has.1 has.2 at_first
           (answers_kept has.0 c.args.game.now c.answering.new.game c.answering.ensures.grows has.1
@@ -90,17 +90,17 @@ falling-requires-clause-leaving c =
 
 pub returns-in_err-last-in-Accepted-second-clause-grows : goal.returns-in_err-last-in-Accepted-second-clause-grows
 returns-in_err-last-in-Accepted-second-clause-grows c =
-    grows_then c.args.game.now c.never_rising.new.game c.falling.new.game
-    (grows_then c.args.game.now c.leaving_sets.new.game c.never_rising.new.game
+    grows_then c.args.game.now c.descending.new.game c.descending-in-Accepted-second.new.game
+    (grows_then c.args.game.now c.leaving_sets.new.game c.descending.new.game
     (grows_then c.args.game.now c.answering.new.game c.leaving_sets.new.game c.answering.ensures.grows
-    c.leaving_sets.ensures.grows) c.never_rising.ensures.grows) c.falling.ensures.grows
+    c.leaving_sets.ensures.grows) c.descending.ensures.grows) c.descending-in-Accepted-second.ensures.grows
 
 pub returns-in-Accepted-second-clause-grows : goal.returns-in-Accepted-second-clause-grows
 returns-in-Accepted-second-clause-grows c =
-    grows_then c.args.game.now c.never_rising.new.game c.falling.new.game
-    (grows_then c.args.game.now c.leaving_sets.new.game c.never_rising.new.game
+    grows_then c.args.game.now c.descending.new.game c.descending-in-Accepted-second.new.game
+    (grows_then c.args.game.now c.leaving_sets.new.game c.descending.new.game
     (grows_then c.args.game.now c.answering.new.game c.leaving_sets.new.game c.answering.ensures.grows
-    c.leaving_sets.ensures.grows) c.never_rising.ensures.grows) c.falling.ensures.grows
+    c.leaving_sets.ensures.grows) c.descending.ensures.grows) c.descending-in-Accepted-second.ensures.grows
 
 pub returns-in-Accepted-second-clause-tried : goal.returns-in-Accepted-second-clause-tried
 returns-in-Accepted-second-clause-tried c = λ d bs cs is are passed.
@@ -121,17 +121,17 @@ returns-in-Accepted-second-clause-tried c = λ d bs cs is are passed.
     c.in_ok-last-in-Accepted-second.last
     (subst (AreTried d (Answers bs) cs (map never_rises (goals_of cs))) c.in-Accepted-second.is second)
     (c.in_ok-last-in-Accepted-second.ensures.tried d bs cs
-    (told_kept d c.leaving_sets.new.game c.never_rising.new.game c.never_rising.ensures.grows bs cs c.args.told.now
+    (told_kept d c.leaving_sets.new.game c.descending.new.game c.descending.ensures.grows bs cs c.args.told.now
     at_second)
-    (subst (AreLeaving d bs cs c.never_rising.new.game) (sym c.deref-in-Accepted-second.ensures.value)
-    (leaving_kept d c.leaving_sets.new.game c.never_rising.new.game c.never_rising.ensures.grows bs cs
+    (subst (AreLeaving d bs cs c.descending.new.game) (sym c.deref-in-Accepted-second.ensures.value)
+    (leaving_kept d c.leaving_sets.new.game c.descending.new.game c.descending.ensures.grows bs cs
     c.in_ok-leaving.leaving.items leaving_are)) have))
 
 pub returns-clause-grows : goal.returns-clause-grows
 returns-clause-grows c =
-    grows_then c.args.game.now c.leaving_sets.new.game c.never_rising.new.game
+    grows_then c.args.game.now c.leaving_sets.new.game c.descending.new.game
     (grows_then c.args.game.now c.answering.new.game c.leaving_sets.new.game c.answering.ensures.grows
-    c.leaving_sets.ensures.grows) c.never_rising.ensures.grows
+    c.leaving_sets.ensures.grows) c.descending.ensures.grows
 
 pub returns-clause-tried : goal.returns-clause-tried
 returns-clause-tried c = λ d bs cs is are passed.
