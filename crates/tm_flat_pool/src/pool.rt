@@ -50,15 +50,20 @@ impl<'s> Pooler<'s> {
             AllZip (IsPredicateTerm u (design_tree self.now.design.now)) (pool (design_tree self.now.design.now))
             made.ids.items)) }
     {
-        let atoms = self.atoms(alloc)?;
-        let memory = input_memory(alloc, terms, self.design)?;
-        let mut ids = self.atom_terms(alloc, terms, &memory, &atoms)?;
-        let marks = self.marks(alloc, &atoms)?;
-        let bits = self.bit_terms(alloc, terms, marks.as_slice())?;
-        ids.extend_from_slice(bits.as_slice())?;
-        Ok(PoolTerms {
-            ids,
-            first: first_count(&atoms),
-        })
+        let atoms = given!(self.atoms(alloc));
+        let memory = given!(input_memory(alloc, terms, self.design), atoms);
+        let mut ids = given!(
+            self.atom_terms(alloc, terms, &memory, &atoms),
+            memory,
+            atoms
+        );
+        drop(memory);
+        let marks = given!(self.marks(alloc, &atoms), ids, atoms);
+        let first = first_count(&atoms);
+        drop(atoms);
+        let bits = given!(self.bit_terms(alloc, terms, marks.as_slice()), marks, ids);
+        drop(marks);
+        given!(ids.extend_from_slice(bits.as_slice()), bits, ids);
+        Ok(PoolTerms { ids, first })
     }
 }

@@ -88,9 +88,16 @@ fn put(laid: &mut Vec<Block>, block: Block) -> Result<u32, AllocError>
     ensures { IfOk result (λ number.
         IsPut (block_trees laid.old.items) (block_trees laid.new.items) number (block_tree block)) }
 {
-    let number = u32::try_from(laid.len()).map_err(|_| AllocError)?;
-    laid.push(block)?;
-    Ok(number)
+    match u32::try_from(laid.len()) {
+        Ok(number) => {
+            laid.push(block)?;
+            Ok(number)
+        }
+        Err(_) => {
+            drop(block);
+            Err(AllocError)
+        }
+    }
 }
 
 /// The blocks up to the one that comes first, turned over.

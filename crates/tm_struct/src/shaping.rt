@@ -77,9 +77,10 @@ fn tree(
 {
     match &blocks[at] {
         Block::Test(truth, first, second) => {
-            let truth = copied_truth(alloc, truth)?;
-            let first = branch(alloc, blocks, numbers, *first as usize)?;
-            let second = branch(alloc, blocks, numbers, *second as usize)?;
+            let truth = given!(copied_truth(alloc, truth));
+            let first = given!(branch(alloc, blocks, numbers, *first as usize), truth);
+            let second = branch(alloc, blocks, numbers, *second as usize);
+            let second = given!(second, first, truth);
             test(alloc, truth, first, second)
         }
         Block::Call(task, args) => Ok(Tree::Call(*task, copied_nums(alloc, args)?)),
@@ -112,7 +113,7 @@ fn test(alloc: Global, truth: Truth, first: Tree, second: Tree) -> Result<Tree, 
     ensures { IfOk result (λ tree.
         action_tree tree ≡ choose (truth_tree truth) (action_tree first) (action_tree second)) }
 {
-    let first = Box::new(alloc, first)?;
-    let second = Box::new(alloc, second)?;
+    let first = boxed!(alloc, first, second, truth);
+    let second = boxed!(alloc, second, first, truth);
     Ok(Tree::If(truth, first, second))
 }

@@ -20,24 +20,24 @@ branch-returns-in-None t c =
     in_place (no_function order c.args.numbers.now c.args.at numbers c.in-None.is) (written order numbers))
     c.tree.ensures
 
-pub tree-branch-alloc-requires : goal.tree-branch-alloc-requires
-tree-branch-alloc-requires t c =
+pub tree-branch-given-requires : goal.tree-branch-given-requires
+tree-branch-given-requires t c =
     let later = targets_later c.args.blocks.now c.args.at c.in-Test.first c.in-Test.second (truth_tree c.in-Test.truth)
     c.requires.leads
     (block_at c.args.blocks.now _ c.args.at c.index-blocks-at.result _ refl c.requires.within
     c.index-blocks-at.is c.in-Test.is) in
     (omega (arith, c.decreases, later.0, later.1), (c.requires.leads, (c.requires.long, later.1)))
 
-pub tree-branch-alloc-requires-in-Test : goal.tree-branch-alloc-requires-in-Test
-tree-branch-alloc-requires-in-Test t c =
+pub tree-branch-second-requires : goal.tree-branch-second-requires
+tree-branch-second-requires t c =
     let later = targets_later c.args.blocks.now c.args.at c.in-Test.first c.in-Test.second (truth_tree c.in-Test.truth)
     c.requires.leads
     (block_at c.args.blocks.now _ c.args.at c.index-blocks-at.result _ refl c.requires.within
     c.index-blocks-at.is c.in-Test.is) in
     (omega (arith, c.decreases, later.2, later.3), (c.requires.leads, (c.requires.long, later.3)))
 
-pub tree-returns-in_ok-second-in-Test : goal.tree-returns-in_ok-second-in-Test
-tree-returns-in_ok-second-in-Test t c =
+pub tree-returns-in_Ok-second-in-Test : goal.tree-returns-in_Ok-second-in-Test
+tree-returns-in_Ok-second-in-Test t c =
     IfOk-weaker c.test.result _ _
     (λ tree made.
     λ order numbers.
@@ -45,8 +45,8 @@ tree-returns-in_ok-second-in-Test t c =
     (truth_tree c.in-Test.truth) _ _ _ _
     (block_at c.args.blocks.now _ c.args.at c.index-blocks-at.result _ refl c.requires.within
     c.index-blocks-at.is c.in-Test.is)
-    c.in_ok-truth-in-Test.ensures made (c.in_ok-first-in-Test.ensures order numbers)
-    (c.in_ok-second-in-Test.ensures order numbers)) c.test.ensures
+    c.in-Ok.ensures made (c.in_Ok-given-in-Test.ensures order numbers)
+    (c.in_Ok-second-in-Test.ensures order numbers)) c.test.ensures
 
 pub tree-returns-in_ok-copied_nums-in-Call : goal.tree-returns-in_ok-copied_nums-in-Call
 tree-returns-in_ok-copied_nums-in-Call t c = λ order numbers.

@@ -20,41 +20,42 @@ atoms-requires-clause-leads c = sound_leads (design_tree c.args.self.now.design.
 pub atom_terms-requires-clause-truths : goal.atom_terms-requires-clause-truths
 atom_terms-requires-clause-truths c =
     let d = design_tree c.args.self.now.design.now in
-    subst (λ (l : List Atom). AllByRecursion (IsTruth d) l) (sym c.in_ok-atoms.ensures.atoms)
+    subst (λ (l : List Atom). AllByRecursion (IsTruth d) l) (sym c.in-Ok.ensures.atoms)
     (pool_truths d (checked d c.requires.design c.requires.of_text))
 
 pub marks-requires : goal.marks-requires
 marks-requires c =
     let d = design_tree c.args.self.now.design.now in
     record {
-      truths = subst (λ (l : List Atom). AllByRecursion (IsTruth d) l) (sym c.in_ok-atoms.ensures.atoms)
+      truths = subst (λ (l : List Atom). AllByRecursion (IsTruth d) l) (sym c.in-Ok.ensures.atoms)
           (pool_truths d (checked d c.requires.design c.requires.of_text));
     }
 
 pub bit_terms-requires-clause-inputs : goal.bit_terms-requires-clause-inputs
 bit_terms-requires-clause-inputs c =
-    c.in_ok-ids.ensures.grown.inputs ∙ c.in_ok-memory.ensures.grown.inputs ∙ c.requires.inputs
+    c.in-Ok-atom_terms.ensures.grown.inputs ∙ c.in-Ok-input_memory.ensures.grown.inputs ∙ c.requires.inputs
 
 pub bit_terms-requires-clause-marks : goal.bit_terms-requires-clause-marks
 bit_terms-requires-clause-marks c =
     let d = design_tree c.args.self.now.design.now in
     subst (λ (ms : List Bool). AreMarked d (pool_atoms d) ms) (sym c.as_slice.ensures.value)
-    (subst (λ (l : List Atom). AreMarked d l c.in_ok-marks.marks.items) c.in_ok-atoms.ensures.atoms
-    c.in_ok-marks.ensures)
+    (subst (λ (l : List Atom). AreMarked d l c.in-Ok-marks.given.items) c.in-Ok.ensures.atoms
+    c.in-Ok-marks.ensures)
 
-pub first_count-requires : goal.first_count-requires
-first_count-requires c =
-    first_few (design_tree c.args.self.now.design.now) c.in_ok-atoms.atoms.first c.requires.design.within
-    c.in_ok-atoms.ensures.first
+pub first_count-first-requires : goal.first_count-first-requires
+first_count-first-requires c =
+    first_few (design_tree c.args.self.now.design.now) c.in-Ok.given.first c.requires.design.within
+    c.in-Ok.ensures.first
 
 pub returns-clause-first : goal.returns-clause-first
-returns-clause-first c = c.first_count.ensures ∙ c.in_ok-atoms.ensures.first
+returns-clause-first c = c.first_count-first.ensures ∙ c.in-Ok.ensures.first
 
 pub returns-clause-pool : goal.returns-clause-pool
 returns-clause-pool c =
     pool_made (design_tree c.args.self.now.design.now) c.requires.markable.small c.args.terms.now
-    c.input_memory.new.terms c.atom_terms.new.terms c.bit_terms.new.terms (map atom_of (listed c.in_ok-atoms.atoms))
-    c.in_ok-ids.ids.items c.in_ok-bits.bits.items _ c.requires.inputs c.in_ok-atoms.ensures.atoms c.in_ok-memory.ensures.grown
-    c.in_ok-ids.ensures c.in_ok-bits.ensures
-    (c.in_ok-extend_from_slice.ensures.items ∙ ap (λ (l : List TermId). c.in_ok-ids.ids.items ++ l)
+    c.input_memory.new.terms c.atom_terms.new.terms c.bit_terms.new.terms (map atom_of (listed c.in-Ok.given))
+    c.in-Ok-atom_terms.given.items c.in-Ok-bit_terms.given.items _ c.requires.inputs c.in-Ok.ensures.atoms
+    c.in-Ok-input_memory.ensures.grown
+    c.in-Ok-atom_terms.ensures c.in-Ok-bit_terms.ensures
+    (c.in-Ok-extend_from_slice.ensures.items ∙ ap (λ (l : List TermId). c.in-Ok-atom_terms.given.items ++ l)
     c.as_slice-2.ensures.value)
