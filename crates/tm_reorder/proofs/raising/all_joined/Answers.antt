@@ -8,9 +8,9 @@ use Rattle.tm_reorder.proofs.raising.all_joined.Goals as goal
 
 pub loop-id-preserved : goal.loop-id-preserved
 loop-id-preserved c =
-    let start = c.args.graph.now.entries.items in
-    let one = c.loop-id.graph.entries.items in
-    let two = c.branch-graph.new.self.entries.items in
+    let start = c.args.graph.now.entries.keys in
+    let one = c.loop-id.graph.entries.keys in
+    let two = c.branch-graph.new.self.entries.keys in
     let ids = c.args.ids.now in
     let parts = c.args.parts.now in
     let index = c.loop-id.id-index in
@@ -35,5 +35,5 @@ returns-clause-told c = λ old k are.
     let all : c.loop-id.id-index ≡ length c.args.ids.now = omega arith in
     subst
     (λ (done : ℕ).
-    ArePairs (IsTold (λ v. v) old c.loop-id.graph.entries.items) c.args.ids.now c.loop-id.joined.items done)
+    ArePairs (IsTold (λ v. v) old c.loop-id.graph.entries.keys) c.args.ids.now c.loop-id.joined.items done)
     all (c.loop-id.invariant.told old k are)
