@@ -61,7 +61,7 @@ holds_last nodes e v =
     ∙ picked (v e.level) (values_of nodes v) e.lo e.hi
 
 -- ---- entries keep what their ids hold
-keeps_all : (nodes : List Entry) → Keeps nodes nodes
+pub keeps_all : (nodes : List Entry) → Keeps nodes nodes
 keeps_all nodes = record { rises = omega arith; same = λ id below v. refl }
 
 pub keeps_then : (one two three : List Entry) → Keeps one two → Keeps two three → Keeps one three

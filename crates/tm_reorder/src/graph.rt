@@ -42,7 +42,7 @@ impl Graph {
         Ok(position as u64 + 2)
     }
 
-    // Such ids over both parts of two others, which are one id where each of these is whole.
+    // Two such ids, one over the first ids of two pairs and one over the second ones. Over whole pairs they are one.
     pub(crate) fn branches(
         &mut self,
         level: u32,
@@ -66,7 +66,7 @@ impl Graph {
     }
 }
 
-// Whether each of two ids is whole: both its parts are the same.
+// Whether each of two pairs is whole: one id twice.
 pub(crate) fn are_whole(lo: (u64, u64), hi: (u64, u64)) -> bool
     ensures { IsTrue result → (lo.0 ≡ lo.1) × (hi.0 ≡ hi.1) }
 {

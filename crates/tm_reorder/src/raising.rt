@@ -13,7 +13,7 @@ use std::alloc::{AllocError, Global};
 use tm_cert::Entry;
 use tm_game_bits::levels_by_place;
 
-// Sets by their ids, and the graph that has these once a level was raised.
+// Sets by their ids, and the graph that these are of once a level was raised.
 #[derive(Drop)]
 pub(crate) struct Sets {
     pub(crate) raised: Option<Graph>,
@@ -21,7 +21,7 @@ pub(crate) struct Sets {
 }
 
 impl Sets {
-    // The entries of their ids, where they were given with these.
+    // The entries that the ids are of, where the sets were given with these.
     pub(crate) fn entries<'s>(&'s self, given: &'s [Entry]) -> &'s [Entry]
         ensures { result.now ≡ entries_of self.now.raised given.now }
     {

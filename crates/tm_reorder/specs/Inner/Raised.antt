@@ -33,7 +33,7 @@ pub record IsBranchOf (old new : List Entry) (level lo hi id : ℕ) : Type 0 whe
 abbrev pub AreBelow : ℕ → ℕ × ℕ → Type 0
 AreBelow count part = (part.0 < count) × (part.1 < count)
 
--- so do the parts of an id over those of two others
+-- two ids are branches of a level, one over the first ids of two pairs and one over the second ones
 pub record AreBranchesOf (old new : List Entry) (level : ℕ) (lo hi part : ℕ × ℕ) : Type 0 where
   pub off : IsBranchOf old new level lo.0 hi.0 part.0
   pub on : IsBranchOf old new level lo.1 hi.1 part.1
@@ -61,7 +61,7 @@ pub record AreRaised (old : List Entry) (olds : List ℕ) (new : List Entry) (ne
   pub branches : AreBranches new
   pub told : ArePairs (IsTold (λ v. v) old new) olds news (length olds)
 
--- the entries of a graph, if there is one, and else those that were given
+-- the entries of a graph where there is one, and those that were given where there is none
 abbrev pub entries_of : Option Graph → List Entry → List Entry
 entries_of None given = given
 entries_of (Some graph) given = graph.entries.keys
