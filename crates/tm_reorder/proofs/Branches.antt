@@ -1,13 +1,16 @@
 -- Entries that are put behind others, and the parts of sets where a level is raised.
-use Rattle.std.proofs.Common.{◌≡◌, ◌⊎◌, inl, inr, ℕ, zero, suc, ◌+◌, ◌<◌, Bool, true, false, if◌then◌else◌, List, [], ◌∷◌, ◌++◌, length, fold, get_or, slice_get, Some, refl, sym, ap, ◌∙◌, subst, arith}
+use Rattle.std.proofs.Common.{◌≡◌, ◌⊎◌, inl, inr, ℕ, zero, suc, ◌+◌, ◌<◌, Bool, true, false, if◌then◌else◌, eqb, List, [], ◌∷◌, ◌++◌, length, fold, get_or, slice_get, Some, refl, sym, ap, ◌∙◌, subst, arith}
+use Rattle.std.specs.List.{list_any}
 use Rattle.std.specs.Prelude.{All}
+use Rattle.std.proofs.lemmas.Bool.{and_parts, eqb-true}
 use Rattle.std.proofs.lemmas.List.{get_or_append_left, get_or_at, length_push, length-take-le}
 use Rattle.std.proofs.lemmas.List.Sums.{fold_push}
 use Rattle.std.proofs.lemmas.Option.{get_or_from_slice_get, none-some, same_Some, slice_get-get_or, slice_get_within}
+use Rattle.indexmap.specs.IndexSet.{insert_key}
 use Rattle.tm_cert.specs.declared.cert.Entry.{Entry}
-use Rattle.tm_cert.specs.Nodes.{ids_of}
+use Rattle.tm_cert.specs.Nodes.{ids_of, same_entry}
 use Rattle.tm_numbering.proofs.Items.{get_more, get_some}
-use Rattle.tm_reorder.specs.Inner.Raised.{AreBranches, ArePart, AreParts, AreRaised, IsBranch, IsBranchOf, Keeps}
+use Rattle.tm_reorder.specs.Inner.Raised.{AreBranches, AreBranchesOf, ArePart, AreParts, AreRaised, IsBranch, IsBranchOf, Keeps}
 use Rattle.tm_reorder.specs.Inner.Told.{IsTold}
 use Rattle.tm_verdict.specs.Fitting.{AreNodes}
 use Rattle.tm_verdict.specs.Sets.{entry_value, id_holds, values_of}
@@ -58,6 +61,9 @@ holds_last nodes e v =
     ∙ picked (v e.level) (values_of nodes v) e.lo e.hi
 
 -- ---- entries keep what their ids hold
+pub keeps_all : (nodes : List Entry) → Keeps nodes nodes
+keeps_all nodes = record { rises = omega arith; same = λ id below v. refl }
+
 pub keeps_then : (one two three : List Entry) → Keeps one two → Keeps two three → Keeps one three
 keeps_then one two three first then_second = record {
   rises = omega (arith, first.rises, then_second.rises);
@@ -73,6 +79,16 @@ same_branch false one other = other
 one_value : (b x : Bool) → x ≡ (if b then x else x)
 one_value true x = refl
 one_value false x = refl
+
+-- equal entries are one
+same_entry_is : (one other : Entry) → same_entry one other ≡ true → one ≡ other
+same_entry_is one other same =
+    let first = and_parts (eqb one.level other.level) _ same in
+    let rest = and_parts (eqb one.lo other.lo) (eqb one.hi other.hi) first.1 in
+    let level = eqb-true one.level other.level first.0 in
+    let lo = eqb-true one.lo other.lo rest.0 in
+    let hi = eqb-true one.hi other.hi rest.1 in
+    (λ i. record { level = level i; lo = lo i; hi = hi i })
 
 -- an entry is put behind others
 module _ (nodes : List Entry) (e : Entry) (lo : e.lo < ids_of nodes) (hi : e.hi < ids_of nodes) where
@@ -110,12 +126,33 @@ module _ (nodes : List Entry) (e : Entry) (lo : e.lo < ids_of nodes) (hi : e.hi 
                 ∙ same_branch (v e.level) (sym (holds_kept nodes e e.hi v hi)) (sym (holds_kept nodes e e.lo v lo));
           }))
 
-  pub branch_of_more : (id : ℕ) → id ≡ length nodes + 2 → IsBranchOf nodes more e.level e.lo e.hi id
-  branch_of_more id is =
-      subst (IsBranchOf nodes more e.level e.lo e.hi) (sym is) (record {
-        within = omega (arith, length_push nodes e);
-        holds = holds_last nodes e;
-      })
+  -- the set of entries takes it, where it is not there
+  abbrev taken : List Entry
+  taken = insert_key same_entry nodes e
+
+  pub keeps_taken : Keeps nodes taken
+  keeps_taken = elim (list_any (same_entry e) nodes) as (λ b. Keeps nodes (if b then nodes else more)) [
+    | true ↦ keeps_all nodes
+    | false ↦ keeps_more
+  ]
+
+  pub branches_taken : AreBranches nodes → AreBranches taken
+  branches_taken are = elim (list_any (same_entry e) nodes) as (λ b. AreBranches (if b then nodes else more)) [
+    | true ↦ are
+    | false ↦ branches_more are
+  ]
+
+  -- the id of the entry that the set has for it
+  pub branch_taken : (after : List Entry) (position : ℕ) (x : Entry) → AreBranches after → Keeps nodes after →
+      slice_get after position ≡ Some x → same_entry e x ≡ true →
+      IsBranchOf nodes after e.level e.lo e.hi (position + 2)
+  branch_taken after position x are keeps at same =
+      let here = subst (λ (y : Entry). slice_get after position ≡ Some y) (sym (same_entry_is e x same)) at in
+      record {
+        within = let low = slice_get_within after position e here in omega (arith, low);
+        holds = λ v.
+            (are position e here).holds v ∙ same_branch (v e.level) (keeps.same e.hi hi v) (keeps.same e.lo lo v);
+      }
 
 -- the entries of a certificate
 pub nodes_are_branches : (count : ℕ) (nodes : List Entry) → AreNodes count nodes → AreBranches nodes
@@ -250,28 +287,17 @@ module _ (old : List Entry) (level k : ℕ) (e : Entry) (branch : IsBranch old k
   }
 
   -- of another level the branches over one part of each child
-  pub other_parts : (one two three : List Entry) (lo hi : ℕ × ℕ) (off on : ℕ) → ArePart old one level e.lo lo →
-      ArePart old one level e.hi hi → Keeps one two → Keeps two three →
-      IsBranchOf one two e.level lo.0 hi.0 off → IsBranchOf two three e.level lo.1 hi.1 on →
-      ArePart old three level (k + 2) (off, on)
-  other_parts one two three lo hi off on lo_is hi_is first next off_is on_is = record {
-    off_within = omega (arith, off_is.within, next.rises);
-    on_within = on_is.within;
+  pub other_parts : (one two : List Entry) (lo hi part : ℕ × ℕ) → ArePart old one level e.lo lo →
+      ArePart old one level e.hi hi → AreBranchesOf one two e.level lo hi part → ArePart old two level (k + 2) part
+  other_parts one two lo hi part lo_is hi_is made = record {
+    off_within = made.off.within;
+    on_within = made.on.within;
     holds = λ v.
         branch.holds v
         ∙ other_value (v level) (v e.level) (id_holds one hi.1 v) (id_holds one hi.0 v) (id_holds one lo.1 v)
         (id_holds one lo.0 v) (hi_is.holds v) (lo_is.holds v)
-        ∙ same_branch (v level) (sym (on_here v)) (sym (off_here v));
+        ∙ same_branch (v level) (sym (made.on.holds v)) (sym (made.off.holds v));
   }
-    where
-      off_here : (v : ℕ → Bool) →
-          id_holds three off v ≡ (if v e.level then id_holds one hi.0 v else id_holds one lo.0 v)
-      off_here v = next.same off off_is.within v ∙ off_is.holds v
-
-      on_here : (v : ℕ → Bool) → id_holds three on v ≡ (if v e.level then id_holds one hi.1 v else id_holds one lo.1 v)
-      on_here v =
-          on_is.holds v
-          ∙ same_branch (v e.level) (first.same hi.1 hi_is.on_within v) (first.same lo.1 lo_is.on_within v)
 
   -- the entry over its whole children
   whole_told : (one two : List Entry) (lo hi whole : ℕ) → IsTold (λ v. v) old one e.lo lo →

@@ -1,89 +1,74 @@
 //! Entries whose levels may stand in any order.
-ghost use Rattle.std.specs.Prelude.{◌≡◌, ◌<◌, IfOk, IfSome, IsTrue, Some, [], slice_get};
+ghost use Rattle.std.specs.Prelude.{◌≡◌, ◌<◌, IfOk, IsTrue, []};
 ghost use Rattle.tm_cert.specs.Nodes.{ids_of};
-ghost use Rattle.tm_reorder.specs.Inner.Raised.{AreBranches, IsBranchOf, Keeps};
+ghost use Rattle.tm_reorder.specs.Inner.Raised.{AreBelow, AreBranches, AreBranchesOf, IsBranchOf, Keeps};
 
+use indexmap::IndexSet;
 use std::alloc::{AllocError, Global};
-use std::collections::HashMap;
 use std::hash::BuildHasherDefault;
 use tm_cert::Entry;
 use tm_dd::NumberHasher;
 
-// Entries, each over those before it: 0 is false, 1 is true, and `k + 2` is the entry `k`. A table has the position of
-// each, so that none stands twice.
+// Entries, each over those before it: 0 is false, 1 is true, and `k + 2` is the entry `k`. None stands twice.
 #[derive(Drop)]
 pub(crate) struct Graph {
-    pub(crate) entries: Vec<Entry>,
-    pub(crate) positions: HashMap<Entry, u32, BuildHasherDefault<NumberHasher>>,
+    pub(crate) entries: IndexSet<Entry, BuildHasherDefault<NumberHasher>>,
 }
 
 impl Graph {
     // No entries, with room for so many.
     pub(crate) fn new(alloc: Global, room: usize) -> Result<Graph, AllocError>
-        ensures { IfOk result (λ g. g.entries.items ≡ []) }
+        ensures { IfOk result (λ g. g.entries.keys ≡ []) }
     {
-        let positions = HashMap::with_capacity_and_hasher(alloc, room, BuildHasherDefault::new())?;
-        let entries = Vec::with_capacity(alloc, room)?;
-        Ok(Graph { entries, positions })
+        let entries = IndexSet::with_capacity_and_hasher(alloc, room, BuildHasherDefault::new())?;
+        Ok(Graph { entries })
     }
 
     // The id of what is `hi` where the bit of the level is 1, and `lo` where it is 0.
     pub(crate) fn branch(&mut self, level: u32, lo: u64, hi: u64) -> Result<u64, AllocError>
-        requires branches { AreBranches self.old.entries.items }
-        requires lo { lo < ids_of self.old.entries.items }
-        requires hi { hi < ids_of self.old.entries.items }
+        requires branches { AreBranches self.old.entries.keys }
+        requires lo { lo < ids_of self.old.entries.keys }
+        requires hi { hi < ids_of self.old.entries.keys }
 
-        ensures branches { AreBranches self.new.entries.items }
-        ensures keeps { Keeps self.old.entries.items self.new.entries.items }
-        ensures answer { IfOk result (IsBranchOf self.old.entries.items self.new.entries.items level lo hi) }
+        ensures branches { AreBranches self.new.entries.keys }
+        ensures keeps { Keeps self.old.entries.keys self.new.entries.keys }
+        ensures answer { IfOk result (IsBranchOf self.old.entries.keys self.new.entries.keys level lo hi) }
     {
         if lo == hi {
             return Ok(lo);
         }
-        let entry = Entry { level, lo, hi };
-        match self.find(entry) {
-            Some(position) => Ok(u64::from(position) + 2),
-            None => self.put(entry),
-        }
+        let (position, _) = self.entries.insert_full(Entry { level, lo, hi })?;
+        prove!(position < self.entries.len());
+        Ok(position as u64 + 2)
     }
 
-    // The position of an entry. The table is not trusted: what stands there is compared.
-    fn find(&self, entry: Entry) -> Option<u32>
-        ensures { IfSome result (λ position. slice_get self.now.entries.items position ≡ Some entry) }
+    // Two such ids, one over the first ids of two pairs and one over the second ones. Over whole pairs they are one.
+    pub(crate) fn branches(
+        &mut self,
+        level: u32,
+        lo: (u64, u64),
+        hi: (u64, u64),
+    ) -> Result<(u64, u64), AllocError>
+        requires branches { AreBranches self.old.entries.keys }
+        requires lo { AreBelow (ids_of self.old.entries.keys) lo }
+        requires hi { AreBelow (ids_of self.old.entries.keys) hi }
+
+        ensures branches { AreBranches self.new.entries.keys }
+        ensures keeps { Keeps self.old.entries.keys self.new.entries.keys }
+        ensures answer { IfOk result (AreBranchesOf self.old.entries.keys self.new.entries.keys level lo hi) }
     {
-        let position = *self.positions.get(&entry)?;
-        if self.is_at(position as usize, entry) {
-            Some(position)
-        } else {
-            None
+        let off = self.branch(level, lo.0, hi.0)?;
+        if are_whole(lo, hi) {
+            return Ok((off, off));
         }
+        let on = self.branch(level, lo.1, hi.1)?;
+        Ok((off, on))
     }
+}
 
-    // Whether an entry is the one at a position.
-    fn is_at(&self, position: usize, entry: Entry) -> bool
-        ensures { IsTrue result → slice_get self.now.entries.items position ≡ Some entry }
-    {
-        match self.entries.get(position) {
-            Some(there) => *there == entry,
-            None => false,
-        }
-    }
-
-    // Puts an entry behind the others. The answer is its id.
-    fn put(&mut self, entry: Entry) -> Result<u64, AllocError>
-        requires branches { AreBranches self.old.entries.items }
-        requires lo { entry.lo < ids_of self.old.entries.items }
-        requires hi { entry.hi < ids_of self.old.entries.items }
-
-        ensures branches { AreBranches self.new.entries.items }
-        ensures keeps { Keeps self.old.entries.items self.new.entries.items }
-        ensures answer { IfOk result
-            (IsBranchOf self.old.entries.items self.new.entries.items entry.level entry.lo entry.hi) }
-    {
-        let position = u32::try_from(self.entries.len()).unwrap_or(u32::MAX);
-        self.positions.insert(entry, position)?;
-        self.entries.push(entry)?;
-        let count = self.entries.len();
-        Ok(count as u64 + 1)
-    }
+// Whether each of two pairs is whole: one id twice.
+pub(crate) fn are_whole(lo: (u64, u64), hi: (u64, u64)) -> bool
+    ensures { IsTrue result → (lo.0 ≡ lo.1) × (hi.0 ≡ hi.1) }
+{
+    lo.0 == lo.1 && hi.0 == hi.1
 }

@@ -38,7 +38,7 @@ pub(crate) fn load_sets(
         AreKeyed dd.new.table (seen dd.old.table order.now bits.now) nodes.now keys.now ids.items) }
 {
     let sets = all_raised(alloc, nodes, keys, ranks)?;
-    let loaded = load_moved(alloc, dd, sets.entries.as_slice(), order, bits)?;
+    let loaded = load_moved(alloc, dd, sets.entries(nodes), order, bits)?;
     spread(
         alloc,
         nodes.len(),

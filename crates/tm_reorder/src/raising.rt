@@ -5,22 +5,34 @@ ghost use Rattle.tm_cert.specs.declared.cert.Entry.{Entry as Node};
 ghost use Rattle.tm_cert.specs.Nodes.{ids_of};
 ghost use Rattle.tm_game_bits.specs.Order.{IsOrder};
 ghost use Rattle.tm_numbering.specs.Parts.{ArePairs};
-ghost use Rattle.tm_reorder.specs.Inner.Raised.{AreBelow, AreBranches, ArePart, AreParts, AreRaised, IsBranch, Keeps};
+ghost use Rattle.tm_reorder.specs.Inner.Raised.{AreBelow, AreBranches, ArePart, AreParts, AreRaised, IsBranch, IsPartOver, Keeps, entries_of};
 ghost use Rattle.tm_reorder.specs.Inner.Told.{IsTold};
 
-use crate::graph::Graph;
+use crate::graph::{Graph, are_whole};
 use std::alloc::{AllocError, Global};
 use tm_cert::Entry;
 use tm_game_bits::levels_by_place;
 
-// Entries, with the ids of sets.
+// Sets by their ids, and the graph that these are of once a level was raised.
 #[derive(Drop)]
 pub(crate) struct Sets {
-    pub(crate) entries: Vec<Entry>,
+    pub(crate) raised: Option<Graph>,
     pub(crate) ids: Vec<u64>,
 }
 
-// The parts of an entry that stands above a level, or does not read it: the entry over its whole children.
+impl Sets {
+    // The entries that the ids are of, where the sets were given with these.
+    pub(crate) fn entries<'s>(&'s self, given: &'s [Entry]) -> &'s [Entry]
+        ensures { result.now ≡ entries_of self.now.raised given.now }
+    {
+        match &self.raised {
+            Some(graph) => graph.entries.as_slice(),
+            None => given,
+        }
+    }
+}
+
+// The parts of an entry that stands above a level: the entry over its whole children.
 fn kept_whole(
     graph: &mut Graph,
     lo: (u64, u64),
@@ -28,16 +40,13 @@ fn kept_whole(
     entry: Entry,
     level: u32,
 ) -> Result<(u64, u64), AllocError>
-    requires branches { AreBranches graph.old.entries.items }
-    requires lo { AreBelow (ids_of graph.old.entries.items) lo }
-    requires hi { AreBelow (ids_of graph.old.entries.items) hi }
+    requires branches { AreBranches graph.old.entries.keys }
+    requires lo { AreBelow (ids_of graph.old.entries.keys) lo }
+    requires hi { AreBelow (ids_of graph.old.entries.keys) hi }
 
-    ensures branches { AreBranches graph.new.entries.items }
-    ensures keeps { Keeps graph.old.entries.items graph.new.entries.items }
-    ensures part { IfOk result (λ part. (old : List Node) (k : ℕ) → IsBranch old k entry
-        → ArePart old graph.old.entries.items level entry.lo lo
-        → ArePart old graph.old.entries.items level entry.hi hi
-        → ArePart old graph.new.entries.items level (k + 2) part) }
+    ensures branches { AreBranches graph.new.entries.keys }
+    ensures keeps { Keeps graph.old.entries.keys graph.new.entries.keys }
+    ensures part { IfOk result (IsPartOver graph.old.entries.keys graph.new.entries.keys level entry lo hi) }
 {
     let whole_lo = graph.branch(level, lo.0, lo.1)?;
     let whole_hi = graph.branch(level, hi.0, hi.1)?;
@@ -45,63 +54,39 @@ fn kept_whole(
     Ok((whole, whole))
 }
 
-// The parts of an entry below which a level is to stand no longer.
-fn parted(
-    graph: &mut Graph,
-    lo: (u64, u64),
-    hi: (u64, u64),
-    entry: Entry,
-    level: u32,
-) -> Result<(u64, u64), AllocError>
-    requires branches { AreBranches graph.old.entries.items }
-    requires lo { AreBelow (ids_of graph.old.entries.items) lo }
-    requires hi { AreBelow (ids_of graph.old.entries.items) hi }
-
-    ensures branches { AreBranches graph.new.entries.items }
-    ensures keeps { Keeps graph.old.entries.items graph.new.entries.items }
-    ensures part { IfOk result (λ part. (old : List Node) (k : ℕ) → IsBranch old k entry
-        → ArePart old graph.old.entries.items level entry.lo lo
-        → ArePart old graph.old.entries.items level entry.hi hi
-        → ArePart old graph.new.entries.items level (k + 2) part) }
-{
-    let off = graph.branch(entry.level, lo.0, hi.0)?;
-    let on = graph.branch(entry.level, lo.1, hi.1)?;
-    Ok((off, on))
-}
-
-// The parts of an entry from those of its children, where `stays` tells that its level is to stay above.
+// The parts of an entry from those of its children.
 fn part_of(
     graph: &mut Graph,
     parts: &[(u64, u64)],
     entry: Entry,
     level: u32,
-    stays: bool,
+    ranks: &[u32],
 ) -> Result<(u64, u64), AllocError>
-    requires branches { AreBranches graph.old.entries.items }
-    requires parts { (old : List Node) × (k : ℕ) × AreParts old graph.old.entries.items level k parts.now
+    requires branches { AreBranches graph.old.entries.keys }
+    requires parts { (old : List Node) × (k : ℕ) × AreParts old graph.old.entries.keys level k parts.now
         × IsBranch old k entry }
 
-    ensures branches { AreBranches graph.new.entries.items }
-    ensures keeps { Keeps graph.old.entries.items graph.new.entries.items }
+    ensures branches { AreBranches graph.new.entries.keys }
+    ensures keeps { Keeps graph.old.entries.keys graph.new.entries.keys }
     ensures part { IfOk result (λ part. (old : List Node) (k : ℕ)
-        → AreParts old graph.old.entries.items level k parts.now → IsBranch old k entry
-        → ArePart old graph.new.entries.items level (k + 2) part) }
+        → AreParts old graph.old.entries.keys level k parts.now → IsBranch old k entry
+        → ArePart old graph.new.entries.keys level (k + 2) part) }
 {
     let lo = parts[entry.lo as usize];
     let hi = parts[entry.hi as usize];
     if entry.level == level {
         return Ok((lo.0, hi.1));
     }
-    if stays || are_whole(lo, hi) {
+    if !are_whole(lo, hi) && is_above(ranks, entry.level, level) {
         kept_whole(graph, lo, hi, entry, level)
     } else {
-        parted(graph, lo, hi, entry, level)
+        graph.branches(entry.level, lo, hi)
     }
 }
 
-// Whether both parts of each child are the same.
-fn are_whole(lo: (u64, u64), hi: (u64, u64)) -> bool {
-    lo.0 == lo.1 && hi.0 == hi.1
+// Whether a level is to stand above another one.
+fn is_above(ranks: &[u32], level: u32, other: u32) -> bool {
+    rank_of(ranks, level) < rank_of(ranks, other)
 }
 
 // The parts of all ids of some entries.
@@ -112,20 +97,18 @@ fn all_parted(
     level: u32,
     ranks: &[u32],
 ) -> Result<Vec<(u64, u64)>, AllocError>
-    requires branches { AreBranches graph.old.entries.items }
+    requires branches { AreBranches graph.old.entries.keys }
     requires entries { AreBranches entries.now }
 
-    ensures branches { AreBranches graph.new.entries.items }
+    ensures branches { AreBranches graph.new.entries.keys }
     ensures parts { IfOk result (λ parts.
-        AreParts entries.now graph.new.entries.items level (length entries.now) parts.items) }
+        AreParts entries.now graph.new.entries.keys level (length entries.now) parts.items) }
 {
-    let rank = rank_of(ranks, level);
     let mut parts = Vec::with_capacity(alloc, entries.len().saturating_add(2))?;
     parts.push((0, 0))?;
     parts.push((1, 1))?;
     for entry in entries {
-        let stays = rank_of(ranks, entry.level) < rank;
-        let part = part_of(graph, &parts, *entry, level, stays)?;
+        let part = part_of(graph, &parts, *entry, level, ranks)?;
         parts.push(part)?;
     }
     Ok(parts)
@@ -139,14 +122,14 @@ fn all_joined(
     ids: &[u64],
     level: u32,
 ) -> Result<Vec<u64>, AllocError>
-    requires branches { AreBranches graph.old.entries.items }
+    requires branches { AreBranches graph.old.entries.keys }
     requires ids { All (λ id. id < length parts.now) ids.now }
-    requires parts { (old : List Node) × (k : ℕ) × AreParts old graph.old.entries.items level k parts.now }
+    requires parts { (old : List Node) × (k : ℕ) × AreParts old graph.old.entries.keys level k parts.now }
 
-    ensures branches { AreBranches graph.new.entries.items }
+    ensures branches { AreBranches graph.new.entries.keys }
     ensures told { IfOk result (λ news. (old : List Node) (k : ℕ)
-        → AreParts old graph.old.entries.items level k parts.now
-        → ArePairs (IsTold (λ v. v) old graph.new.entries.items) ids.now news.items (length ids.now)) }
+        → AreParts old graph.old.entries.keys level k parts.now
+        → ArePairs (IsTold (λ v. v) old graph.new.entries.keys) ids.now news.items (length ids.now)) }
 {
     let mut joined = Vec::new(alloc);
     for id in ids {
@@ -167,13 +150,14 @@ fn raised(
 ) -> Result<Sets, AllocError>
     requires entries { AreBranches entries.now }
     requires ids { All (λ id. id < ids_of entries.now) ids.now }
-    ensures { IfOk result (λ sets. AreRaised entries.now ids.now sets.entries.items sets.ids.items) }
+    ensures { IfOk result (λ sets. (given : List Node)
+        → AreRaised entries.now ids.now (entries_of sets.raised given) sets.ids.items) }
 {
     let mut graph = Graph::new(alloc, entries.len())?;
     let parts = all_parted(alloc, &mut graph, entries, level, ranks)?;
     let ids = all_joined(alloc, &mut graph, &parts, ids, level)?;
     Ok(Sets {
-        entries: graph.entries,
+        raised: Some(graph),
         ids,
     })
 }
@@ -198,17 +182,18 @@ pub(crate) fn all_raised(
 ) -> Result<Sets, AllocError>
     requires entries { AreBranches entries.now }
     requires ids { All (λ id. id < ids_of entries.now) ids.now }
-    ensures { IfOk result (λ sets. AreRaised entries.now ids.now sets.entries.items sets.ids.items) }
+    ensures { IfOk result (λ sets.
+        AreRaised entries.now ids.now (entries_of sets.raised entries.now) sets.ids.items) }
 {
     let mut sets = Sets {
-        entries: Vec::from_slice(alloc, entries)?,
+        raised: None,
         ids: Vec::from_slice(alloc, ids)?,
     };
     let mut lowest = 0;
     let mut level: u32 = 0;
     for rank in ranks {
-        if *rank < lowest && is_read(&sets.entries, level) {
-            sets = raised(alloc, &sets.entries, &sets.ids, level, ranks)?;
+        if *rank < lowest && is_read(sets.entries(entries), level) {
+            sets = raised(alloc, sets.entries(entries), &sets.ids, level, ranks)?;
         }
         lowest = lowest.max(*rank);
         level = level.wrapping_add(1);

@@ -7,8 +7,8 @@ use Rattle.tm_reorder.proofs.raising.all_joined.Given as goal
 
 abbrev pub invariant-loop-id : goal.invariant-loop-id
 invariant-loop-id l = record {
-  branches : AreBranches l.graph.entries.items;
-  keeps : Keeps l.fn.graph.entries.items l.graph.entries.items;
-  told : (old : List Entry) (k : ℕ) → AreParts old l.fn.graph.entries.items l.level k l.parts →
-      ArePairs (IsTold (λ v. v) old l.graph.entries.items) l.ids l.joined.items l.id-index;
+  branches : AreBranches l.graph.entries.keys;
+  keeps : Keeps l.fn.graph.entries.keys l.graph.entries.keys;
+  told : (old : List Entry) (k : ℕ) → AreParts old l.fn.graph.entries.keys l.level k l.parts →
+      ArePairs (IsTold (λ v. v) old l.graph.entries.keys) l.ids l.joined.items l.id-index;
 }

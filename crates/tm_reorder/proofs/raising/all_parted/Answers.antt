@@ -12,7 +12,7 @@ loop-entry-init c =
     (c.in_ok-push.ensures.items ∙ ap (λ (parts : List (ℕ × ℕ)). parts ++ (0, 0) ∷ []) c.in_ok-parts.ensures.items) in
     record {
       branches = c.requires.branches;
-      parts = parts_begun c.args.entries.now c.args.graph.now.entries.items c.args.level c.push-2.new.self.items items;
+      parts = parts_begun c.args.entries.now c.args.graph.now.entries.keys c.args.level c.push-2.new.self.items items;
     }
 
 pub part_of-requires-clause-parts : goal.part_of-requires-clause-parts
@@ -21,7 +21,7 @@ part_of-requires-clause-parts c =
     c.loop-entry-test.true in (
       c.args.entries.now,
       c.loop-entry.entry-index,
-      subst (AreParts c.args.entries.now c.loop-entry.graph.entries.items c.args.level c.loop-entry.entry-index)
+      subst (AreParts c.args.entries.now c.loop-entry.graph.entries.keys c.args.level c.loop-entry.entry-index)
           (sym c.deref.ensures.value) c.loop-entry.invariant.parts,
       c.requires.entries c.loop-entry.entry-index _ at,
     )
@@ -30,8 +30,8 @@ pub loop-entry-preserved : goal.loop-entry-preserved
 loop-entry-preserved c =
     let entries = c.args.entries.now in
     let index = c.loop-entry.entry-index in
-    let one = c.loop-entry.graph.entries.items in
-    let two = c.part_of.new.graph.entries.items in
+    let one = c.loop-entry.graph.entries.keys in
+    let two = c.part_of.new.graph.entries.keys in
     let parts = c.loop-entry.parts.items in
     let at = slice_get-get_or entries index (record { level = 0; lo = 0; hi = 0 }) c.loop-entry-test.true in
     record {
@@ -49,5 +49,5 @@ returns-clause-parts c =
     let all : c.loop-entry.entry-index ≡ length c.args.entries.now = omega arith in
     subst
     (λ (done : ℕ).
-    AreParts c.args.entries.now c.loop-entry.graph.entries.items c.args.level done c.loop-entry.parts.items)
+    AreParts c.args.entries.now c.loop-entry.graph.entries.keys c.args.level done c.loop-entry.parts.items)
     all c.loop-entry.invariant.parts

@@ -3,6 +3,6 @@ use Rattle.tm_reorder.proofs.raising.all_parted.Given as goal
 
 abbrev pub invariant-loop-entry : goal.invariant-loop-entry
 invariant-loop-entry l = record {
-  branches : AreBranches l.graph.entries.items;
-  parts : AreParts l.entries l.graph.entries.items l.level l.entry-index l.parts.items;
+  branches : AreBranches l.graph.entries.keys;
+  parts : AreParts l.entries l.graph.entries.keys l.level l.entry-index l.parts.items;
 }
