@@ -10,6 +10,7 @@ use crate::manager::{Manager, empty_cache};
 use crate::tables::Tables;
 use std::alloc::{AllocError, Global};
 use std::collections::HashMap;
+use std::mem;
 use tm_base::Steps;
 use tm_dd::{NodeId, Store};
 
@@ -30,14 +31,19 @@ impl Manager {
         ensures refused { OnErr result (self.new ≡ self.old) }
         ensures refused_roots { OnErr result (roots.new ≡ roots.old) }
     {
-        let ranks = Vec::from_slice(self.alloc, self.store.ranks())?;
-        let mut store = Store::arranged(self.alloc, self.store.levels(), ranks)?;
-        let new_roots = copies(self.alloc, &self.store, &mut store, roots)?;
-        let cache = empty_cache(self.alloc)?;
+        let ranks = given!(Vec::from_slice(self.alloc, self.store.ranks()));
+        let mut store = given!(Store::arranged(self.alloc, self.store.levels(), ranks));
+        let new_roots = given!(copies(self.alloc, &self.store, &mut store, roots), store);
+        let cache = given!(empty_cache(self.alloc), new_roots, store);
         roots.copy_from_slice(&new_roots);
-        self.store = store;
-        self.cache = cache;
-        self.tables = Tables::new(self.alloc);
+        drop(new_roots);
+        let made = Manager {
+            alloc: self.alloc,
+            store,
+            cache,
+            tables: Tables::new(self.alloc),
+        };
+        drop(mem::replace(self, made));
         Ok(())
     }
 }

@@ -66,9 +66,9 @@ impl Manager {
         ensures results { IfOk result (λ m. m.results ≡ []) }
         ensures manager { IfOk result IsManager }
     {
-        let store = Store::new(alloc, levels)?;
-        let cache = empty_cache(alloc)?;
-        let tables = Tables::with_room(alloc)?;
+        let store = given!(Store::new(alloc, levels));
+        let cache = given!(empty_cache(alloc), store);
+        let tables = given!(Tables::with_room(alloc), cache, store);
         Ok(Manager {
             alloc,
             store,
@@ -87,9 +87,9 @@ impl Manager {
         ensures results { IfOk result (λ m. m.results ≡ []) }
         ensures manager { IfOk result IsManager }
     {
-        let store = Store::arranged(alloc, levels, ranks)?;
-        let cache = empty_cache(alloc)?;
-        let tables = Tables::with_room(alloc)?;
+        let store = given!(Store::arranged(alloc, levels, ranks));
+        let cache = given!(empty_cache(alloc), store);
+        let tables = given!(Tables::with_room(alloc), cache, store);
         Ok(Manager {
             alloc,
             store,

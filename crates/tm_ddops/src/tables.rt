@@ -67,8 +67,8 @@ impl Tables {
         ensures { IfOk result (λ tables. (s : Table) → AreTrue s tables) }
     {
         let mut tables = Tables::new(alloc);
-        tables.walks.choices.reserve(FIRST_ROOM)?;
-        tables.walks.found.reserve(FIRST_ROOM)?;
+        given!(tables.walks.choices.reserve(FIRST_ROOM), tables);
+        given!(tables.walks.found.reserve(FIRST_ROOM), tables);
         Ok(tables)
     }
 
