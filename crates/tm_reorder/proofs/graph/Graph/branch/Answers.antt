@@ -1,5 +1,4 @@
-use Rattle.std.proofs.Common.{◌≡◌, sym, subst}
-use Rattle.tm_cert.specs.declared.cert.Entry.{Entry}
+use Rattle.std.proofs.Common.{sym, subst}
 use Rattle.tm_reorder.specs.Inner.Raised.{AreBranches, Keeps}
 use Rattle.tm_reorder.proofs.Branches.{branch_taken, branches_taken, keeps_taken}
 use Rattle.tm_reorder.proofs.graph.Graph.branch.Goals as goal
