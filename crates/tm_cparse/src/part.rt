@@ -55,7 +55,10 @@ pub fn begun(sort: Sort, sign: Sign, operand: Truth) -> Option<Part>
         (Sign::Comparing(op), Truth::Num(a)) if sort == Sort::Truth => Some(Part::Compare(op, a)),
         (Sign::Joining(op), left) if sort == Sort::Truth => Some(Part::Join(op, left)),
         (Sign::Question, test) => Some(Part::Then(test)),
-        _ => None,
+        (_, other) => {
+            drop(other);
+            None
+        }
     }
 }
 

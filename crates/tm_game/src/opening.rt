@@ -49,8 +49,8 @@ impl Game {
         ensures of { IfOk result (λ g. (d : DesignTree) → CanStart d terms (flat_terms flat) → IsOf d g) }
     {
         let count = state_bits(&flat.widths);
-        let order = place_order(alloc, count)?;
-        let game = Game::with_order(alloc, flat, terms, order)?;
+        let order = given!(place_order(alloc, count), flat, terms);
+        let game = given!(Game::with_order(alloc, flat, terms, order));
         Ok(game)
     }
 

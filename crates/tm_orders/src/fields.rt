@@ -115,6 +115,11 @@ pub fn fields_of(alloc: Global, design: &Design) -> Result<Vec<Field>, AllocErro
     requires of_text { IsOfText (design_tree design.now).spec }
     ensures { IfOk result (λ all. AreFields (design_tree design.now) all.items) }
 {
-    let tables = Tables::new(alloc, design)?;
-    fields_by(alloc, &tables)
+    let tables = match Tables::new(alloc, design) {
+        Ok(tables) => tables,
+        Err(error) => return Err(error),
+    };
+    let fields = fields_by(alloc, &tables);
+    drop(tables);
+    fields
 }

@@ -110,7 +110,7 @@ fn push_stmt(stmts: &mut Vec<Stmt>, stmt: Stmt) -> Result<(), AllocError>
     ensures { OnOk result (stmts.new.items ≡ stmts.old.items ++ stmt ∷ []) }
 {
     if stmts.is_empty() {
-        stmts.reserve_exact(1)?;
+        read!(stmts.reserve_exact(1), stmt);
     }
     stmts.push(stmt)?;
     Ok(())

@@ -255,9 +255,10 @@ fn any_test(
 ) -> Result<Option<u32>, AllocError>
     ensures { Carried game.old game.new }
 {
-    let contest = contest_over(alloc, game, masses, candidates, set)?;
-    let found = tiered_test(game, masses, tests, &contest)?;
-    Ok(found)
+    let contest = given!(contest_over(alloc, game, masses, candidates, set));
+    let found = tiered_test(game, masses, tests, &contest);
+    drop(contest);
+    found
 }
 
 // The states at which some move is good while a goal is pending.

@@ -86,9 +86,8 @@ pub fn driver(
 {
     tell(&game);
     let _turn = game.turn();
-    let prepared = prepare(alloc, &mut game, design, iterates)?;
-    let made = build(alloc, game, design, prepared)?;
-    Ok(made)
+    let prepared = given!(prepare(alloc, &mut game, design, iterates), game);
+    build(alloc, game, design, prepared)
 }
 
 // What blocks are made from, but for the game.
@@ -118,11 +117,14 @@ fn prepare(
 {
     tell(game);
     let counts = counts_of(design);
-    let chooser = chooser_of(alloc, game, design)?;
-    let goods = good_moves(alloc, game, iterates, &chooser.shapes, &chooser.levels)?;
+    let chooser = given!(chooser_of(alloc, game, design));
+    let goods = good_moves(alloc, game, iterates, &chooser.shapes, &chooser.levels);
+    let goods = given!(goods, chooser);
     let mut masses = Masses::new(alloc);
-    let candidates = candidates(&chooser, game, &mut masses, &goods)?;
-    let tests = all_tests(alloc, game, design, counts, &goods)?;
+    let candidates = candidates(&chooser, game, &mut masses, &goods);
+    let candidates = given!(candidates, masses, goods, chooser);
+    let tests = all_tests(alloc, game, design, counts, &goods);
+    let tests = given!(tests, candidates, masses, goods, chooser);
     let goals = goal_moves(
         alloc,
         game,
@@ -132,13 +134,17 @@ fn prepare(
         &chooser.shapes,
         &candidates,
         &goods,
-    )?;
-    let widths = widths_of(alloc, game)?;
+    );
+    drop(goods);
+    let shapes = shapes_of(chooser);
+    let goals = given!(goals, tests, candidates, masses, shapes);
+    let widths = widths_of(alloc, game);
+    let widths = given!(widths, goals, tests, candidates, masses, shapes);
     Ok(Prepared {
         spelling: Spelling {
             counts,
             predicates: tests.predicates,
-            shapes: chooser.shapes,
+            shapes,
             widths,
             candidates,
         },
@@ -146,6 +152,13 @@ fn prepare(
         tests: tests.table,
         goals,
     })
+}
+
+// The shapes of a chooser's moves.
+fn shapes_of(chooser: Chooser) -> Vec<MoveShape>
+    ensures { result.items ≡ chooser.shapes.items }
+{
+    chooser.shapes
 }
 
 // What a game tells of the sets that it keeps. It does nothing at run time but read.
@@ -296,9 +309,10 @@ fn build(
         goals,
         pending: 0,
     };
-    let drafted = make_drafts(alloc, choosing)?;
-    let made = spelled_driver(alloc, design, &spelling, drafted)?;
-    Ok(made)
+    let drafted = given!(make_drafts(alloc, choosing), spelling);
+    let made = spelled_driver(alloc, design, &spelling, drafted);
+    drop(spelling);
+    made
 }
 
 // Drafted blocks, and the game from which they were made.
@@ -322,12 +336,11 @@ fn spelled_driver(
     ensures trees { IfOk result (λ made. trees_of made.blocks
         ≡ map (draft_tree (design_tree design.now) spelling.now) drafted.made.items) }
 {
-    let list = spelled(alloc, design, spelling, &drafted.made)?;
+    let Drafted { game, made } = drafted;
+    let list = given!(spelled(alloc, design, spelling, &made), made, game);
+    drop(made);
     let blocks = fitting(design, list);
-    Ok(Driven {
-        game: drafted.game,
-        blocks,
-    })
+    Ok(Driven { game, blocks })
 }
 
 // Drafted blocks over all tests.
@@ -337,11 +350,16 @@ fn make_drafts(alloc: Global, mut choosing: Choosing) -> Result<Drafted, AllocEr
     ensures grows { IfOk result (λ drafted. Carried choosing.game drafted.game) }
     ensures later { IfOk result (λ drafted. (tests : ℕ) × AreLater tests drafted.made.items) }
 {
-    let made = drafted_blocks(alloc, &mut choosing)?;
-    Ok(Drafted {
-        game: choosing.game,
-        made,
-    })
+    let made = given!(drafted_blocks(alloc, &mut choosing), choosing);
+    let game = game_of(choosing);
+    Ok(Drafted { game, made })
+}
+
+// The game from which blocks were made.
+fn game_of(choosing: Choosing) -> Game
+    ensures { result ≡ choosing.game }
+{
+    choosing.game
 }
 
 // Drafted blocks over all tests, or one that idles where there is no goal or 32 bits do not number tests and goals.

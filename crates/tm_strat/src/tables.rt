@@ -103,16 +103,21 @@ fn push_first(
         tests.new.predicates.items tests.new.holds.items) }
     ensures few { IfOk result (λ first. StayFew tests.old.predicates.items tests.new.predicates.items) }
 {
-    let care = all_care(game, goods)?;
+    let care = given!(all_care(game, goods));
     let mut told = Told {
         care,
         seen: IndexSet::new(alloc),
     };
-    let firsts = predicates(alloc, game, design, counts)?;
-    push_read(alloc, game, design, counts, &firsts, &mut told, tests)?;
+    let firsts = given!(predicates(alloc, game, design, counts), told);
+    let pushed = push_read(alloc, game, design, counts, &firsts, &mut told, tests);
+    drop(firsts);
+    given!(pushed, told);
     let first = tests.holds.len();
-    let lows = low_predicates(alloc, design)?;
-    push_read(alloc, game, design, counts, &lows, &mut told, tests)?;
+    let lows = given!(low_predicates(alloc, design), told);
+    let pushed = push_read(alloc, game, design, counts, &lows, &mut told, tests);
+    drop(lows);
+    drop(told);
+    given!(pushed);
     Ok(first)
 }
 

@@ -46,15 +46,13 @@ pub fn driver_cert(
 {
     let mut kept = IndexSet::new(alloc);
     let mut nodes = Vec::new(alloc);
-    let region = place(game, &mut kept, &mut nodes, iterates.region)?;
-    let goals = place_goals(
-        alloc,
-        game,
-        &mut kept,
-        &mut nodes,
-        iterates.ranks.as_slice(),
-    )?;
-    let order = order_of(alloc, game)?;
+    let region = place(game, &mut kept, &mut nodes, iterates.region);
+    let region = given!(region, nodes, kept);
+    let ranks = iterates.ranks.as_slice();
+    let goals = place_goals(alloc, game, &mut kept, &mut nodes, ranks);
+    drop(kept);
+    let goals = given!(goals, nodes);
+    let order = given!(order_of(alloc, game), goals, nodes);
     Ok(DriverCert {
         order,
         nodes,

@@ -45,14 +45,11 @@ pub fn environment_cert(
 {
     let mut kept = IndexSet::new(alloc);
     let mut nodes = Vec::new(alloc);
-    let levels = place_levels(
-        alloc,
-        game,
-        &mut kept,
-        &mut nodes,
-        iterates.levels.as_slice(),
-    )?;
-    let order = order_of(alloc, game)?;
+    let levels = iterates.levels.as_slice();
+    let levels = place_levels(alloc, game, &mut kept, &mut nodes, levels);
+    drop(kept);
+    let levels = given!(levels, nodes);
+    let order = given!(order_of(alloc, game), levels, nodes);
     Ok(EnvCert {
         order,
         nodes,

@@ -117,8 +117,8 @@ fn choice(alloc: Global, truth: Truth, first: Draft, second: Draft) -> Result<Dr
     ensures { IfOk result (λ draft.
         draft_tree draft ≡ choose (truth_tree truth) (draft_tree first) (draft_tree second)) }
 {
-    let first = Box::new(alloc, first)?;
-    let second = Box::new(alloc, second)?;
+    let first = boxed!(alloc, first, second, truth);
+    let second = boxed!(alloc, second, first, truth);
     Ok(Draft::If(truth, first, second))
 }
 

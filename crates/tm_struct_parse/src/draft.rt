@@ -43,8 +43,9 @@ pub fn structured(alloc: Global, draft: ProgramDraft) -> Result<Structured, Allo
         (program_tree program).functions ≡ map action_of (draft_program draft).functions) }
     ensures main { IfOk result (λ program. (program_tree program).main ≡ (draft_program draft).main) }
 {
-    let functions = trees(alloc, draft.functions)?;
-    let main = tree(alloc, draft.main)?;
+    let ProgramDraft { functions, main } = draft;
+    let functions = read!(trees(alloc, functions), main);
+    let main = read!(tree(alloc, main), functions);
     Ok(Structured { functions, main })
 }
 
@@ -68,8 +69,8 @@ fn tree(alloc: Global, draft: Draft) -> Result<Tree, AllocError>
 {
     match draft {
         Draft::If(truth, first, second) => {
-            let first = tree(alloc, Box::into_inner(first))?;
-            let second = tree(alloc, Box::into_inner(second))?;
+            let first = read!(tree(alloc, Box::into_inner(first)), second, truth);
+            let second = read!(tree(alloc, Box::into_inner(second)), first, truth);
             test(alloc, truth, first, second)
         }
         Draft::Call(task, args) => Ok(Tree::Call(task, args)),
@@ -84,7 +85,7 @@ fn test(alloc: Global, truth: Truth, first: Tree, second: Tree) -> Result<Tree, 
     ensures { IfOk result (λ tree.
         action_tree tree ≡ choose (truth_tree truth) (action_tree first) (action_tree second)) }
 {
-    let first = Box::new(alloc, first)?;
-    let second = Box::new(alloc, second)?;
+    let first = boxed!(alloc, first, second, truth);
+    let second = boxed!(alloc, second, first, truth);
     Ok(Tree::If(truth, first, second))
 }

@@ -16,6 +16,22 @@ macro_rules! read {
     };
 }
 
+/// A value in its box; where memory is wanting, the function says so, and drops the trees that it holds.
+///
+/// `?` would take the trees apart in place, which costs the proof ten times as much.
+macro_rules! boxed {
+    ($alloc:expr, $value:expr $(, $held:ident)*) => {
+        match Box::new($alloc, $value) {
+            Ok(boxed) => boxed,
+            Err(failed) => {
+                drop(failed);
+                $(drop($held);)*
+                return Err(AllocError);
+            }
+        }
+    };
+}
+
 mod action;
 mod bad;
 mod draft;

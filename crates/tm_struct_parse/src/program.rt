@@ -26,8 +26,14 @@ pub fn program(alloc: Global, spots: &[Spot]) -> Result<ProgramDraft, NoProgram>
     ensures refused { IfErr result (IsNoProgram (tokens_of spots.now)) }
 {
     match program_in_front(alloc, spots) {
-        Ok((draft, rest)) if rest.is_empty() => Ok(draft),
-        Ok((_, rest)) => Err(NoProgram::At(spots.len() - rest.len())),
+        Ok((draft, rest)) => {
+            if rest.is_empty() {
+                Ok(draft)
+            } else {
+                drop(draft);
+                Err(NoProgram::At(spots.len() - rest.len()))
+            }
+        }
         Err(Stop::Unexpected(rest)) => Err(NoProgram::At(spots.len() - rest.len())),
         Err(Stop::Memory) => Err(NoProgram::Memory),
     }

@@ -87,8 +87,15 @@ fn program_behind(
     let scan = tokens_of(alloc, design, body, line)?;
     let draft = read!(drafted(alloc, &scan), scan);
     match first_fault(design, scan.spots.as_slice()) {
-        Some(fault) => bad(fault),
-        None => Ok(structured(alloc, draft)?),
+        Some(fault) => {
+            drop(draft);
+            drop(scan);
+            bad(fault)
+        }
+        None => {
+            drop(scan);
+            Ok(structured(alloc, draft)?)
+        }
     }
 }
 
@@ -109,6 +116,7 @@ fn drafted(alloc: Global, scan: &Scan) -> Result<ProgramDraft, ReadStructuredErr
             if scan.is_whole {
                 Ok(draft)
             } else {
+                drop(draft);
                 Err(ReadStructuredError::Bad(BadStructured::Text(scan.line)))
             }
         }

@@ -108,5 +108,7 @@ pub fn check_driver<F: Files, O: Sink>(
         Ok(inputs) => inputs,
         Err(stop) => return stop.outcome(),
     };
-    judge(alloc, &inputs, out)
+    let ended = judge(alloc, &inputs, out);
+    drop(inputs);
+    ended
 }

@@ -133,5 +133,7 @@ pub fn check_environment<F: Files, O: Sink>(
         Ok(inputs) => inputs,
         Err(stop) => return stop.outcome(),
     };
-    judge(alloc, &inputs, out)
+    let ended = judge(alloc, &inputs, out);
+    drop(inputs);
+    ended
 }

@@ -98,5 +98,7 @@ pub fn run<F: Files, O: Sink>(
         Ok(inputs) => inputs,
         Err(stop) => return stop.outcome(),
     };
-    play_inputs(alloc, &inputs, out)
+    let ended = play_inputs(alloc, &inputs, out);
+    drop(inputs);
+    ended
 }

@@ -68,8 +68,11 @@ pub fn play_script<O: Sink>(
     ensures failed { IsErrOf result PlayError.Failed → Rose O.last_count (O.faults out.old) (O.faults out.new) }
     ensures no_fewer_faults { O.faults out.old ≤ O.faults out.new }
 {
-    let Ok(tables) = Tables::new(alloc, design) else {
-        return Err(PlayError::Memory);
+    let tables = match Tables::new(alloc, design) {
+        Ok(tables) => tables,
+        Err(_) => return Err(PlayError::Memory),
     };
-    play_by_tables(alloc, &tables, blocks, script, out)
+    let halted = play_by_tables(alloc, &tables, blocks, script, out);
+    drop(tables);
+    halted
 }

@@ -9,13 +9,13 @@ use Rattle.tm_syntax.specs.declared.design.Design.{Design}
 use Rattle.tm_syntax.specs.Design.View.{design_tree}
 use Rattle.tm_orders.proofs.fields.fields_of.Goals as goal
 
-pub fields_by-requires : goal.fields_by-requires
-fields_by-requires c =
-    subst IsRunnable (sym c.in_ok-tables.ensures) (record { sound = c.requires.sound; read = c.requires.of_text })
+pub fields_by-fields-requires : goal.fields_by-fields-requires
+fields_by-fields-requires c =
+    subst IsRunnable (sym c.in-Ok.ensures) (record { sound = c.requires.sound; read = c.requires.of_text })
 
 pub returns : goal.returns
 returns c =
-    IfOk-weaker c.fields_by.result _ _
-    (λ (all : Vec Field Global) are. subst (λ (k : Design). AreFields (design_tree k) all.items) c.in_ok-tables.ensures
+    IfOk-weaker c.fields_by-fields.result _ _
+    (λ (all : Vec Field Global) are. subst (λ (k : Design). AreFields (design_tree k) all.items) c.in-Ok.ensures
     are)
-    c.fields_by.ensures
+    c.fields_by-fields.ensures

@@ -1,3 +1,4 @@
+use Rattle.std.proofs.lemmas.Result.{IfOk-weaker}
 use Rattle.tm_cir.specs.Answer.{Answers}
 use Rattle.tm_cir.specs.View.{trees_of}
 use Rattle.tm_sem.specs.Certificates.{MeetsDriver}
@@ -11,16 +12,19 @@ prepare-requires-clause-sets c = all_known c.args.game c.args.iterates.now c.req
 
 pub returns-clause-grows : goal.returns-clause-grows
 returns-clause-grows c =
-    grown c.args.game c.in_ok-made.made.game
-    (λ base b. c.in_ok-made.ensures.grows base (c.prepare.ensures.grows base b))
+    IfOk-weaker c.build.result _ _
+    (λ made more. grown c.args.game made.game (λ base b. more base (c.prepare.ensures.grows base b)))
+    c.build.ensures.grows
 
 pub returns-clause-meets : goal.returns-clause-meets
 returns-clause-meets c =
-    λ regular can.
+    IfOk-weaker c.build.result _ _
+    (λ made meets regular can.
     driver_told (design_tree c.args.design.now) c.args.game c.prepare.new.game
     (c.tell.ensures (design_tree c.args.design.now) c.requires.of) c.prepare.ensures.grows regular can
     c.args.iterates.now c.requires.known c.turn-turn.result c.turn-turn.ensures.value
-    (c.turn-turn.ensures.states (design_tree c.args.design.now) c.requires.of) c.in_ok-prepared.prepared.spelling
-    c.in_ok-prepared.prepared.tests.holds.items c.in_ok-prepared.prepared.goals.items c.in_ok-prepared.ensures.made
-    (λ sets. MeetsDriver (design_tree c.args.design.now) (Answers (trees_of c.in_ok-made.made.blocks)) sets)
-    c.in_ok-made.ensures.meets
+    (c.turn-turn.ensures.states (design_tree c.args.design.now) c.requires.of) c.in-Ok.given.spelling
+    c.in-Ok.given.tests.holds.items c.in-Ok.given.goals.items c.in-Ok.ensures.made
+    (λ sets. MeetsDriver (design_tree c.args.design.now) (Answers (trees_of made.blocks)) sets)
+    meets)
+    c.build.ensures.meets

@@ -4,8 +4,8 @@ use Rattle.tm_strat.proofs.Testing.{sets_kept}
 use Rattle.tm_strat.proofs.tables.push_first.Goals as goal
 use Rattle.tm_syntax.specs.Design.View.{design_tree}
 
-pub push_read-requires : goal.push_read-requires
-push_read-requires c =
+pub push_read-pushed-requires : goal.push_read-pushed-requires
+push_read-pushed-requires c =
     let d = design_tree c.args.design.now in
     let to = grown c.args.game.now c.all_care.new.game c.all_care.ensures in
     record {
@@ -16,35 +16,38 @@ push_read-requires c =
           c.args.tests.now.predicates.items c.args.tests.now.holds.items c.requires.sets;
     }
 
-pub push_read-requires-2 : goal.push_read-requires-2
-push_read-requires-2 c =
+pub push_read-pushed-requires-2 : goal.push_read-pushed-requires-2
+push_read-pushed-requires-2 c =
     let d = design_tree c.args.design.now in
-    let to = grown c.args.game.now c.push_read.new.game
-    (λ base b. c.push_read.ensures.grows base (c.all_care.ensures base b)) in
+    let to = grown c.args.game.now c.push_read-pushed.new.game
+    (λ base b. c.push_read-pushed.ensures.grows base (c.all_care.ensures base b)) in
     record {
-      exact = kept_exact d c.args.game.now c.requires.exact c.push_read.new.game to;
-      sized = sized_stays c.args.game.now c.push_read.new.game
-          (λ base b. c.push_read.ensures.grows base (c.all_care.ensures base b)) c.requires.sized;
+      exact = kept_exact d c.args.game.now c.requires.exact c.push_read-pushed.new.game to;
+      sized = sized_stays c.args.game.now c.push_read-pushed.new.game
+          (λ base b. c.push_read-pushed.ensures.grows base (c.all_care.ensures base b)) c.requires.sized;
       counts = c.requires.counts;
-      sets = c.in_ok-push_read.ensures.sets;
+      sets = c.in-Ok-pushed.ensures.sets;
     }
 
 pub returns-clause-sets : goal.returns-clause-sets
-returns-clause-sets c = c.in_ok-push_read-2.ensures.sets
+returns-clause-sets c = c.in-Ok-pushed-2.ensures.sets
 
 pub returns-clause-few : goal.returns-clause-few
-returns-clause-few c = λ small. c.in_ok-push_read-2.ensures.few (c.in_ok-push_read.ensures.few small)
+returns-clause-few c = λ small. c.in-Ok-pushed-2.ensures.few (c.in-Ok-pushed.ensures.few small)
 
 pub returns-clause-grows : goal.returns-clause-grows
 returns-clause-grows c =
-    λ base b. c.push_read-2.ensures.grows base (c.push_read.ensures.grows base (c.all_care.ensures base b))
+    λ base b.
+    c.push_read-pushed-2.ensures.grows base (c.push_read-pushed.ensures.grows base (c.all_care.ensures base b))
 
-pub returns-in_err-push_read-clause-grows : goal.returns-in_err-push_read-clause-grows
-returns-in_err-push_read-clause-grows c = λ base b. c.push_read.ensures.grows base (c.all_care.ensures base b)
+pub returns-in-Err-pushed-clause-grows : goal.returns-in-Err-pushed-clause-grows
+returns-in-Err-pushed-clause-grows c = λ base b. c.push_read-pushed.ensures.grows base (c.all_care.ensures base b)
 
-pub returns-in_err-lows-clause-grows : goal.returns-in_err-lows-clause-grows
-returns-in_err-lows-clause-grows c = λ base b. c.push_read.ensures.grows base (c.all_care.ensures base b)
+pub returns-in-Err-low_predicates-clause-grows : goal.returns-in-Err-low_predicates-clause-grows
+returns-in-Err-low_predicates-clause-grows c =
+    λ base b. c.push_read-pushed.ensures.grows base (c.all_care.ensures base b)
 
-pub returns-in_err-push_read-2-clause-grows : goal.returns-in_err-push_read-2-clause-grows
-returns-in_err-push_read-2-clause-grows c =
-    λ base b. c.push_read-2.ensures.grows base (c.push_read.ensures.grows base (c.all_care.ensures base b))
+pub returns-in-Err-pushed-2-clause-grows : goal.returns-in-Err-pushed-2-clause-grows
+returns-in-Err-pushed-2-clause-grows c =
+    λ base b.
+    c.push_read-pushed-2.ensures.grows base (c.push_read-pushed.ensures.grows base (c.all_care.ensures base b))

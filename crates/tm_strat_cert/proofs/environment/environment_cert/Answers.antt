@@ -9,32 +9,32 @@ use Rattle.tm_strat_cert.proofs.Fits.{environment_fits}
 use Rattle.tm_strat_cert.proofs.Told.{levels_told}
 use Rattle.tm_strat_cert.proofs.environment.environment_cert.Goals as goal
 
-pub place_levels-requires-clause-known : goal.place_levels-requires-clause-known
-place_levels-requires-clause-known c =
-    subst (Each (KnowsLevel (exact_ids c.args.game.now))) (sym c.as_slice.ensures.value) c.requires.known.levels
+pub place_levels-levels-requires-clause-known : goal.place_levels-levels-requires-clause-known
+place_levels-levels-requires-clause-known c =
+    subst (Each (KnowsLevel (exact_ids c.args.game.now))) (sym c.as_slice-levels.ensures.value) c.requires.known.levels
 
-pub place_levels-requires-clause-numbered : goal.place_levels-requires-clause-numbered
-place_levels-requires-clause-numbered c =
+pub place_levels-levels-requires-clause-numbered : goal.place_levels-levels-requires-clause-numbered
+place_levels-levels-requires-clause-numbered c =
     numbered_none c.args.game.now.diagrams.table (length c.args.game.now.order) c.new-kept.result.keys
     c.new-nodes.result.items c.new-kept.ensures.empty c.new-nodes.ensures.items
 
 pub returns-clause-sets : goal.returns-clause-sets
 returns-clause-sets c d of =
-    levels_told c.args.game.now d of c.in_ok-order.ensures.reduced c.in_ok-order.ensures.rises
-    c.place_levels.new.kept.keys
-    c.place_levels.new.nodes.items c.in_ok-levels.ensures.numbered c.args.iterates.now c.in_ok-order.order.items
-    c.in_ok-levels.levels.items c.in_ok-order.ensures.order
-    (subst (λ (xs : List LevelSet). LevelsPlaced c.place_levels.new.kept.keys xs c.in_ok-levels.levels.items)
-    c.as_slice.ensures.value c.in_ok-levels.ensures.part)
+    levels_told c.args.game.now d of c.in-Ok-order_of.ensures.reduced c.in-Ok-order_of.ensures.rises
+    c.place_levels-levels.new.kept.keys
+    c.place_levels-levels.new.nodes.items c.in-Ok.ensures.numbered c.args.iterates.now c.in-Ok-order_of.given.items
+    c.in-Ok.given.items c.in-Ok-order_of.ensures.order
+    (subst (λ (xs : List LevelSet). LevelsPlaced c.place_levels-levels.new.kept.keys xs c.in-Ok.given.items)
+    c.as_slice-levels.ensures.value c.in-Ok.ensures.part)
 
 pub returns-clause-fits : goal.returns-clause-fits
 returns-clause-fits c d of shape =
-    environment_fits c.args.game.now d of c.in_ok-order.ensures.places c.in_ok-order.ensures.reduced
-    c.in_ok-order.ensures.rises
-    c.place_levels.new.kept.keys c.place_levels.new.nodes.items c.in_ok-levels.ensures.numbered
-    c.args.iterates.now c.in_ok-order.order.items c.in_ok-levels.levels.items c.in_ok-order.ensures.order
-    (subst (λ (xs : List LevelSet). LevelsPlaced c.place_levels.new.kept.keys xs c.in_ok-levels.levels.items)
-    c.as_slice.ensures.value c.in_ok-levels.ensures.part)
+    environment_fits c.args.game.now d of c.in-Ok-order_of.ensures.places c.in-Ok-order_of.ensures.reduced
+    c.in-Ok-order_of.ensures.rises
+    c.place_levels-levels.new.kept.keys c.place_levels-levels.new.nodes.items c.in-Ok.ensures.numbered
+    c.args.iterates.now c.in-Ok-order_of.given.items c.in-Ok.given.items c.in-Ok-order_of.ensures.order
+    (subst (λ (xs : List LevelSet). LevelsPlaced c.place_levels-levels.new.kept.keys xs c.in-Ok.given.items)
+    c.as_slice-levels.ensures.value c.in-Ok.ensures.part)
     shape
 
 pub returns-clause-meets : goal.returns-clause-meets

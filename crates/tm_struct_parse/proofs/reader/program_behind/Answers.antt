@@ -36,8 +36,8 @@ structured-requires-clause-main c =
     (search rules) c.in_ok-scan.ensures c.in-Ok.ensures.whole c.in-Ok.ensures.taken c.in-None.ensures
     c.requires.short)
 
-pub returns-clause-read : goal.returns-clause-read
-returns-clause-read c =
+pub returns-in_ok-structured-in-None-clause-read : goal.returns-in_ok-structured-in-None-clause-read
+returns-in_ok-structured-in-None-clause-read c =
     made_body (design_tree c.args.design.now) c.args.line c.args.body.now (draft_program c.in-Ok.read) _
     (named_body (design_tree c.args.design.now) c.args.line c.args.body.now c.in_ok-scan.scan.spots.items
     (draft_program c.in-Ok.read)

@@ -11,16 +11,16 @@ returns-in-Err-clause-obeys g c =
     (files_data g.F.Files c.load_driver.new.files) (sink_data g.O.Sink c.args.out.now) c.in-Err.stop c.outcome.result
     c.outcome.ensures c.load_driver.ensures.files c.in-Err.ensures.stopped
 
-pub judge-requires : goal.judge-requires
-judge-requires g c = c.in-Ok.ensures.read.can
+pub judge-ended-requires : goal.judge-ended-requires
+judge-ended-requires g c = c.in-Ok.ensures.read.can
 
 pub returns-clause-obeys : goal.returns-clause-obeys
 returns-clause-obeys g c =
     checked_obeys c.args.spec.now c.args.driver.now c.args.cert.now (files_data g.F.Files c.args.files.now)
     (files_data g.F.Files c.load_driver.new.files) (sink_data g.O.Sink c.args.out.now)
-    (sink_data g.O.Sink c.judge.new.out) (design_tree c.in-Ok.inputs.design) (trees_of c.in-Ok.inputs.blocks)
-    c.in-Ok.inputs.cert c.load_driver.ensures.files c.in-Ok.ensures.read c.judge.ensures.no_fewer_faults
-    c.judge.result c.judge.ensures.judged c.judge.ensures.cut c.judge.ensures.failure
+    (sink_data g.O.Sink c.judge-ended.new.out) (design_tree c.in-Ok.inputs.design) (trees_of c.in-Ok.inputs.blocks)
+    c.in-Ok.inputs.cert c.load_driver.ensures.files c.in-Ok.ensures.read c.judge-ended.ensures.no_fewer_faults
+    c.judge-ended.result c.judge-ended.ensures.judged c.judge-ended.ensures.cut c.judge-ended.ensures.failure
 
 pub returns-in-Err-clause-counts : goal.returns-in-Err-clause-counts
 returns-in-Err-clause-counts g c = c.load_driver.ensures.counts

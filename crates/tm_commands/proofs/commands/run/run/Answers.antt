@@ -15,10 +15,11 @@ pub returns-clause-obeys : goal.returns-clause-obeys
 returns-clause-obeys g c =
     played_obeys c.args.spec.now c.args.driver.now c.args.choices.now (files_data g.F.Files c.args.files.now)
     (files_data g.F.Files c.load.new.files) (sink_data g.O.Sink c.args.out.now)
-    (sink_data g.O.Sink c.play_inputs.new.out) (design_tree c.in-Ok.inputs.design)
-    (trees_of c.in-Ok.inputs.blocks) c.in-Ok.inputs.script c.play_inputs.result c.load.ensures.files
-    c.in-Ok.ensures.told c.play_inputs.ensures.ended c.play_inputs.ensures.cut c.play_inputs.ensures.failure
-    c.play_inputs.ensures.no_fewer_faults
+    (sink_data g.O.Sink c.play_inputs-ended.new.out) (design_tree c.in-Ok.inputs.design)
+    (trees_of c.in-Ok.inputs.blocks) c.in-Ok.inputs.script c.play_inputs-ended.result c.load.ensures.files
+    c.in-Ok.ensures.told c.play_inputs-ended.ensures.ended c.play_inputs-ended.ensures.cut
+    c.play_inputs-ended.ensures.failure
+    c.play_inputs-ended.ensures.no_fewer_faults
 
 pub returns-in-Err-clause-counts : goal.returns-in-Err-clause-counts
 returns-in-Err-clause-counts g c = c.load.ensures.counts

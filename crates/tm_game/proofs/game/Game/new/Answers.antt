@@ -22,22 +22,22 @@ with_order-requires-clause-design c = c.requires
 
 pub with_order-requires-clause-order : goal.with_order-requires-clause-order
 with_order-requires-clause-order c =
-    subst (λ (n : ℕ). IsOrder n c.in_ok-order.order.items)
+    subst (λ (n : ℕ). IsOrder n c.in-Ok.given.items)
     (c.state_bits-count.ensures ∙ ap (λ (ws : List ℕ). sum (take (length ws - 128) ws)) c.deref.ensures.value)
-    c.in_ok-order.ensures.order
+    c.in-Ok.ensures.order
 
 pub returns-clause-order : goal.returns-clause-order
 returns-clause-order c =
-    c.in_ok-game.ensures.order
-    ∙ c.in_ok-order.ensures.places
+    c.in-Ok-with_order.ensures.order
+    ∙ c.in-Ok.ensures.places
     ∙ ap (range_with_len 0)
     (c.state_bits-count.ensures ∙ ap (λ (ws : List ℕ). sum (take (length ws - 128) ws)) c.deref.ensures.value)
 
 pub returns-clause-goals : goal.returns-clause-goals
-returns-clause-goals c = c.in_ok-game.ensures.goals
+returns-clause-goals c = c.in-Ok-with_order.ensures.goals
 
 pub returns-clause-fairs : goal.returns-clause-fairs
-returns-clause-fairs c = c.in_ok-game.ensures.fairs
+returns-clause-fairs c = c.in-Ok-with_order.ensures.fairs
 
 pub returns-clause-of : goal.returns-clause-of
-returns-clause-of c = c.in_ok-game.ensures.of
+returns-clause-of c = c.in-Ok-with_order.ensures.of
