@@ -21,5 +21,5 @@ loop-item-preserved c = λ d over idle.
 pub returns : goal.returns
 returns c = λ d over idle.
     listed-all d (tables_of c.args.walk.now) (tables_of c.loop-item.walk) (named_atoms d (claims_of c.args.sort))
-    c.args.items.now c.loop-item.item-index (flat_map (named_atoms d (claims_of c.args.sort)) c.args.items.now) (omega arith)
-    (c.loop-item.invariant d over idle)
+    c.args.items.now c.loop-item.item-index (flat_map (named_atoms d (claims_of c.args.sort)) c.args.items.now)
+    (omega arith) (c.loop-item.invariant d over idle)
